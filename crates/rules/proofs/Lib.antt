@@ -1,0 +1,2 @@
+-- Theorems over the definitions alone.
+pub mod Thirteen

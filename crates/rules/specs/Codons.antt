@@ -1,0 +1,86 @@
+-- "Letters and codons": the residue of a codon of three letter sets, in each of the three tables.
+use Prim.Native.Nat.{ℕ, zero, suc, _+_, _*_, _/_, _%_}
+use Prim.Native.Char.{Char, code}
+use Prim.Native.String.{String}
+use mathlib.Core.Bool.{Bool, true, false}
+use mathlib.Core.List.{List, [], _∷_, _++_}
+use lib.Dec.{eqb, leb}
+use lib.ListN.{getD, set}
+use Rattle.rules.specs.Bytes.{bytes}
+use Rattle.rules.specs.Letters.{pick, valueOf, letterSet}
+
+-- first base slowest, order T, C, A, G: a base's number
+abbrev pub order : List (ℕ × ℕ)
+order = (code "T", 0) ∷ (code "C", 1) ∷ (code "A", 2) ∷ (code "G", 3) ∷ []
+
+-- where a plain codon stands among the 64, behind the bases that make n
+abbrev pub placeFrom : ℕ → List ℕ → ℕ
+placeFrom n [] = n
+placeFrom n (b ∷ bs) = placeFrom (n * 4 + valueOf b order) bs
+
+-- a code with one codon read as another residue
+abbrev pub reading : String → Char → List ℕ → List ℕ
+reading codon r residues = set residues (placeFrom 0 (bytes codon)) (code r)
+
+-- NCBI's code 1
+abbrev pub standard : List ℕ
+standard = bytes "FFLLSSSSYY**CC*WLLLLPPPPHHQQRRRRIIIMTTTTNNKKSSRRVVVVAAAADDEEGGGG"
+
+-- table 1 is table 0 with TGA read as U; table 2 reads TGA as W, ATA as M, AGA and AGG as `*`
+abbrev pub geneticCode : ℕ → List ℕ
+geneticCode zero = standard
+geneticCode (suc zero) = reading "TGA" "U" standard
+geneticCode (suc (suc zero)) = reading "TGA" "W" (reading "ATA" "M" (reading "AGA" "*" (reading "AGG" "*" standard)))
+geneticCode (suc (suc (suc t))) = []
+
+unfoldable pub isTable : ℕ → Bool
+isTable table = leb table 2
+
+-- the residue X
+abbrev pub unknown : ℕ
+unknown = code "X"
+
+-- the residue of a plain codon, its bases by their numbers
+abbrev pub plainCodon : ℕ → ℕ → ℕ → ℕ → ℕ
+plainCodon t i j k = getD (geneticCode t) (i * 16 + j * 4 + k) unknown
+
+-- what a base adds to a set, by the base's number
+abbrev pub bitOf : ℕ → ℕ
+bitOf i = getD (8 ∷ 2 ∷ 1 ∷ 4 ∷ []) i 0
+
+-- a base before others, where its bit is 1
+abbrev pub withBase : ℕ → ℕ → List ℕ → List ℕ
+withBase zero i is = is
+withBase (suc b) i is = i ∷ is
+
+-- the bases of a set, by their numbers
+abbrev pub basesOf : ℕ → List ℕ
+basesOf s =
+    withBase (s / bitOf 0 % 2) 0 (withBase (s / bitOf 1 % 2) 1 (withBase (s / bitOf 2 % 2) 2 (withBase (s / bitOf 3 % 2) 3 [])))
+
+-- what f gives for each base, in a row
+abbrev pub forEach : List ℕ → (ℕ → List ℕ) → List ℕ
+forEach [] f = []
+forEach (i ∷ is) f = f i ++ forEach is f
+
+-- a codon with ambiguous letters is expanded one letter at a time: the residues of all its plain codons
+abbrev pub residues : ℕ → ℕ → ℕ → ℕ → List ℕ
+residues t a b c =
+    forEach (basesOf a) λ i. forEach (basesOf b) λ j. forEach (basesOf c) λ k. plainCodon t i j k ∷ []
+
+abbrev pub allAre : ℕ → List ℕ → Bool
+allAre r [] = true
+allAre r (x ∷ xs) = elim (eqb x r) [ true ↦ allAre r xs | false ↦ false ]
+
+-- if all plain codons give one residue that is the answer, else X
+abbrev pub agreed : List ℕ → ℕ
+agreed [] = unknown
+agreed (r ∷ rs) = pick (allAre r rs) r unknown
+
+-- the residue of three letter sets
+unfoldable pub codonRule : ℕ → ℕ → ℕ → ℕ → ℕ
+codonRule t a b c = agreed (residues t a b c)
+
+-- the residue of three letters
+unfoldable pub codon : ℕ → ℕ → ℕ → ℕ → ℕ
+codon t a b c = codonRule t (letterSet a) (letterSet b) (letterSet c)

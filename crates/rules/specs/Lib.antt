@@ -1,0 +1,23 @@
+-- The definitions of document 01, a file for each of its parts and in its order, each over those above it.
+pub mod Bytes
+pub mod Letters
+pub mod Codons
+pub mod Translation
+pub mod Names
+pub mod Complement
+pub mod Trims
+pub mod Reference
+pub mod Position
+pub mod Edit
+pub mod Altered
+pub mod Exceptions
+pub mod Protein
+pub mod Record
+pub mod Refusal
+pub mod Answer
+pub mod Values
+pub mod Stored
+pub mod Number
+pub mod Line
+pub mod Run
+pub mod Opened

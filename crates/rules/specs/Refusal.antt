@@ -1,0 +1,48 @@
+-- "Refusal numbers": the lowest is given, but for orders named.
+use Prim.Native.Nat.{ℕ, zero, suc, _+_, _-_}
+use mathlib.Core.List.{List, [], _∷_, _++_}
+use mathlib.Core.Bool.{Bool, true, false, _||_}
+use lib.Dec.{ltb}
+use Rattle.rules.specs.declared.Record.{Record}
+use Rattle.rules.specs.Bytes.{Test, _↯_, firstOf, Result, unless}
+use Rattle.rules.specs.Translation.{residueCount}
+use Rattle.rules.specs.Reference.{Reference, referenceTests, cdsSize}
+use Rattle.rules.specs.Edit.{Asked, editTests}
+use Rattle.rules.specs.Altered.{alteredLength}
+use Rattle.rules.specs.Record.{recordOf}
+
+-- the longest transcript, and the most new bases
+pub record Limits : Type 0 where
+  pub longest : ℕ
+  pub most : ℕ
+
+abbrev pub limits : Limits
+limits = record { longest = 16384; most = 4096 }
+
+-- 1 to 6, and 0 where none applies
+unfoldable pub referenceRefusal : ℕ → Reference → ℕ
+referenceRefusal longest r = firstOf (referenceTests longest r)
+
+-- 1 to 10, and 0 where none applies
+unfoldable pub refusal : Limits → Reference → Asked → ℕ
+refusal m r e = firstOf (referenceTests (m .longest) r ++ editTests (m .most) r e)
+
+-- the bytes lent for the altered transcript, R and A
+pub record Room : Type 0 where
+  pub transcript : ℕ
+  pub reference : ℕ
+  pub altered : ℕ
+
+-- 11: transcript buffer shorter than the altered length; 12: a protein buffer shorter than CDS/3 or ceil((altered length-cs+1)/3)
+unfoldable pub roomTests : Reference → Asked → Room → List Test
+roomTests r e m =
+    ltb (m .transcript) (alteredLength r e) ↯ 11
+    ∷ (ltb (m .reference) (residueCount (cdsSize r)) || ltb (m .altered) (residueCount (alteredLength r e + 1 - r .cs))) ↯ 12
+    ∷ []
+
+unfoldable pub roomRefusal : Reference → Asked → Room → ℕ
+roomRefusal r e m = firstOf (roomTests r e m)
+
+-- the record, where every buffer has room
+unfoldable pub recordUnless : Limits → Reference → Asked → Result Record
+recordUnless m r e = unless (refusal m r e) (recordOf r e)

@@ -1,0 +1,107 @@
+-- "Stored reference": fields of a one-byte tag, a two-byte length (high byte first) and the content.
+use Prim.Native.Nat.{ℕ, zero, suc, _+_, _*_, _%_}
+use mathlib.Core.List.{List, [], _∷_}
+use mathlib.Core.Bool.{Bool, true, false, _&&_, _||_, not}
+use mathlib.Core.Option.{Option, none, some}
+use lib.Dec.{eqb, leb, ltb}
+use lib.ListN.{length, take, drop, getD}
+use Rattle.rules.specs.declared.Exception.{Exception}
+use Rattle.rules.specs.Bytes.{if_then_else_, Result, given, refused, unless}
+use Rattle.rules.specs.Reference.{Reference}
+use Rattle.rules.specs.Refusal.{referenceRefusal}
+
+-- a number of two bytes, high byte first
+unfoldable pub two : ℕ → ℕ → ℕ
+two high low = 256 * high + low
+
+-- what the bytes begin with: nothing, a field cut off, or a whole field and the bytes behind it
+pub data Field : Type 0 where
+  ended : Field
+  cut : ℕ → Field
+  whole : ℕ → List ℕ → List ℕ → Field
+
+unfoldable pub field : List ℕ → Field
+field [] = ended
+field (tag ∷ []) = cut tag
+field (tag ∷ high ∷ []) = cut tag
+field (tag ∷ high ∷ low ∷ s) =
+    if leb (two high low) (length s) then whole tag (take (two high low) s) (drop (two high low) s) else cut tag
+
+-- 21: tag unknown, repeated or not rising; `last` is the tag before it
+unfoldable pub isWrongTag : ℕ → ℕ → Bool
+isWrongTag last tag = not (ltb last tag) || ltb 4 tag
+
+-- 23: field length wrong for its tag: 1 letters; 2 bounds, two bytes each; 3 table, one byte; 4 exceptions, three bytes each
+unfoldable pub isWrongLength : ℕ → ℕ → Bool
+isWrongLength tag n =
+    (eqb tag 2 && not (eqb n 4)) || (eqb tag 3 && not (eqb n 1)) || (eqb tag 4 && not (eqb (n % 3) 0))
+
+pub record Tagged : Type 0 where
+  pub tag : ℕ
+  pub content : List ℕ
+
+unfoldable pub withField : ℕ → List ℕ → Result (List Tagged) → Result (List Tagged)
+withField tag content (given fs) = given (record { tag = tag; content = content } ∷ fs)
+withField tag content (refused n) = refused n
+
+-- in one field 21 before 20 before 23; `more` is what the bytes behind it give
+unfoldable pub met : ℕ → Field → (ℕ → List ℕ → Result (List Tagged)) → Result (List Tagged)
+met last ended more = given []
+met last (cut tag) more = refused (if isWrongTag last tag then 21 else 20)
+met last (whole tag content rest) more =
+    if isWrongTag last tag then refused 21
+    else if isWrongLength tag (length content) then refused 23
+    else withField tag content (more tag rest)
+
+-- 20, 21 and 23 are met in field order; `fuel` is at least the number of fields
+unfoldable pub fieldsFrom : ℕ → ℕ → List ℕ → Result (List Tagged)
+fieldsFrom zero last s = given []
+fieldsFrom (suc fuel) last s = met last (field s) (λ tag rest. fieldsFrom fuel tag rest)
+
+unfoldable pub fields : List ℕ → Result (List Tagged)
+fields s = fieldsFrom (length s) 0 s
+
+-- the content of the field with a tag
+unfoldable pub contentOf : ℕ → List Tagged → Option (List ℕ)
+contentOf t [] = none
+contentOf t (f ∷ fs) = if eqb (f .tag) t then some (f .content) else contentOf t fs
+
+-- codon, two bytes; residue
+unfoldable pub exceptionsIn : List ℕ → List Exception
+exceptionsIn [] = []
+exceptionsIn (a ∷ []) = []
+exceptionsIn (a ∷ b ∷ []) = []
+exceptionsIn (a ∷ b ∷ r ∷ s) = record { codon = two a b; residue = r } ∷ exceptionsIn s
+
+-- tag 4 may be absent
+abbrev pub orEmpty : Option (List ℕ) → List ℕ
+orEmpty none = []
+orEmpty (some s) = s
+
+-- 22: tag 1, 2 or 3 missing
+unfoldable pub assembled : Option (List ℕ) → Option (List ℕ) → Option (List ℕ) → List ℕ → Result Reference
+assembled none bounds table exceptions = refused 22
+assembled (some letters) none table exceptions = refused 22
+assembled (some letters) (some bounds) none exceptions = refused 22
+assembled (some letters) (some bounds) (some table) exceptions =
+    given (record {
+      letters = letters;
+      cs = two (getD bounds 0 0) (getD bounds 1 0);
+      ce = two (getD bounds 2 0) (getD bounds 3 0);
+      table = getD table 0 0;
+      exceptions = exceptionsIn exceptions;
+    })
+
+-- then 1 to 6
+unfoldable pub checked : ℕ → Result Reference → Result Reference
+checked longest (refused n) = refused n
+checked longest (given r) = unless (referenceRefusal longest r) r
+
+unfoldable pub storedIn : ℕ → Result (List Tagged) → Result Reference
+storedIn longest (refused n) = refused n
+storedIn longest (given fs) =
+    checked longest (assembled (contentOf 1 fs) (contentOf 2 fs) (contentOf 3 fs) (orEmpty (contentOf 4 fs)))
+
+-- the reference that bytes store, or the one refusal; `longest` is refusal 1's limit
+unfoldable pub storedReference : ℕ → List ℕ → Result Reference
+storedReference longest s = storedIn longest (fields s)

@@ -1,0 +1,94 @@
+// The plain types that references, edits and answers are made of. The definitions of document 01 over them stand in specs/.
+
+// What an edit does. `Other` is any kind but the seven.
+pub enum Kind {
+    Substitution,
+    Deletion,
+    Delins,
+    Insertion,
+    Duplication,
+    Inversion,
+    Identity,
+    Other,
+}
+
+// `7` is Plus(7), `-2` is Minus(2), `*3` is Star(3).
+pub enum Position {
+    Plus(usize),
+    Minus(usize),
+    Star(usize),
+}
+
+// An edit without its new bases, which are lent beside it.
+pub struct Edit {
+    pub kind: Kind,
+    pub start: Position,
+    pub end: Position,
+}
+
+// A codon's number, from 1, and the residue that replaces the table's there.
+pub struct Exception {
+    pub codon: usize,
+    pub residue: u8,
+}
+
+// The first `count` of `all`.
+pub struct Exceptions {
+    pub all: [Exception; 16],
+    pub count: usize,
+}
+
+// What a function that fills one lent buffer answers: a refusal's number, or the bytes that it wrote from the buffer's start.
+pub enum Written {
+    Refused(usize),
+    Bytes(usize),
+}
+
+pub enum Class {
+    StartLost,
+    Extension,
+    StopGained,
+    Frameshift,
+    Substitution,
+    Deletion,
+    Duplication,
+    Insertion,
+    Delins,
+}
+
+// `len` residues of a protein, behind the first `at`.
+pub struct Part {
+    pub at: usize,
+    pub len: usize,
+}
+
+// `deleted` is a part of R, `inserted` a part of A. `first` is the first residue that a duplication copies, and 0 in every other class.
+pub struct Change {
+    pub class: Class,
+    pub number: usize,
+    pub deleted: Part,
+    pub inserted: Part,
+    pub first: usize,
+}
+
+pub enum Record {
+    Unknown,
+    NoProtein,
+    Silent { number: usize, residue: u8 },
+    Changed(Change),
+}
+
+// A record, the frameshift flag, and the bytes written to each of the three buffers.
+pub struct Report {
+    pub found: Record,
+    pub frameshift: bool,
+    pub transcript: usize,
+    pub reference: usize,
+    pub altered: usize,
+}
+
+// What an edit of a reference is answered: a refusal's number, or a report.
+pub enum Answer {
+    Refused(usize),
+    Reported(Report),
+}
