@@ -1,2 +1,4 @@
--- Theorems over the definitions alone.
+-- Laws of the definitions, and the theorems over them alone.
+pub mod Over
+pub mod Trims
 pub mod Thirteen

@@ -1,0 +1,44 @@
+-- Laws of `over`: what a buffer holds once lists are written to its front, one behind the other.
+-- Assumes nothing.
+use mathlib.Core.Path.{_≡_, refl, sym, ap, subst, _∙_}
+use mathlib.Core.List.{List, [], _∷_, _++_, reverse, append-assoc, append-nil}
+use Prim.Native.Nat.{ℕ, _+_, _-_, _≤_}
+use native.Mathlib.Omega.{arith}
+use lib.ListN.{length, take, drop, length-append, length-take, length-drop, drop-of-length-le}
+use lib.Seq.{length-take-le, take-length, drop-length, take-all, take-at, drop-at, drop-drop, take-append-seam, drop-append-seam, take-append-le, drop-append-le}
+use borrow.Rule.Slice.PartMut.{putMid}
+use Rattle.rules.specs.Bytes.{over}
+
+pub copied : (s d : List ℕ) → take (length s) s ++ drop (length s) d ≡ over s d
+unfolding over
+copied s d = rw take-length
+
+pub length-over : (p d : List ℕ) → length p ≤ length d → length (over p d) ≡ length d
+unfolding over
+length-over p d h = simp (length-append, length-drop) (omega arith)
+
+pub over-append : (p q d : List ℕ) → over (p ++ q) d ≡ p ++ over q (drop (length p) d)
+unfolding over
+over-append p q d = simp (append-assoc, length-append, drop-drop)
+
+-- p is at the front of the buffer, and the part behind it is lent on, for q
+pub lent-on : (p q d : List ℕ) (n : ℕ) → n ≡ length p → length p ≤ length d → putMid n (length (over p d) - n) (over p d) (over q (take (length (over p d) - n) (drop n (over p d)))) ≡ over (p ++ q) d
+unfolding over
+lent-on p q d n e h =
+    let k = length (over p d) - n in
+    let at : drop n (over p d) ≡ drop (length p) d = drop-at p (drop (length p) d) n (sym e) in
+    let all : take k (drop n (over p d)) ≡ drop (length p) d = take-all k (drop n (over p d)) (rw length-drop (omega arith)) ∙ at in
+    let none : drop k (drop n (over p d)) ≡ [] = drop-of-length-le (drop n (over p d)) {i = k} (rw length-drop (omega arith)) in
+    simp (take-at p (drop (length p) d) n (sym e), all, none, append-nil) (sym (over-append p q d))
+
+-- the same, of the lists that two calls leave
+pub lent-on-by : (p q d d₁ d₂ : List ℕ) (n : ℕ) → n ≡ length p → length p ≤ length d → d₁ ≡ over p d → d₂ ≡ over q (take (length d₁ - n) (drop n d₁)) → putMid n (length d₁ - n) d₁ d₂ ≡ over (p ++ q) d
+lent-on-by p q d d₁ d₂ n e h e₁ e₂ = rw (e₂, e₁) (lent-on p q d n e h)
+
+-- a part from a place to the end
+pub tail-is : (a : ℕ) (s : List ℕ) → take (length s - a) (drop a s) ≡ drop a s
+tail-is a s = take-all (length s - a) (drop a s) (rw length-drop (omega arith))
+
+-- what `bytes::copy` of s leaves, where s is known as p
+pub copied-as : (s p d e : List ℕ) → s ≡ p → e ≡ take (length s) s ++ drop (length s) d → e ≡ over p d
+copied-as s p d e q h = h ∙ copied s d ∙ ap (λ (l : List ℕ). over l d) q

@@ -1,0 +1,149 @@
+-- Laws of the common beginning and the common ending of two lists.
+-- Assumes nothing.
+use mathlib.Core.Path.{_≡_, refl, sym, ap, subst, _∙_}
+use mathlib.Core.Bool.{Bool, true, false}
+use mathlib.Core.List.{List, [], _∷_, _++_, reverse, append-assoc, append-nil, reverse-append, reverse-reverse}
+use Prim.Native.Nat.{ℕ, zero, suc, _+_, _-_, _≤_, _<_, min, zero-le, suc-le-suc}
+use native.Mathlib.Numerals.{add-one}
+use native.Mathlib.Nat.{le-refl, suc-add, sub-zero, zero-add}
+use native.Mathlib.Omega.{arith}
+use lib.Dec.{eqb}
+use lib.ListN.{length, take, drop, getD, length-append, length-take, length-drop, length-reverse, take-append-drop, drop-of-length-le}
+use lib.Seq.{take-length, take-suc, drop-cons, length-take-le, take-append-seam, take-at}
+use borrow.Author.Tests.{eq-eqb, ne-eqb, eqb-true}
+use Rattle.rules.specs.Bytes.{if_then_else_}
+use Rattle.rules.specs.Trims.{commonPrefix, commonSuffix}
+
+pub cp-same : (x y : ℕ) (a b : List ℕ) → x ≡ y → commonPrefix (x ∷ a) (y ∷ b) ≡ suc (commonPrefix a b)
+unfolding commonPrefix
+cp-same x y a b e = rw (eq-eqb x y e)
+
+pub cp-differ : (x y : ℕ) (a b : List ℕ) → (x ≡ y → ⊥) → commonPrefix (x ∷ a) (y ∷ b) ≡ zero
+unfolding commonPrefix
+cp-differ x y a b e = rw (ne-eqb x y e)
+
+pub cp-nil-l : (b : List ℕ) → commonPrefix [] b ≡ zero
+unfolding commonPrefix
+cp-nil-l b = refl
+
+pub cp-nil-r : (a : List ℕ) → commonPrefix a [] ≡ zero
+unfolding commonPrefix
+cp-nil-r [] = refl
+cp-nil-r (x ∷ a) = refl
+
+-- it is at most either's length, and so much of them is equal
+pub cp-le-l : (a b : List ℕ) → commonPrefix a b ≤ length a
+unfolding commonPrefix
+cp-le-l [] b = zero-le
+cp-le-l (x ∷ a) [] = zero-le
+cp-le-l (x ∷ a) (y ∷ b) = at (eqb x y) (cp-le-l a b)
+  where
+    at : (t : Bool) → commonPrefix a b ≤ length a → (if t then suc (commonPrefix a b) else 0) ≤ suc (length a)
+    at true k = suc-le-suc k
+    at false k = zero-le
+
+pub cp-le-r : (a b : List ℕ) → commonPrefix a b ≤ length b
+unfolding commonPrefix
+cp-le-r [] b = zero-le
+cp-le-r (x ∷ a) [] = zero-le
+cp-le-r (x ∷ a) (y ∷ b) = at (eqb x y) (cp-le-r a b)
+  where
+    at : (t : Bool) → commonPrefix a b ≤ length b → (if t then suc (commonPrefix a b) else 0) ≤ suc (length b)
+    at true k = suc-le-suc k
+    at false k = zero-le
+
+pub cp-take : (n : ℕ) (a b : List ℕ) → n ≤ commonPrefix a b → take n a ≡ take n b
+unfolding commonPrefix
+cp-take zero a b h = refl
+cp-take (suc n) [] b h = absurd (omega arith)
+cp-take (suc n) (x ∷ a) [] h = absurd (omega arith)
+cp-take (suc n) (x ∷ a) (y ∷ b) h = at (eqb x y) refl h (cp-take n a b)
+  where
+    at : (t : Bool) → eqb x y ≡ t → suc n ≤ (if t then suc (commonPrefix a b) else 0) → (n ≤ commonPrefix a b → take n a ≡ take n b) → x ∷ take n a ≡ y ∷ take n b
+    at true e k r = let p : take n a ≡ take n b = r (omega arith) in let q : x ≡ y = eqb-true x y e in cc
+    at false e k r = absurd (omega arith)
+
+-- none is longer: a shared beginning p counts whole
+pub cp-append : (p a b : List ℕ) → commonPrefix (p ++ a) (p ++ b) ≡ length p + commonPrefix a b
+cp-append [] a b = omega arith
+cp-append (x ∷ p) a b = cp-same x x (p ++ a) (p ++ b) refl ∙ ap suc (cp-append p a b) ∙ sym (suc-add (length p) (commonPrefix a b))
+
+-- one step of a loop that goes from the front
+module _ (a b : List ℕ) (i : ℕ) where
+  pub cp-more : i < length a → i < length b → getD a i 0 ≡ getD b i 0 → commonPrefix (drop i a) (drop i b) ≡ suc (commonPrefix (drop (suc i) a) (drop (suc i) b))
+  cp-more h k e = rw (drop-cons a i 0 h, drop-cons b i 0 k) (cp-same _ _ _ _ e)
+
+  pub cp-stop : i < length a → i < length b → (getD a i 0 ≡ getD b i 0 → ⊥) → commonPrefix (drop i a) (drop i b) ≡ zero
+  cp-stop h k e = rw (drop-cons a i 0 h, drop-cons b i 0 k) (cp-differ _ _ _ _ e)
+
+  pub cp-end-l : length a ≤ i → commonPrefix (drop i a) (drop i b) ≡ zero
+  cp-end-l h = rw (drop-of-length-le a {i = i} h) (cp-nil-l (drop i b))
+
+  pub cp-end-r : length b ≤ i → commonPrefix (drop i a) (drop i b) ≡ zero
+  cp-end-r h = rw (drop-of-length-le b {i = i} h) (cp-nil-r (drop i a))
+
+-- one step of a loop that goes from the end
+reverse-take : (a : List ℕ) (m : ℕ) → m < length a → reverse (take (suc m) a) ≡ getD a m 0 ∷ reverse (take m a)
+reverse-take a m h = rw (take-suc a m 0 h, reverse-append)
+
+module _ (a b : List ℕ) (m n : ℕ) (h : m < length a) (k : n < length b) where
+  pub cs-more : getD a m 0 ≡ getD b n 0 → commonSuffix (take (suc m) a) (take (suc n) b) ≡ suc (commonSuffix (take m a) (take n b))
+  unfolding commonSuffix
+  cs-more e = rw (reverse-take a m h, reverse-take b n k) (cp-same _ _ _ _ e)
+
+  pub cs-stop : (getD a m 0 ≡ getD b n 0 → ⊥) → commonSuffix (take (suc m) a) (take (suc n) b) ≡ zero
+  unfolding commonSuffix
+  cs-stop e = rw (reverse-take a m h, reverse-take b n k) (cp-differ _ _ _ _ e)
+
+-- the same, with the elements counted from the end
+pub cs-none : (a b : List ℕ) → commonSuffix a b ≡ 0 + commonSuffix (take (length a - 0) a) (take (length b - 0) b)
+cs-none a b = simp (sub-zero, zero-add, take-length)
+
+down : (n i : ℕ) → i < n → n - i ≡ suc (n - 1 - i)
+down n i h = omega arith
+
+down-one : (n i : ℕ) → n - (i + 1) ≡ n - 1 - i
+down-one n i = omega arith
+
+below : (n i : ℕ) → i < n → n - 1 - i < n
+below n i h = omega arith
+
+module _ (a b : List ℕ) (i : ℕ) (h : i < length a) (k : i < length b) where
+  pub cs-more-at : getD a (length a - 1 - i) 0 ≡ getD b (length b - 1 - i) 0 → commonSuffix (take (length a - i) a) (take (length b - i) b) ≡ suc (commonSuffix (take (length a - (i + 1)) a) (take (length b - (i + 1)) b))
+  cs-more-at e =
+      rw (down (length a) i h, down (length b) i k, down-one (length a) i, down-one (length b) i)
+      (cs-more a b (length a - 1 - i) (length b - 1 - i) (below (length a) i h) (below (length b) i k) e)
+
+  pub cs-stop-at : (getD a (length a - 1 - i) 0 ≡ getD b (length b - 1 - i) 0 → ⊥) → commonSuffix (take (length a - i) a) (take (length b - i) b) ≡ zero
+  cs-stop-at e =
+      rw (down (length a) i h, down (length b) i k)
+      (cs-stop a b (length a - 1 - i) (length b - 1 - i) (below (length a) i h) (below (length b) i k) e)
+
+-- the shared ending is at most either's length, and so much of them is equal
+pub cs-le-l : (a b : List ℕ) → commonSuffix a b ≤ length a
+unfolding commonSuffix
+cs-le-l a b = omega (arith, cp-le-l (reverse a) (reverse b), length-reverse a)
+
+pub cs-le-r : (a b : List ℕ) → commonSuffix a b ≤ length b
+unfolding commonSuffix
+cs-le-r a b = omega (arith, cp-le-r (reverse a) (reverse b), length-reverse b)
+
+take-reverse : (n : ℕ) (a : List ℕ) → n ≤ length a → take n (reverse a) ≡ reverse (drop (length a - n) a)
+take-reverse n a h =
+    let m = length a - n in
+    let split : reverse a ≡ reverse (drop m a) ++ reverse (take m a) = ap reverse (sym (take-append-drop m a)) ∙ reverse-append (take m a) (drop m a) in
+    let long : length (reverse (drop m a)) ≡ n = simp (length-reverse, length-drop) (omega arith) in
+    rw split (take-at (reverse (drop m a)) (reverse (take m a)) n long)
+
+pub cs-drop : (n : ℕ) (a b : List ℕ) → n ≤ commonSuffix a b → drop (length a - n) a ≡ drop (length b - n) b
+unfolding commonSuffix
+cs-drop n a b h =
+    let ha : n ≤ length a = omega (arith, cs-le-l a b) in
+    let hb : n ≤ length b = omega (arith, cs-le-r a b) in
+    let e : reverse (drop (length a - n) a) ≡ reverse (drop (length b - n) b) = sym (take-reverse n a ha) ∙ cp-take n (reverse a) (reverse b) h ∙ take-reverse n b hb in
+    sym (reverse-reverse (drop (length a - n) a)) ∙ ap reverse e ∙ reverse-reverse (drop (length b - n) b)
+
+-- none is longer: a shared ending p counts whole
+pub cs-append : (p a b : List ℕ) → commonSuffix (a ++ p) (b ++ p) ≡ length p + commonSuffix a b
+unfolding commonSuffix
+cs-append p a b = simp (reverse-append, cp-append, length-reverse)
