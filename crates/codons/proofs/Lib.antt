@@ -1,0 +1,2 @@
+-- Laws of the tables, which the functions' proofs and the crates above cite.
+pub mod Listed
