@@ -1,14 +1,20 @@
 -- What a table of residues and a table of letter sets hold. Assumes nothing: these are definitions.
 use Prim.Native.Nat.{ℕ, _+_, _*_, _<_}
 use mathlib.Core.List.{List, [], _∷_}
+use mathlib.Core.Bool.{Bool}
 use mathlib.Core.Path.{_≡_}
+use lib.Dec.{ltb}
 use lib.ListN.{getD}
-use Rattle.rules.specs.Letters.{letterSet, plainLetter}
+use Rattle.rules.specs.Letters.{valueOf, bases, letterSet, plainLetter}
 use Rattle.rules.specs.Codons.{codonRule}
 
 -- the set of a byte in plain translation, and the empty set of a byte that it refuses
 unfoldable pub plainSet : ℕ → ℕ
 plainSet b = letterSet (plainLetter b)
+
+-- plain translation takes the byte for one base
+unfoldable pub isBase : ℕ → Bool
+isBase b = ltb 0 (valueOf (plainLetter b) bases)
 
 -- the set that a reading of letters gives each byte stands at the byte, and is below 16
 pub record HoldsSets (read : ℕ → ℕ) (xs : List ℕ) : Type 0 where
