@@ -1,0 +1,3 @@
+-- Laws of letters and tables, which the functions' proofs and the crates above cite.
+pub mod Listed
+pub mod Sets
