@@ -1,4 +1,6 @@
 -- Laws of the definitions, and the theorems over them alone.
 pub mod Over
 pub mod Trims
+pub mod Records
+pub mod Demand
 pub mod Thirteen
