@@ -1,6 +1,9 @@
 -- Laws of the definitions, and the theorems over them alone.
 pub mod Over
 pub mod Trims
+pub mod Tests
+pub mod Translation
+pub mod Complement
 pub mod Records
 pub mod Demand
 pub mod Thirteen
