@@ -4,6 +4,9 @@ pub mod Trims
 pub mod Tests
 pub mod Translation
 pub mod Complement
+pub mod Reference
+pub mod Refusal
+pub mod Span
 pub mod Records
 pub mod Demand
 pub mod Thirteen

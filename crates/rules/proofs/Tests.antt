@@ -29,6 +29,10 @@ pub or-right : (a b : Bool) → (a || b) ≡ false → b ≡ false
 or-right true b h = cc
 or-right false b h = h
 
+pub and-implies : (a b : Bool) → (a && b) ≡ false → a ≡ true → b ≡ false
+and-implies true b h k = h
+and-implies false b h k = cc
+
 -- none of the tests before another holds
 pub first-clear : (b : Bool) (n : ℕ) (ts : List Test) → firstOf (b ↯ suc n ∷ ts) ≡ 0 → (b ≡ false) × (firstOf ts ≡ 0)
 unfolding firstOf
