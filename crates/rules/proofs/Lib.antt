@@ -7,6 +7,9 @@ pub mod Complement
 pub mod Reference
 pub mod Refusal
 pub mod Span
+pub mod Altered
 pub mod Records
 pub mod Demand
+pub mod Protein
+pub mod Answers
 pub mod Thirteen
