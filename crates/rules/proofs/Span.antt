@@ -17,8 +17,8 @@ use Rattle.rules.specs.Edit.{Asked, kindOf, startPlace, endPlace, startI
 use Rattle.rules.specs.Altered.{swapBy, swap}
 use Rattle.rules.specs.Refusal.{Limits, refusal}
 use Rattle.rules.proofs.Tests.{or-left, or-right}
-use Rattle.rules.proofs.Reference.{Bounds, accepted}
-use Rattle.rules.proofs.Refusal.{Allowed, allowed, none-refused}
+use Rattle.rules.proofs.Reference.{Bounds}
+use Rattle.rules.proofs.Refusal.{Allowed, reference-accepted, edit-allowed}
 
 never : false ≡ true → ⊥
 never h = let z : _≡_ {A = ℕ} 0 1 = cc in omega arith
@@ -149,6 +149,4 @@ span-of most r e b a =
     }
 
 pub span : (m : Limits) (r : Reference) (e : Asked) → refusal m r e ≡ 0 → Span r e
-span m r e h =
-    let none = none-refused m r e h in
-    span-of (m .most) r e (accepted (m .longest) r (none .0) .bounds) (allowed (m .most) r e (none .1))
+span m r e h = span-of (m .most) r e (reference-accepted m r e h .bounds) (edit-allowed m r e h)
