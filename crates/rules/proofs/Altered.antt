@@ -119,14 +119,14 @@ pub record AlteredLength (r : Reference) (e : Asked) : Type 0 where
   pub parts : alteredLength r e ≡ swap r e .from + (length (kept r e) + (size r - swap r e .to))
   pub front : r .cs - 1 ≤ alteredLength r e
 
-length-of : (r : Reference) (e : Asked) → Span r e → AlteredLength r e
+pub length-of : (r : Reference) (e : Asked) → Span (r .cs - 1) (size r) (swap r e) → AlteredLength r e
 unfolding alteredTranscript alteredLength cutSwap cutOff deleted size
 length-of r e s =
-    let parts = rule (size r) (swap r e .from) (swap r e .to) (inserted r e) (length (kept r e)) (s .swap-rising) (s .swap-ends) (length-kept r e) in
+    let parts = rule (size r) (swap r e .from) (swap r e .to) (inserted r e) (length (kept r e)) (s .rising) (s .ends) (length-kept r e) in
     record {
-      is = length-carried (cutSwap r e) (r .letters) (s .swap-rising) (s .swap-ends) ∙ sym parts;
+      is = length-carried (cutSwap r e) (r .letters) (s .rising) (s .ends) ∙ sym parts;
       parts = parts;
-      front = omega (arith, parts, s .swap-front);
+      front = omega (arith, parts, s .front);
     }
 
 pub altered-length : (m : Limits) (r : Reference) (e : Asked) → refusal m r e ≡ 0 → AlteredLength r e
@@ -142,7 +142,7 @@ altered-fits m r e h =
     let fits = reference-accepted m r e h .fits in
     let s = span m r e h in
     let most = puts m r e h .fits in
-    omega (arith, fits, most, length-kept r e, altered-length m r e h .parts, s .swap-rising, s .swap-ends)
+    omega (arith, fits, most, length-kept r e, altered-length m r e h .parts, s .rising, s .ends)
 
 pub altered-letters : (m : Limits) (r : Reference) (e : Asked) → refusal m r e ≡ 0 → all isLetter (alteredTranscript r e) ≡ true
 unfolding alteredTranscript cutSwap
