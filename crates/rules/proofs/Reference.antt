@@ -8,7 +8,7 @@ use native.Mathlib.Omega.{arith}
 use lib.Dec.{eqb, leb, ltb}
 use lib.ListN.{length, drop, getD, length-drop}
 use lib.Seq.{length-take-le}
-use borrow.Author.Tests.{leb-true, ltb-true, eqb-true, not-false}
+use borrow.Author.Tests.{leb-true, ltb-true, eqb-true, not-false, lt-ltb, le-leb}
 use Rattle.rules.specs.declared.Exception.{Exception}
 use Rattle.rules.specs.Bytes.{byte, all}
 use Rattle.rules.specs.Letters.{isLetter}
@@ -135,6 +135,10 @@ rising-cons last most e es h =
       },
       and-right (above && inside && residue) rest h,
     )
+
+pub rising-of : (last most : ℕ) (e : Exception) (es : List Exception) → Excepts last most e → areRising (e .codon) most es ≡ true → areRising last most (e ∷ es) ≡ true
+unfolding areRising
+rising-of last most e es x h = rw (lt-ltb last (e .codon) (x .above), le-leb (e .codon) most (x .inside), x .residue) h
 
 -- any of them
 pub rising-at : (last most : ℕ) (es : List Exception) (i : ℕ) → areRising last most es ≡ true → i < length es → Excepts last most (getD es i noException)
