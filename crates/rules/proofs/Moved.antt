@@ -31,7 +31,7 @@ module _ (prefix first : ℕ) (old new : List ℕ) (e : Exception) (rest : List 
   pub moved-cases : (inPrefix prefix (codonIndex first (e .codon)) ≡ true → P (e ∷ rest))
       → (inPrefix prefix (codonIndex first (e .codon)) ≡ false → inSuffix prefix (codonIndex first (e .codon)) old new ≡ true
       → inFrame first (shifted (codonIndex first (e .codon)) old new) ≡ true → P (movedTo first old new e ∷ rest))
-      → P rest → P (movedOne prefix first old new e rest)
+      → P rest → P (movedOne prefix first old new e ++ rest)
   unfolding movedOne
   moved-cases stays moves dropped = by (inPrefix prefix at) (behind && lands) refl refl
     where
@@ -44,7 +44,7 @@ module _ (prefix first : ℕ) (old new : List ℕ) (e : Exception) (rest : List 
       lands : Bool
       lands = inFrame first (shifted at old new)
 
-      by : (s t : Bool) → inPrefix prefix at ≡ s → (behind && lands) ≡ t → P (if s then e ∷ rest else if t then movedTo first old new e ∷ rest else rest)
+      by : (s t : Bool) → inPrefix prefix at ≡ s → (behind && lands) ≡ t → P ((if s then e ∷ [] else if t then movedTo first old new e ∷ [] else []) ++ rest)
       by true t p q = stays p
       by false true p q = moves p (and-left behind lands q) (and-right behind lands q)
       by false false p q = dropped
