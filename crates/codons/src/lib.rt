@@ -2,4 +2,5 @@
 //
 // A table is loaded once, by the function that returns it, and lent from there: a constant that is indexed in a loop is laid out anew at each use.
 pub mod letters;
+pub mod reader;
 pub mod tables;
