@@ -8,7 +8,7 @@ use lib.Dec.{T, lit<, eqb}
 use lib.ListN.{getD}
 use borrow.Author.Tests.{ne-eqb}
 use Rattle.rules.specs.Letters.{pick}
-use Rattle.rules.specs.Codons.{unknown, geneticCode, plainCodon, withBase, basesOf, forEach, residues, allAre, agreed, codonRule}
+use Rattle.rules.specs.Codons.{residueX, geneticCode, plainCodon, withBase, basesOf, forEach, residues, allAre, agreed, codonRule}
 use Rattle.codons.specs.Expansion.{expanded, joinedAll}
 
 each-same : (is : List ℕ) (f g : ℕ → List ℕ) → ((i : ℕ) → f i ≡ g i) → forEach is f ≡ forEach is g
@@ -19,7 +19,7 @@ expanded-all : (t a b c : ℕ) → expanded 3 t (a ∷ b ∷ c ∷ []) 0 ≡ res
 unfolding expanded
 expanded-all t a b c =
     each-same (basesOf a) _ _ λ i. each-same (basesOf b) _ _ λ j. each-same (basesOf c) _ _ λ k.
-    ap (λ (place : ℕ). getD (geneticCode t) place unknown ∷ []) (omega arith)
+    ap (λ (place : ℕ). getD (geneticCode t) place residueX ∷ []) (omega arith)
 
 -- a set that is not empty has a base
 abbrev Some : List ℕ → Type 0
@@ -60,9 +60,9 @@ positive-at (suc x ∷ xs) zero d t h = omega arith
 positive-at (suc x ∷ xs) (suc k) d t h = positive-at xs k d t h
 
 plain-positive : (t i j k : ℕ) → 0 < plainCodon t i j k
-plain-positive zero i j k = positive-at (geneticCode 0) (i * 16 + j * 4 + k) unknown tt (lit< tt)
-plain-positive (suc zero) i j k = positive-at (geneticCode 1) (i * 16 + j * 4 + k) unknown tt (lit< tt)
-plain-positive (suc (suc zero)) i j k = positive-at (geneticCode 2) (i * 16 + j * 4 + k) unknown tt (lit< tt)
+plain-positive zero i j k = positive-at (geneticCode 0) (i * 16 + j * 4 + k) residueX tt (lit< tt)
+plain-positive (suc zero) i j k = positive-at (geneticCode 1) (i * 16 + j * 4 + k) residueX tt (lit< tt)
+plain-positive (suc (suc zero)) i j k = positive-at (geneticCode 2) (i * 16 + j * 4 + k) residueX tt (lit< tt)
 plain-positive (suc (suc (suc t))) i j k = lit< tt
 
 -- joining a row of residues is what they agree on
@@ -70,17 +70,17 @@ pick-same : (b : Bool) (x : ℕ) → pick b x x ≡ x
 pick-same true x = refl
 pick-same false x = refl
 
-stays-unknown : (xs : List ℕ) → joinedAll unknown xs ≡ unknown
+stays-X : (xs : List ℕ) → joinedAll residueX xs ≡ residueX
 unfolding joinedAll
-stays-unknown [] = refl
-stays-unknown (x ∷ xs) = rw (pick-same (allAre unknown (x ∷ [])) unknown) (stays-unknown xs)
+stays-X [] = refl
+stays-X (x ∷ xs) = rw (pick-same (allAre residueX (x ∷ [])) residueX) (stays-X xs)
 
-joined-case : (r : ℕ) (xs : List ℕ) → joinedAll r xs ≡ pick (allAre r xs) r unknown → (b : Bool)
-    → joinedAll (pick (elim b [ true ↦ true | false ↦ false ]) r unknown) xs ≡ pick (elim b [ true ↦ allAre r xs | false ↦ false ]) r unknown
+joined-case : (r : ℕ) (xs : List ℕ) → joinedAll r xs ≡ pick (allAre r xs) r residueX → (b : Bool)
+    → joinedAll (pick (elim b [ true ↦ true | false ↦ false ]) r residueX) xs ≡ pick (elim b [ true ↦ allAre r xs | false ↦ false ]) r residueX
 joined-case r xs same true = same
-joined-case r xs same false = stays-unknown xs
+joined-case r xs same false = stays-X xs
 
-joined-from : (r : ℕ) (xs : List ℕ) → 0 < r → joinedAll r xs ≡ pick (allAre r xs) r unknown
+joined-from : (r : ℕ) (xs : List ℕ) → 0 < r → joinedAll r xs ≡ pick (allAre r xs) r residueX
 unfolding joinedAll
 joined-from r [] h = refl
 joined-from r (x ∷ xs) h = rw (ne-eqb r 0 (λ e. omega arith)) (joined-case r xs (joined-from r xs h) (eqb x r))

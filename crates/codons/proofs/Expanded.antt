@@ -10,7 +10,7 @@ use lib.Dec.{eqb}
 use lib.ListN.{length, getD}
 use borrow.Author.Tests.{eq-eqb, ne-eqb}
 use Rattle.rules.specs.Letters.{pick}
-use Rattle.rules.specs.Codons.{unknown, geneticCode, bitOf, withBase, forEach}
+use Rattle.rules.specs.Codons.{residueX, geneticCode, bitOf, withBase, forEach}
 use Rattle.codons.specs.Expansion.{codonCount, expanded, joined, joinedAll}
 
 -- within a list it does not matter what stands past its end
@@ -20,24 +20,24 @@ any-default (x ∷ xs) zero d e h = refl
 any-default (x ∷ xs) (suc k) d e h = any-default xs k d e (le-of-suc-le-suc h)
 
 -- a code's entry, for whichever code
-pub code-at : (t table place : ℕ) → table ≡ t → place < length (geneticCode t) → getD (geneticCode t) place 0 ≡ getD (geneticCode table) place unknown
-code-at t table place is h = rw is (any-default (geneticCode t) place 0 unknown h)
+pub code-at : (t table place : ℕ) → table ≡ t → place < length (geneticCode t) → getD (geneticCode t) place 0 ≡ getD (geneticCode table) place residueX
+code-at t table place is h = rw is (any-default (geneticCode t) place 0 residueX h)
 
 -- a first residue; the same again; another
 pub joined-first : (found x : ℕ) → found ≡ 0 → x ≡ joined found x
 joined-first found x e = rw (eq-eqb found 0 e)
 
-joined-case : (b : Bool) (found x : ℕ) → pick b found unknown ≡ pick (elim b [ true ↦ true | false ↦ false ]) found unknown
+joined-case : (b : Bool) (found x : ℕ) → pick b found residueX ≡ pick (elim b [ true ↦ true | false ↦ false ]) found residueX
 joined-case true found x = refl
 joined-case false found x = refl
 
-joined-next : (found x : ℕ) → (found ≡ 0 → ⊥) → pick (eqb x found) found unknown ≡ joined found x
+joined-next : (found x : ℕ) → (found ≡ 0 → ⊥) → pick (eqb x found) found residueX ≡ joined found x
 joined-next found x n = rw (ne-eqb found 0 n) (joined-case (eqb x found) found x)
 
 pub joined-again : (found x : ℕ) → (found ≡ 0 → ⊥) → x ≡ found → found ≡ joined found x
 joined-again found x n e = rw (eq-eqb x found e) at (joined-next found x n)
 
-pub joined-other : (found x : ℕ) → (found ≡ 0 → ⊥) → (x ≡ found → ⊥) → unknown ≡ joined found x
+pub joined-other : (found x : ℕ) → (found ≡ 0 → ⊥) → (x ≡ found → ⊥) → residueX ≡ joined found x
 joined-other found x n d = rw (ne-eqb x found d) at (joined-next found x n)
 
 -- the bases of a set from the number i on, n numbers
@@ -91,7 +91,7 @@ place-next (suc (suc (suc (suc m)))) place base h n p hb = omega arith
 
 -- no letter is left
 pub expanded-none : (left t place : ℕ) (sets : List ℕ) (found : ℕ) → left ≡ 0
-    → joinedAll found (expanded left t sets place) ≡ joined found (getD (geneticCode t) place unknown)
+    → joinedAll found (expanded left t sets place) ≡ joined found (getD (geneticCode t) place residueX)
 unfolding expanded joinedAll
 expanded-none left t place sets found e = rw e
 

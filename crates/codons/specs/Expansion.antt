@@ -4,7 +4,7 @@ use mathlib.Core.List.{List, [], _∷_}
 use lib.Dec.{eqb}
 use lib.ListN.{getD}
 use Rattle.rules.specs.Letters.{pick}
-use Rattle.rules.specs.Codons.{unknown, geneticCode, basesOf, forEach, agreed}
+use Rattle.rules.specs.Codons.{residueX, geneticCode, basesOf, forEach, agreed}
 
 -- how many plain codons so many letters make
 abbrev pub codonCount : ℕ → ℕ
@@ -13,7 +13,7 @@ codonCount (suc n) = codonCount n * 4
 
 -- the residues of a codon whose last letters, so many as are left, are expanded behind the bases that make the place
 unfoldable pub expanded : ℕ → ℕ → List ℕ → ℕ → List ℕ
-expanded zero t sets place = getD (geneticCode t) place unknown ∷ []
+expanded zero t sets place = getD (geneticCode t) place residueX ∷ []
 expanded (suc n) t sets place = forEach (basesOf (getD sets (2 - n) 0)) λ i. expanded n t sets (place * 4 + i)
 
 -- a residue beside the one found so far; 0 is none yet

@@ -2,7 +2,7 @@
 ghost use mathlib.Core.Path.{_≡_};
 ghost use Prim.Native.Nat.{_-_, _<_, _≤_};
 ghost use lib.ListN.{getD};
-ghost use Rattle.rules.specs.Codons.{geneticCode, unknown, codonRule};
+ghost use Rattle.rules.specs.Codons.{geneticCode, residueX, codonRule};
 ghost use Rattle.codons.specs.Expansion.{codonCount, expanded, joined, joinedAll};
 
 // What a base adds to a set, in the order T, C, A, G.
@@ -20,7 +20,7 @@ const MITOCHONDRIAL: [u8; 64] =
 // The residue of the plain codon at a place among the 64.
 fn plain_residue(table: usize, place: usize) -> u8
     requires { ⌜ (table < 3) × (place < 64) ⌝ }
-    ensures { λ r. ⌜ r ≡ getD (geneticCode table) place unknown ⌝ }
+    ensures { λ r. ⌜ r ≡ getD (geneticCode table) place residueX ⌝ }
 {
     match table {
         0 => STANDARD[place],
