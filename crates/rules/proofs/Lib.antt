@@ -1,4 +1,16 @@
 -- Laws of the definitions, and the theorems over them alone.
 pub mod Over
 pub mod Trims
+pub mod Tests
+pub mod Translation
+pub mod Complement
+pub mod Reference
+pub mod Refusal
+pub mod Span
+pub mod Moved
+pub mod Altered
+pub mod Records
+pub mod Demand
+pub mod Protein
+pub mod Answers
 pub mod Thirteen
