@@ -21,12 +21,12 @@ defined = set()
 shut = set()
 for name in sorted(os.listdir(SPECS)):
     module = name.removesuffix(".antt")
-    if module in ("Lib", "Opened"):
+    if module == "Lib":
         continue
     body = text(f"{SPECS}/{name}")
     for mark, what in re.findall(r"^(unfoldable|abbrev) pub (\S+)(?: \{\S+\})? :", body, re.M):
         defined.add(f"{module}.{what}")
-        if mark == "unfoldable":
+        if mark == "unfoldable" and what != "opened":
             shut.add(what)
     defined |= {f"{module}.{what}" for what in re.findall(r"^pub (?:record|data) (\S+)", body, re.M)}
 

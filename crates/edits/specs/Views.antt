@@ -1,5 +1,5 @@
 -- The code's parameters as the definitions' reference and edit, and what is known of a reference that was checked.
-use Prim.Native.Nat.{ℕ, _+_, _<_, _≤_}
+use Prim.Native.Nat.{ℕ, _%_, _<_, _≤_}
 use mathlib.Core.Path.{_≡_}
 use mathlib.Core.List.{List, []}
 use mathlib.Core.Bool.{Bool, true}
@@ -7,7 +7,7 @@ use lib.ListN.{length}
 use Rattle.rules.specs.declared.Edit.{Edit}
 use Rattle.rules.specs.Bytes.{all}
 use Rattle.rules.specs.Letters.{isLetter}
-use Rattle.rules.specs.Reference.{Reference}
+use Rattle.rules.specs.Reference.{Reference, cdsSize}
 use Rattle.rules.specs.Edit.{Asked}
 use Rattle.edits.specs.declared.Cds.{Cds}
 
@@ -29,6 +29,8 @@ pub record Sound (s : List ℕ) (c : Cds) : Type 0 where
   pub first : 1 ≤ c .cs
   pub ordered : c .cs ≤ c .ce
   pub last : c .ce ≤ length s
+  pub whole : cdsSize (bare s c) % 3 ≡ 0
+  pub long : 6 ≤ cdsSize (bare s c)
   pub short : length s < 4294967296
   pub table : c .table < 3
   pub letters : all isLetter s ≡ true

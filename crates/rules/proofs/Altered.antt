@@ -1,10 +1,9 @@
 -- The altered transcript of an edit that isn't refused: its length and its letters.
 -- Assumes nothing.
-use mathlib.Core.Path.{_≡_, refl, sym, ap, subst, _∙_}
+use mathlib.Core.Path.{_≡_, refl, sym, ap, _∙_}
 use mathlib.Core.Bool.{Bool, true, false, _&&_}
 use mathlib.Core.List.{List, [], _∷_, _++_}
-use Prim.Native.Nat.{ℕ, zero, suc, _+_, _-_, _*_, _≤_, _<_, min, max, zero-le}
-use native.Mathlib.Nat.{le-refl}
+use Prim.Native.Nat.{ℕ, zero, suc, _+_, _-_, _*_, _≤_, max, zero-le}
 use native.Mathlib.Omega.{arith}
 use lib.Dec.{leb}
 use lib.ListN.{length, take, drop, length-append, length-take, length-drop}
@@ -22,8 +21,7 @@ use Rattle.rules.specs.Altered.{part, Swap, carried, swapBy, swap, frame
 use Rattle.rules.specs.Refusal.{Limits, refusal}
 use Rattle.rules.proofs.Tests.{and-left, and-right, all-take, all-drop, all-both}
 use Rattle.rules.proofs.Complement.{length-complement, letters-complement}
-use Rattle.rules.proofs.Reference.{accepted}
-use Rattle.rules.proofs.Refusal.{allowed, none-refused}
+use Rattle.rules.proofs.Refusal.{reference-accepted, edit-allowed}
 use Rattle.rules.proofs.Span.{Span, span}
 
 length-part : (from to : ℕ) (s : List ℕ) → length (part from to s) ≤ length s
@@ -77,9 +75,8 @@ puts-by Other most s start end new n l h = copied most start end s l
 pub puts : (m : Limits) (r : Reference) (e : Asked) → refusal m r e ≡ 0 → Puts (m .most) (r .letters) (swap r e .put)
 unfolding swap size
 puts m r e h =
-    let none = none-refused m r e h in
-    let a = accepted (m .longest) r (none .0) in
-    puts-by (kindOf e) (m .most) (r .letters) (startIndex r e) (endIndex r e) (e .new) (a .some) (a .letters) (allowed (m .most) r e (none .1) .bases)
+    let a = reference-accepted m r e h in
+    puts-by (kindOf e) (m .most) (r .letters) (startIndex r e) (endIndex r e) (e .new) (a .some) (a .letters) (edit-allowed m r e h .bases)
 
 take-again : (n : ℕ) (s : List ℕ) → take n s ≡ take (length (take n s)) s
 take-again zero s = refl
@@ -122,29 +119,32 @@ pub record AlteredLength (r : Reference) (e : Asked) : Type 0 where
   pub parts : alteredLength r e ≡ swap r e .from + (length (kept r e) + (size r - swap r e .to))
   pub front : r .cs - 1 ≤ alteredLength r e
 
-length-of : (r : Reference) (e : Asked) → Span r e → AlteredLength r e
+pub length-of : (r : Reference) (e : Asked) → Span (r .cs - 1) (size r) (swap r e) → AlteredLength r e
 unfolding alteredTranscript alteredLength cutSwap cutOff deleted size
 length-of r e s =
-    let parts = rule (size r) (swap r e .from) (swap r e .to) (inserted r e) (length (kept r e)) (s .swap-rising) (s .swap-ends) (length-kept r e) in
+    let parts = rule (size r) (swap r e .from) (swap r e .to) (inserted r e) (length (kept r e)) (s .rising) (s .ends) (length-kept r e) in
     record {
-      is = length-carried (cutSwap r e) (r .letters) (s .swap-rising) (s .swap-ends) ∙ sym parts;
+      is = length-carried (cutSwap r e) (r .letters) (s .rising) (s .ends) ∙ sym parts;
       parts = parts;
-      front = omega (arith, parts, s .swap-front);
+      front = omega (arith, parts, s .front);
     }
 
 pub altered-length : (m : Limits) (r : Reference) (e : Asked) → refusal m r e ≡ 0 → AlteredLength r e
 altered-length m r e h = length-of r e (span m r e h)
 
--- so much room is always enough
-pub altered-fits : (m : Limits) (r : Reference) (e : Asked) → refusal m r e ≡ 0 → alteredLength r e ≤ m .longest + max (m .most) (m .longest)
+-- no altered transcript is longer
+abbrev pub longestAltered : Limits → ℕ
+longestAltered m = m .longest + max (m .most) (m .longest)
+
+pub altered-fits : (m : Limits) (r : Reference) (e : Asked) → refusal m r e ≡ 0 → alteredLength r e ≤ longestAltered m
 unfolding inserted size
 altered-fits m r e h =
-    let fits = accepted (m .longest) r (none-refused m r e h .0) .fits in
+    let fits = reference-accepted m r e h .fits in
     let s = span m r e h in
     let most = puts m r e h .fits in
-    omega (arith, fits, most, length-kept r e, altered-length m r e h .parts, s .swap-rising, s .swap-ends)
+    omega (arith, fits, most, length-kept r e, altered-length m r e h .parts, s .rising, s .ends)
 
 pub altered-letters : (m : Limits) (r : Reference) (e : Asked) → refusal m r e ≡ 0 → all isLetter (alteredTranscript r e) ≡ true
 unfolding alteredTranscript cutSwap
 altered-letters m r e h =
-    letters-carried (cutSwap r e) (r .letters) (accepted (m .longest) r (none-refused m r e h .0) .letters) (letters-kept r e (puts m r e h .letters))
+    letters-carried (cutSwap r e) (r .letters) (reference-accepted m r e h .letters) (letters-kept r e (puts m r e h .letters))

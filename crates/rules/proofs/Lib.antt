@@ -7,6 +7,7 @@ pub mod Complement
 pub mod Reference
 pub mod Refusal
 pub mod Span
+pub mod Moved
 pub mod Altered
 pub mod Records
 pub mod Demand

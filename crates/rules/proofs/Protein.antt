@@ -1,9 +1,9 @@
 -- The altered protein A: its one `*`, its length, and what a record may take as given of R and A.
 -- Assumes nothing.
-use mathlib.Core.Path.{_≡_, refl, sym, ap, subst, _∙_}
-use mathlib.Core.Bool.{Bool, true, false}
+use mathlib.Core.Path.{_≡_, refl, sym, ap, _∙_}
+use mathlib.Core.Bool.{true, false}
 use mathlib.Core.List.{List, [], _∷_}
-use Prim.Native.Nat.{ℕ, zero, suc, _+_, _-_, _≤_, _<_}
+use Prim.Native.Nat.{ℕ, _+_, _-_, _≤_}
 use native.Mathlib.Decide.{decLe}
 use native.Mathlib.Omega.{arith}
 use lib.ListN.{length, take, drop, getD, length-drop}
@@ -12,7 +12,7 @@ use borrow.Author.Tests.{eq-eqb}
 use Rattle.rules.specs.declared.Change.{Change}
 use Rattle.rules.specs.declared.Record.the-variants.{NoProtein, Changed}
 use Rattle.rules.specs.Bytes.{byte, same, isNone}
-use Rattle.rules.specs.Translation.{translated, residueCount, throughStop}
+use Rattle.rules.specs.Translation.{translated, residueCount}
 use Rattle.rules.specs.Trims.{commonPrefix}
 use Rattle.rules.specs.Reference.{Reference, referenceProtein}
 use Rattle.rules.specs.Edit.{Asked}
@@ -21,10 +21,10 @@ use Rattle.rules.specs.Exceptions.{movedExceptions}
 use Rattle.rules.specs.Protein.{proteinOf, alteredProtein}
 use Rattle.rules.specs.Record.{isUnknown, silentNumber, recordOf}
 use Rattle.rules.specs.Refusal.{Limits, refusal}
-use Rattle.rules.proofs.Trims.{cp-le-l, cp-le-r, cp-take}
+use Rattle.rules.proofs.Trims.{cp-le-r, cp-take}
 use Rattle.rules.proofs.Translation.{length-translated, none-translated, through-le, none-through, StopsOnce, stops-once}
-use Rattle.rules.proofs.Reference.{accepted, protein-read}
-use Rattle.rules.proofs.Refusal.{none-refused}
+use Rattle.rules.proofs.Reference.{protein-read}
+use Rattle.rules.proofs.Refusal.{none-refused, reference-accepted}
 use Rattle.rules.proofs.Altered.{altered-length}
 use Rattle.rules.proofs.Records.{from-empty, to-empty, record-known, changed-of}
 use Rattle.rules.proofs.Demand.{demand}
@@ -40,7 +40,7 @@ unfolding alteredProtein proteinOf
 altered-room m r e h =
     let coding = drop (r .cs - 1) (alteredTranscript r e) in
     let es = movedExceptions r (alteredTranscript r e) in
-    let first = accepted (m .longest) r (none-refused m r e h .0) .bounds .first in
+    let first = reference-accepted m r e h .bounds .first in
     let long : length coding ≡ alteredLength r e + 1 - r .cs = length-drop (r .cs - 1) (alteredTranscript r e) ∙ omega (arith, altered-length m r e h .is) in
     omega (arith, through-le (translated (r .table) es coding), length-translated (r .table) es coding ∙ ap residueCount long)
 

@@ -1,4 +1,4 @@
--- What is so of an edit that isn't refused: its tests, its places and its span.
+-- What is so of an edit that isn't refused.
 -- Assumes nothing.
 use mathlib.Core.Path.{_≡_, refl, sym, _∙_}
 use mathlib.Core.Bool.{true, false, _&&_, _||_, not}
@@ -13,6 +13,7 @@ use Rattle.rules.specs.Position.{isOutside, isBefore, isBehind}
 use Rattle.rules.specs.Edit.{Asked, is, kindOf, startPlace, endPlace, endsPast, isMisplaced, isDisordered, isOutOfCds, fitBases, editTests}
 use Rattle.rules.specs.Refusal.{Limits, referenceRefusal, refusal}
 use Rattle.rules.proofs.Tests.{or-left, or-right, and-implies, first-clear, first-behind, first-before}
+use Rattle.rules.proofs.Reference.{Accepted, accepted}
 
 -- 1 to 6 come before 7 to 10
 module _ (m : Limits) (r : Reference) (e : Asked) where
@@ -73,3 +74,11 @@ allowed most r e h =
       anchored = λ k. and-implies _ _ (or-right (before || behind) left (nine .0)) k;
       bases = not-false _ (ten .0);
     }
+
+-- neither the reference nor the edit is refused
+module _ (m : Limits) (r : Reference) (e : Asked) (h : refusal m r e ≡ 0) where
+  pub reference-accepted : Accepted (m .longest) r
+  reference-accepted = accepted (m .longest) r (none-refused m r e h .0)
+
+  pub edit-allowed : Allowed (m .most) r e
+  edit-allowed = allowed (m .most) r e (none-refused m r e h .1)

@@ -14,11 +14,11 @@ use Rattle.rules.specs.declared.Position.the-variants.{Plus, Minus, Star
 use Rattle.rules.specs.Reference.{Reference, size}
 use Rattle.rules.specs.Position.{place, isOutside, index, isBefore, isBehind}
 use Rattle.rules.specs.Edit.{Asked, kindOf, startPlace, endPlace, startIndex, endIndex}
-use Rattle.rules.specs.Altered.{swapBy, swap}
+use Rattle.rules.specs.Altered.{Swap, swapBy, swap}
 use Rattle.rules.specs.Refusal.{Limits, refusal}
 use Rattle.rules.proofs.Tests.{or-left, or-right}
-use Rattle.rules.proofs.Reference.{Bounds, accepted}
-use Rattle.rules.proofs.Refusal.{Allowed, allowed, none-refused}
+use Rattle.rules.proofs.Reference.{Bounds}
+use Rattle.rules.proofs.Refusal.{Allowed, reference-accepted, edit-allowed}
 
 never : false ≡ true → ⊥
 never h = let z : _≡_ {A = ℕ} 0 1 = cc in omega arith
@@ -87,19 +87,15 @@ module _ (cs ce L : ℕ) (start end : Position) (s : Placed cs ce L start) (e : 
       by true true p q = absurd (never (sym (rw (p, q) at h)))
       by true false p q = omega (arith, s .behind p, e .not-behind q)
 
-pub record Span (r : Reference) (e : Asked) : Type 0 where
-  -- the start index is the start's place, but never before the CDS; `end` is one behind the end's place, but never behind the transcript
-  pub start-is : startIndex r e ≡ max (r .cs - 1) (startPlace r e)
-  pub end-is : endIndex r e ≡ min (endPlace r e + 1) (size r)
-  -- cs-1 <= start < ce, start < end <= L
+-- cs-1 <= start < ce, start < end <= L. The start index is the start's place, but never before the CDS; `end` is one behind the end's place,
+-- but never behind the transcript.
+pub record Indexes (r : Reference) (e : Asked) : Type 0 where
   pub front : r .cs - 1 ≤ startIndex r e
   pub starts : startIndex r e < r .ce
   pub rising : startIndex r e < endIndex r e
   pub ends : endIndex r e ≤ size r
-  -- cs-1 <= from <= to <= L
-  pub swap-front : r .cs - 1 ≤ swap r e .from
-  pub swap-rising : swap r e .from ≤ swap r e .to
-  pub swap-ends : swap r e .to ≤ size r
+  pub start-is : startIndex r e ≡ max (r .cs - 1) (startPlace r e)
+  pub end-is : endIndex r e ≡ min (endPlace r e + 1) (size r)
 
 start-of : (cs ce L place : ℕ) → cs ≤ ce → ce ≤ L → place < ce → max (cs - 1) (min place L) ≡ max (cs - 1) place
 start-of cs ce L place h k l = omega arith
@@ -107,21 +103,9 @@ start-of cs ce L place h k l = omega arith
 end-of : (cs ce L place : ℕ) → cs ≤ ce → ce ≤ L → 1 ≤ cs → cs - 1 ≤ place → min (max (cs - 1) (min place L) + 1) L ≡ min (place + 1) L
 end-of cs ce L place h k l m = omega arith
 
--- whatever the kind
-swap-of : (k : Kind) (s : List ℕ) (first L start end : ℕ) (new : List ℕ) → first ≤ start → start < end → end ≤ L → (first ≤ swapBy k s start end new .from) × (swapBy k s start end new .from ≤ swapBy k s start end new .to) × (swapBy k s start end new .to ≤ L)
-unfolding swapBy
-swap-of Substitution s first L start end new h k l = (h, omega arith, l)
-swap-of Deletion s first L start end new h k l = (h, omega arith, l)
-swap-of Delins s first L start end new h k l = (h, omega arith, l)
-swap-of Insertion s first L start end new h k l = (omega arith, omega arith, omega arith)
-swap-of Duplication s first L start end new h k l = (omega arith, omega arith, l)
-swap-of Inversion s first L start end new h k l = (h, omega arith, l)
-swap-of Identity s first L start end new h k l = (h, omega arith, l)
-swap-of Other s first L start end new h k l = (h, omega arith, l)
-
-span-of : (most : ℕ) (r : Reference) (e : Asked) → Bounds r → Allowed most r e → Span r e
-unfolding startIndex endIndex startPlace endPlace swap
-span-of most r e b a =
+pub indexes-of : (most : ℕ) (r : Reference) (e : Asked) → Bounds r → Allowed most r e → Indexes r e
+unfolding startIndex endIndex startPlace endPlace
+indexes-of most r e b a =
     let L = size r in
     let start = e .edit .start in
     let end = e .edit .end in
@@ -131,24 +115,40 @@ span-of most r e b a =
     let inside = start-inside (r .cs) (r .ce) L start end s t (a .ordered) (a .not-behind) in
     let start-is = s .index-is ∙ start-of (r .cs) (r .ce) L (startPlace r e) (b .rising) (b .inside) inside in
     let end-is = ap (λ (n : ℕ). min (n + 1) L) (t .index-is) ∙ end-of (r .cs) (r .ce) L (endPlace r e) (b .rising) (b .inside) (b .first) reaches in
-    let front : r .cs - 1 ≤ startIndex r e = omega (arith, start-is) in
-    let starts : startIndex r e < r .ce = omega (arith, start-is, inside, b .rising, b .first) in
-    let rising : startIndex r e < endIndex r e = omega (arith, start-is, end-is, inside, reaches, b .rising, b .inside, b .first, a .ordered) in
-    let ends : endIndex r e ≤ L = omega (arith, end-is) in
-    let swapped = swap-of (kindOf e) (r .letters) (r .cs - 1) L (startIndex r e) (endIndex r e) (e .new) front rising ends in
     record {
+      front = omega (arith, start-is);
+      starts = omega (arith, start-is, inside, b .rising, b .first);
+      rising = omega (arith, start-is, end-is, inside, reaches, b .rising, b .inside, b .first, a .ordered);
+      ends = omega (arith, end-is);
       start-is = start-is;
       end-is = end-is;
-      front = front;
-      starts = starts;
-      rising = rising;
-      ends = ends;
-      swap-front = swapped .0;
-      swap-rising = swapped .1;
-      swap-ends = swapped .2;
     }
 
-pub span : (m : Limits) (r : Reference) (e : Asked) → refusal m r e ≡ 0 → Span r e
-span m r e h =
-    let none = none-refused m r e h in
-    span-of (m .most) r e (accepted (m .longest) r (none .0) .bounds) (allowed (m .most) r e (none .1))
+-- first <= from <= to <= L
+pub record Span (first L : ℕ) (w : Swap) : Type 0 where
+  pub front : first ≤ w .from
+  pub rising : w .from ≤ w .to
+  pub ends : w .to ≤ L
+
+-- whatever the kind
+span-by : (k : Kind) (s : List ℕ) (first L start end : ℕ) (new : List ℕ) → first ≤ start → start < end → end ≤ L → Span first L (swapBy k s start end new)
+unfolding swapBy
+span-by Substitution s first L start end new h k l = record { front = h; rising = omega arith; ends = l }
+span-by Deletion s first L start end new h k l = record { front = h; rising = omega arith; ends = l }
+span-by Delins s first L start end new h k l = record { front = h; rising = omega arith; ends = l }
+span-by Insertion s first L start end new h k l = record { front = omega arith; rising = omega arith; ends = omega arith }
+span-by Duplication s first L start end new h k l = record { front = omega arith; rising = omega arith; ends = l }
+span-by Inversion s first L start end new h k l = record { front = h; rising = omega arith; ends = l }
+span-by Identity s first L start end new h k l = record { front = h; rising = omega arith; ends = l }
+span-by Other s first L start end new h k l = record { front = h; rising = omega arith; ends = l }
+
+pub span-of : (r : Reference) (e : Asked) → Indexes r e → Span (r .cs - 1) (size r) (swap r e)
+unfolding swap
+span-of r e i = span-by (kindOf e) (r .letters) (r .cs - 1) (size r) (startIndex r e) (endIndex r e) (e .new) (i .front) (i .rising) (i .ends)
+
+module _ (m : Limits) (r : Reference) (e : Asked) (h : refusal m r e ≡ 0) where
+  pub indexes : Indexes r e
+  indexes = indexes-of (m .most) r e (reference-accepted m r e h .bounds) (edit-allowed m r e h)
+
+  pub span : Span (r .cs - 1) (size r) (swap r e)
+  span = span-of r e indexes
