@@ -78,7 +78,7 @@ pub fn counted_of(p: Position) -> usize
 {
     match p {
         Position::Plus(n) => n,
-        Position::Minus(_) => 0,
+        Position::Minus(_) => 1,
         Position::Star(q) => q,
     }
 }
