@@ -1,6 +1,6 @@
 -- Laws of the record's definitions, with what the calls answer as variables.
 -- Assumes nothing.
-use mathlib.Core.Path.{_≡_, refl, sym, ap, _∙_}
+use mathlib.Core.Path.{_≡_, refl, sym, _∙_}
 use mathlib.Core.Bool.{Bool, true, false, _&&_}
 use mathlib.Core.List.{List, [], _∷_}
 use Prim.Native.Nat.{ℕ, _+_, _-_, _≤_, _<_}
@@ -11,7 +11,6 @@ use borrow.Author.Tests.{lt-ltb, le-ltb, ltb-true}
 use Rattle.rules.specs.declared.Class.{Class}
 use Rattle.rules.specs.declared.Class.the-variants.{StartLost, Extension, StopGained, Frameshift, Substitution, Deletion, Duplication, Insertion, Delins}
 use Rattle.rules.specs.declared.Change.{Change}
-use Rattle.rules.specs.declared.Record.{Record}
 use Rattle.rules.specs.declared.Record.the-variants.{NoProtein, Silent, Changed}
 use Rattle.rules.specs.Bytes.{byte, if_then_else_, same, isNone}
 use Rattle.rules.specs.Trims.{commonPrefix, commonSuffix}
@@ -31,27 +30,34 @@ pub no-copy : (r a : List ℕ) (number n : ℕ) → number ≤ n + 1 → false �
 unfolding isCopy
 no-copy r a number n h = rw (le-ltb (n + 1) number h)
 
--- a duplication's n residues stand before its number
-by-tests : (t₁ t₂ t₃ t₄ t₅ t₆ t₇ copy : Bool) → (if t₁ then StartLost else if t₂ then Extension else if t₃ then StopGained else if t₄ then Frameshift else if t₅ then Substitution else if t₆ then Deletion else if t₇ && copy then Duplication else if t₇ then Insertion else Delins) ≡ Duplication → copy ≡ true
-by-tests true t₂ t₃ t₄ t₅ t₆ t₇ copy h = cc
-by-tests false true t₃ t₄ t₅ t₆ t₇ copy h = cc
-by-tests false false true t₄ t₅ t₆ t₇ copy h = cc
-by-tests false false false true t₅ t₆ t₇ copy h = cc
-by-tests false false false false true t₆ t₇ copy h = cc
-by-tests false false false false false true t₇ copy h = cc
-by-tests false false false false false false true true h = refl
-by-tests false false false false false false true false h = cc
-by-tests false false false false false false false copy h = cc
+-- the class by its tests, those of a copy apart: a duplication has passed its first, n + 1 < number
+by-tests : (t₁ t₂ t₃ t₄ t₅ t₆ t₇ room alike : Bool) → (if t₁ then StartLost else if t₂ then Extension else if t₃ then StopGained else if t₄ then Frameshift else if t₅ then Substitution else if t₆ then Deletion else if t₇ && (room && alike) then Duplication else if t₇ then Insertion else Delins) ≡ Duplication → room ≡ true
+by-tests true t₂ t₃ t₄ t₅ t₆ t₇ room alike h = cc
+by-tests false true t₃ t₄ t₅ t₆ t₇ room alike h = cc
+by-tests false false true t₄ t₅ t₆ t₇ room alike h = cc
+by-tests false false false true t₅ t₆ t₇ room alike h = cc
+by-tests false false false false true t₆ t₇ room alike h = cc
+by-tests false false false false false true t₇ room alike h = cc
+by-tests false false false false false false true true alike h = refl
+by-tests false false false false false false true false alike h = cc
+by-tests false false false false false false false room alike h = cc
 
-and-left : (a b : Bool) → (a && b) ≡ true → a ≡ true
-and-left true b h = refl
-and-left false b h = h
-
-pub copied-before : (number d n x y : ℕ) (flag copy : Bool) (k : Class) (r a : List ℕ) → copy ≡ isCopy number n r a → k ≡ classBy number d n x y flag copy → k ≡ Duplication → n ≤ number
+-- the n residues that a duplication copies stand before its number
+pub copied-before : (number d n x y : ℕ) (flag copy : Bool) (k : Class) (r a : List ℕ) → copy ≡ isCopy number n r a → k ≡ classBy number d n x y flag copy → k ≡ Duplication → n + 1 < number
 unfolding isCopy classBy classByCounts
 copied-before number d n x y flag copy k r a e f g =
-    let yes : copy ≡ true = by-tests (eqb number 1) (ltb 0 d && eqb x (byte "*")) (eqb y (byte "*")) flag (eqb n 1 && eqb d 1) (eqb n 0) (eqb d 0) copy (sym f ∙ g) in
-    omega (arith, ltb-true (n + 1) number (and-left _ _ (sym e ∙ yes)))
+    ltb-true (n + 1) number
+    (by-tests
+    (eqb number 1)
+    (ltb 0 d && eqb x (byte "*"))
+    (eqb y (byte "*"))
+    flag
+    (eqb n 1 && eqb d 1)
+    (eqb n 0)
+    (eqb d 0)
+    (ltb (n + 1) number)
+    (same (take n (drop (number - 1 - n) r)) (take n (drop (number - 1) a)))
+    (sym (rw e at f) ∙ g))
 
 -- the ending that `common_suffix_len` answers
 pub is-ending : (r a : List ℕ) (s n : ℕ) → n ≡ commonSuffix (take (length r - s) (drop s r)) (take (length a - s) (drop s a)) → n ≡ ending false s r a

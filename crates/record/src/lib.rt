@@ -9,7 +9,6 @@ ghost use mathlib.Core.Path.{_≡_};
 ghost use Prim.Native.Nat.{_+_, _≤_};
 ghost use lib.ListN.{length, getD};
 ghost use Rattle.rules.specs.Bytes.{same};
-ghost use Rattle.rules.specs.Trims.{commonPrefix};
 ghost use Rattle.rules.specs.Record.{ending, isCopy, classByCounts, classBy, firstCopied, changeAt, recordFrom};
 
 // The byte at i, or 0 past the end.

@@ -13,7 +13,8 @@ returns c = rw (c .if1 .taken)
 returns-2 : tie.Need-returns-2
 returns-2 c =
     let args = c .before .before .before .before .before .before .args in
-    rw (c .before .before .before .if1 .left) (is-ending (args .r .now) (args .a .now) (args .s) (c .common-suffix-len .result) (c .common-suffix-len .ensures))
+    let suffix = c .common-suffix-len in
+    rw (c .before .before .before .if1 .left) (is-ending (args .r .now) (args .a .now) (args .s) (suffix .result) (suffix .ensures))
 
 pub ending-of-spec : {M : Type 1} → statement M
 ending-of-spec =

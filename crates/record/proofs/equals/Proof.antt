@@ -7,10 +7,14 @@ use Rattle.record.proofs.equals.Statement.{statement}
 use Rattle.record.proofs.equals.Tie as tie
 
 returns : tie.Need-returns
-returns c = sym (same-lengths (c .before .before .before .args .a .now) (c .before .before .before .args .b .now) (c .if1 .taken))
+returns c =
+    let args = c .before .before .before .args in
+    sym (same-lengths (args .a .now) (args .b .now) (c .if1 .taken))
 
 returns-2 : tie.Need-returns-2
-returns-2 c = rw (c .common-prefix-len .ensures) (sym (same-equal (c .before .before .before .before .args .a .now) (c .before .before .before .before .args .b .now) (c .before .if1 .left)))
+returns-2 c =
+    let args = c .before .before .before .before .args in
+    rw (c .common-prefix-len .ensures) (sym (same-equal (args .a .now) (args .b .now) (c .before .if1 .left)))
 
 pub equals-spec : {M : Type 1} → statement M
 equals-spec =
