@@ -27,7 +27,7 @@ use Rattle.rules.specs.Refusal.{Limits, limits, Room, refusal, reference
 use Rattle.rules.specs.Answer.{Outcome, Answers, outcome}
 use Rattle.rules.specs.Values.{Values, valuesOf}
 use Rattle.rules.specs.Opened.{opened}
-use Rattle.rules.proofs.Checks.{Check, _gives_, AllGive, exc, ref, asked}
+use Rattle.rules.proofs.Checks.{Check, _gives_, AllGive, exc, ref, worked, asked, edit-of, changed}
 
 abbrev pub room : ℕ → ℕ → ℕ → Room
 room t r a = record { transcript = t; reference = r; altered = a }
@@ -54,14 +54,6 @@ writes x flag t r a =
       reference = bytes r;
       altered = bytes a;
     }
-
--- a class, a number, the place and length of each part, the first residue copied
-abbrev pub changed : Class → ℕ → ℕ → ℕ → ℕ → ℕ → ℕ → Record
-changed c n da dl ia il first =
-    Changed (record { class = c; number = n; deleted = record { at = da; len = dl }; inserted = record { at = ia; len = il }; first = first })
-
-abbrev pub worked : Reference
-worked = ref 3 17 0 "GGATGGCCAAATGGTAACCTGAC" []
 
 abbrev pub shortest : Reference
 shortest = ref 1 6 0 "ATGTAA" []
@@ -275,10 +267,6 @@ value-checks =
 pub values-hold : AllGive value-checks
 unfolding opened
 values-hold = refl
-
--- an edit that no text line can give
-abbrev pub edit-of : Kind → Position → Position → String → Asked
-edit-of k a b new = record { edit = record { kind = k; start = a; end = b }; new = bytes new }
 
 abbrev pub before-it : Reference
 before-it = ref 2 7 0 "AATGTAA" []

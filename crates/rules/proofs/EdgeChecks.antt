@@ -21,8 +21,7 @@ use Rattle.rules.specs.Refusal.{limits}
 use Rattle.rules.specs.Values.{kindAt, classNumber, flagNumber}
 use Rattle.rules.specs.Run.{decimal, className}
 use Rattle.rules.specs.Opened.{opened}
-use Rattle.rules.proofs.Checks.{Check, _gives_, AllGive, asked}
-use Rattle.rules.proofs.CallChecks.{worked, changed, edit-of}
+use Rattle.rules.proofs.Checks.{Check, _gives_, AllGive, worked, asked, edit-of, changed}
 
 abbrev pub number-checks : List (Check ℕ)
 number-checks =
