@@ -14,3 +14,10 @@ pub mod Demand
 pub mod Protein
 pub mod Answers
 pub mod Thirteen
+pub mod Checks
+pub mod CodonChecks
+pub mod PlainChecks
+pub mod CallChecks
+pub mod EdgeChecks
+pub mod StoredChecks
+pub mod LineChecks
