@@ -47,7 +47,7 @@ number-checks =
     ∷ index 3 17 23 (Star 65535) gives 23
     -- s or e of a silent record's number
     ∷ counted (Plus 7) gives 7
-    ∷ counted (Minus 7) gives 0
+    ∷ counted (Minus 7) gives 1
     ∷ counted (Star 7) gives 7
     -- the places and indices of an edit: `end` is at most L
     ∷ startPlace worked (asked "4_9del") gives 5
