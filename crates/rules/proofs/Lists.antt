@@ -1,7 +1,7 @@
 -- Laws of `all` and `each` for loops that go from the front: what is left of the list tells of the whole.
 -- Assumes nothing.
 use mathlib.Core.Path.{_≡_, refl, sym, ap, _∙_}
-use mathlib.Core.Bool.{Bool, true, false, and-eq-true-iff}
+use mathlib.Core.Bool.{Bool, true, false, _&&_, and-assoc, and-eq-true-iff}
 use mathlib.Core.List.{List, [], _∷_, _++_}
 use Prim.Native.Nat.{ℕ, zero, suc, _+_, _*_, _≤_, _<_}
 use native.Mathlib.Numerals.{add-one}
@@ -18,6 +18,11 @@ module _ (p : ℕ → Bool) (s : List ℕ) (i : ℕ) where
   pub all-stop : i < length s → p (getD s i 0) ≡ false → all p (drop i s) ≡ false
   unfolding all
   all-stop h e = rw (drop-cons s i 0 h, e)
+
+  -- the same where a turn joins its test to those before it
+  pub all-join : (good : Bool) → i < length s → ((good && p (getD s i 0)) && all p (drop (i + 1) s)) ≡ (good && all p (drop i s))
+  unfolding all
+  all-join good h = rw (add-one, drop-cons s i 0 h, and-assoc good)
 
   pub all-end : length s ≤ i → all p (drop i s) ≡ true
   unfolding all
