@@ -94,15 +94,16 @@ enough = room 99 99 99
 abbrev pub call-checks : List (Check Outcome)
 call-checks =
     -- 11: the transcript's room, exactly and one short; before 12
-    call worked "8_9insA" (room 24 5 8) gives writes (changed Frameshift 4 3 2 3 4 0) true "GGATGGCCAAAATGGTAACCTGAC" "MAKW*" "MAKMVT*"
-    ∷ call worked "8_9insA" (room 23 5 8) gives refuses 11
+    call worked "8_9insA" (room 23 5 8) gives refuses 11
     ∷ call worked "8_9insA" (room 23 0 0) gives refuses 11
-    ∷ call worked "8_9insA" (room 0 0 0) gives refuses 11
     -- 12: CDS/3 for R, and ceil((altered length-cs+1)/3) for A however short A is
+    ∷ call worked "8_9insA" (room 24 5 8) gives writes (changed Frameshift 4 3 2 3 4 0) true "GGATGGCCAAAATGGTAACCTGAC" "MAKW*" "MAKMVT*"
+    ∷ call worked "8_9insA" (room 24 5 7) gives refuses 12
+    ∷ call worked "8_9insA" (room 24 4 8) gives refuses 12
+    ∷ call worked "9_10insTAGC" (room 26 5 8) gives writes (changed StopGained 4 3 1 3 0 0) false "GGATGGCCAAATAGTGGTAACCTGAC" "MAKW*" "MAK*"
+    ∷ call worked "9_10insTAGC" (room 26 4 8) gives refuses 12
+    ∷ call worked "9_10insTAGC" (room 26 5 7) gives refuses 12
     ∷ call worked "9_10insTAGC" (room 25 5 8) gives refuses 11
-    ∷ call worked "9_10insTAGC" (room 25 4 8) gives refuses 11
-    ∷ call worked "9_10insTAGC" (room 25 5 7) gives refuses 11
-    ∷ call worked "9_10insTAGC" (room 26 9 9) gives writes (changed StopGained 4 3 1 3 0 0) false "GGATGGCCAAATAGTGGTAACCTGAC" "MAKW*" "MAK*"
     ∷ call worked "5del" (room 22 5 7) gives writes (changed Frameshift 3 2 3 2 5 0) true "GGATGGCAAATGGTAACCTGAC" "MAKW*" "MANGNLX"
     ∷ call worked "5del" (room 22 5 6) gives refuses 12
     ∷ call worked "5del" (room 22 4 7) gives refuses 12
@@ -130,34 +131,20 @@ call-checks =
     ∷ call worked "12G>A" enough gives writes (changed StopGained 4 3 1 3 0 0) false "GGATGGCCAAATGATAACCTGAC" "MAKW*" "MAK*"
     ∷ call worked "13T>C" enough gives writes (changed Extension 5 4 1 4 3 0) false "GGATGGCCAAATGGCAACCTGAC" "MAKW*" "MAKWQPD"
     ∷ call worked "6C>T" enough gives writes (Silent 2 (byte "A")) false "GGATGGCTAAATGGTAACCTGAC" "MAKW*" "MAKW*"
-    ∷ call worked "4_6inv" enough gives writes (changed Substitution 2 1 1 1 1 0) false "GGATGGGCAAATGGTAACCTGAC" "MAKW*" "MGKW*"
     ∷ call worked "1A>G" enough gives writes (changed StartLost 1 0 1 0 1 0) false "GGGTGGCCAAATGGTAACCTGAC" "MAKW*" "VAKW*"
-    ∷ call worked "9_10insTAGC" enough gives writes (changed StopGained 4 3 1 3 0 0) false "GGATGGCCAAATAGTGGTAACCTGAC" "MAKW*" "MAK*"
     ∷ call worked "1_*6del" enough gives writes NoProtein true "GG" "MAKW*" ""
     ∷ call worked "4_9del" enough gives writes (changed Deletion 2 1 2 1 0 0) false "GGATGTGGTAACCTGAC" "MAKW*" "MW*"
     ∷ call worked "3_4insTTT" enough gives writes (changed Insertion 2 1 0 1 1 0) false "GGATGTTTGCCAAATGGTAACCTGAC" "MAKW*" "MFAKW*"
     ∷ call worked "4_9delinsTTT" enough gives writes (changed Delins 2 1 2 1 1 0) false "GGATGTTTTGGTAACCTGAC" "MAKW*" "MFW*"
-    ∷ call worked "4_9dup" enough gives writes (changed Duplication 4 3 0 3 2 2) false "GGATGGCCAAAGCCAAATGGTAACCTGAC" "MAKW*" "MAKAKW*"
-    ∷ call worked "9_10insGCCAAA" enough gives writes (changed Duplication 4 3 0 3 2 2) false "GGATGGCCAAAGCCAAATGGTAACCTGAC" "MAKW*" "MAKAKW*"
     ∷ call worked "-2_2del" enough gives writes (changed StartLost 1 0 5 0 6 0) true "GGGGCCAAATGGTAACCTGAC" "MAKW*" "GQMVT*"
-    ∷ call worked "-2_*2del" enough gives writes (changed StartLost 1 0 5 0 1 0) true "GGTGAC" "MAKW*" "*"
-    ∷ call worked "-2_*6=" enough gives writes (Silent 1 (byte "M")) false "GGATGGCCAAATGGTAACCTGAC" "MAKW*" "MAKW*"
     ∷ call worked "4_*2dup" enough gives writes (Silent 1 (byte "M")) true "GGATGGCCAAATGGTAACCGCCAAATGGTAACCTGAC" "MAKW*" "MAKW*"
     ∷ call worked "15_*1insA" enough gives writes (Silent 5 (byte "*")) true "GGATGGCCAAATGGTAAACCTGAC" "MAKW*" "MAKW*"
     ∷ call worked "13_*1delinsTAAC" enough gives writes (Silent 5 (byte "*")) false "GGATGGCCAAATGGTAACCTGAC" "MAKW*" "MAKW*"
     ∷ call worked "8_9insATAA" enough gives writes (changed StopGained 4 3 1 3 0 0) false "GGATGGCCAAATAAATGGTAACCTGAC" "MAKW*" "MAK*"
-    ∷ call worked "10_*6del" enough gives writes (changed Frameshift 4 3 2 3 0 0) true "GGATGGCCAAA" "MAKW*" "MAK"
-    ∷ call worked "13_*6del" enough gives writes (changed Extension 5 4 1 4 0 0) true "GGATGGCCAAATGG" "MAKW*" "MAKW"
-    ∷ call worked "10delinsTAG" enough gives writes (changed StopGained 4 3 2 3 1 0) true "GGATGGCCAAATAGGGTAACCTGAC" "MAKW*" "MAK*"
     ∷ call worked "10_*1delinsTGTTAAC" enough gives writes (changed Frameshift 4 3 2 3 2 0) true "GGATGGCCAAATGTTAACCTGAC" "MAKW*" "MAKC*"
     ∷ call worked "7_8insAATAAG" enough gives writes (changed StopGained 4 3 1 3 0 0) false "GGATGGCCAAATAAAATGGTAACCTGAC" "MAKW*" "MAK*"
-    ∷ call worked "10_15dup" enough gives writes (Silent 5 (byte "*")) false "GGATGGCCAAATGGTAATGGTAACCTGAC" "MAKW*" "MAKW*"
-    ∷ call worked "-2_3dup" enough gives writes (changed Insertion 2 1 0 1 1 0) false "GGATGATGGCCAAATGGTAACCTGAC" "MAKW*" "MMAKW*"
-    ∷ call worked "-1_4inv" enough gives writes (changed StartLost 1 0 2 0 2 0) false "GGCCATCCAAATGGTAACCTGAC" "MAKW*" "PSKW*"
-    ∷ call worked "1_*5del" enough gives writes (changed StartLost 1 0 5 0 1 0) true "GGC" "MAKW*" "X"
+    ∷ call worked "13_*3dup" enough gives writes (Silent 2 (byte "A")) false "GGATGGCCAAATGGTAACCTTAAGAC" "MAKW*" "MAKW*"
     ∷ call worked "11_*4inv" enough gives writes (changed Delins 4 3 2 3 4 0) false "GGATGGCCAAATCAGGTTACCAC" "MAKW*" "MAKSGYH"
-    ∷ call worked "8_10dup" enough gives writes (changed StopGained 4 3 1 3 0 0) false "GGATGGCCAAATAATGGTAACCTGAC" "MAKW*" "MAK*"
-    ∷ call worked "14_15insAC" enough gives writes (Silent 5 (byte "*")) true "GGATGGCCAAATGGTAACACCTGAC" "MAKW*" "MAKW*"
     ∷ call shortest "1_6del" enough gives writes NoProtein false "" "M*" ""
     ∷ call shortest "3_4insTRA" enough gives writes (Silent 1 (byte "M")) false "ATGTRATAA" "M*" "M*"
     ∷ call shortest "1_2insTAA" enough gives writes (changed StartLost 1 0 0 0 1 0) false "ATAATGTAA" "M*" "IM*"

@@ -7,7 +7,7 @@ use Prim.Native.String.{String}
 use lib.Dec.{eqb}
 use Rattle.rules.specs.Bytes.{byte, bytes, if_then_else_, isCapital}
 use Rattle.rules.specs.Letters.{letterSet, isLetter, upper, plainLetter}
-use Rattle.rules.specs.Codons.{isTable, codonRule, codon, forEach}
+use Rattle.rules.specs.Codons.{placeFrom, isTable, basesOf, codonRule, codon, forEach}
 use Rattle.rules.specs.Complement.{complement}
 use Rattle.rules.specs.Translation.{isResidue}
 use Rattle.rules.specs.Number.{isDigit}
@@ -46,11 +46,20 @@ byte-checks =
     ∷ passing isResidue every-byte gives bytes "*ABCDEFGHIJKLMNOPQRSTUVWXYZ"
     ∷ passing isDigit every-byte gives bytes "0123456789"
     ∷ passing isTable (run-of 300 0) gives (0 ∷ 1 ∷ 2 ∷ [])
+    -- the place of a plain codon among the 64
+    ∷ map (λ (s : String). placeFrom 0 (bytes s)) ("TTT" ∷ "TTC" ∷ "TCA" ∷ "CAG" ∷ "AGT" ∷ "GTC" ∷ "GGG" ∷ []) gives (0 ∷ 1 ∷ 6 ∷ 27 ∷ 44 ∷ 49 ∷ 63 ∷ [])
     ∷ []
 
 pub bytes-hold : AllGive byte-checks
 unfolding opened
 bytes-hold = refl
+
+-- the bases of each set, by their numbers in the order T, C, A, G
+pub bases-hold :
+    map basesOf (0 ∷ sets)
+    ≡ [] ∷ (2 ∷ []) ∷ (1 ∷ []) ∷ (1 ∷ 2 ∷ []) ∷ (3 ∷ []) ∷ (2 ∷ 3 ∷ []) ∷ (1 ∷ 3 ∷ []) ∷ (1 ∷ 2 ∷ 3 ∷ []) ∷ (0 ∷ []) ∷ (0 ∷ 2 ∷ []) ∷ (0 ∷ 1 ∷ []) ∷ (0 ∷ 1 ∷ 2 ∷ []) ∷ (0 ∷ 3 ∷ []) ∷ (0 ∷ 2 ∷ 3 ∷ []) ∷ (0 ∷ 1 ∷ 3 ∷ []) ∷ (0 ∷ 1 ∷ 2 ∷ 3 ∷ []) ∷ []
+unfolding opened
+bases-hold = refl
 
 -- the residues of every codon of three of the letters, the first one slowest
 abbrev pub codons-of : List ℕ → ℕ → List ℕ

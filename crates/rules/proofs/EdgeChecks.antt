@@ -14,14 +14,19 @@ use Rattle.rules.specs.declared.Record.{Record}
 use Rattle.rules.specs.declared.Record.the-variants.{Unknown, NoProtein, Silent, Changed}
 use Rattle.rules.specs.Bytes.{byte, bytes, same, count}
 use Rattle.rules.specs.Position.{place, isOutside, index, isBefore, isBehind, counted}
-use Rattle.rules.specs.Edit.{kindNumber, is, startPlace, endPlace, startIndex, endIndex, endsPast, areBases}
+use Rattle.rules.specs.Edit.{kindNumber, is, startPlace, endPlace, startIndex, endIndex, endsPast, isOutOfCds, areBases}
 use Rattle.rules.specs.Altered.{Swap, part, carried, swapBy, swap, frame, framed, findsStop, kept, deleted, inserted, cutOff, alteredLength, leavesCds, putsBack, frameshift}
-use Rattle.rules.specs.Record.{within, silentNumber, ending, isCopy, classByCounts, classBy, firstCopied, recordFrom, replayed}
+use Rattle.rules.specs.Record.{within, silentNumber, ending, isCopy, classByCounts, classBy, classOf, firstCopied, recordFrom, replayed}
 use Rattle.rules.specs.Refusal.{limits}
 use Rattle.rules.specs.Values.{kindAt, classNumber, flagNumber}
+use Rattle.rules.specs.Number.{digits}
 use Rattle.rules.specs.Run.{decimal, className}
 use Rattle.rules.specs.Opened.{opened}
 use Rattle.rules.proofs.Checks.{Check, _gives_, AllGive, worked, asked, edit-of, changed}
+
+-- the bases from..to give way to others
+abbrev pub from-to : ℕ → ℕ → String → Swap
+from-to a b s = record { from = a; to = b; put = bytes s }
 
 abbrev pub number-checks : List (Check ℕ)
 number-checks =
@@ -70,6 +75,14 @@ number-checks =
     ∷ endPlace worked (asked "13_*1del") gives 17
     ∷ startIndex worked (asked "13_*1del") gives 14
     ∷ endIndex worked (asked "13_*1del") gives 18
+    ∷ startPlace worked (asked "*2_*9del") gives 18
+    ∷ endPlace worked (asked "*2_*9del") gives 25
+    ∷ startIndex worked (asked "*2_*9del") gives 18
+    ∷ endIndex worked (asked "*2_*9del") gives 23
+    ∷ startPlace worked (asked "*8_*9del") gives 24
+    ∷ endPlace worked (asked "*8_*9del") gives 25
+    ∷ startIndex worked (asked "*8_*9del") gives 23
+    ∷ endIndex worked (asked "*8_*9del") gives 23
     -- lengths: altered length = L - deleted + inserted - cut off
     ∷ deleted worked (asked "4_9del") gives 6
     ∷ inserted worked (asked "4_9del") gives 0
@@ -128,6 +141,8 @@ number-checks =
     ∷ frame worked (swap worked (asked "4_7dup")) gives 1
     ∷ frame worked (swap worked (asked "4_5dup")) gives 2
     ∷ frame worked (swap worked (asked "15_*1insA")) gives 0
+    ∷ frame worked (from-to 5 6 "A") gives 0
+    ∷ frame worked (from-to 6 8 "A") gives 1
     -- the silent number, brought into 1..5
     ∷ silentNumber worked (edit-of kind.Identity (Plus 1) (Plus 1) "") gives 1
     ∷ silentNumber worked (edit-of kind.Identity (Plus 3) (Plus 9) "") gives 1
@@ -192,6 +207,11 @@ number-checks =
     ∷ limits .most gives 4096
     ∷ count (byte "*") (bytes "*A*B") gives 2
     ∷ count (byte "*") [] gives 0
+    -- leading digits
+    ∷ digits (bytes "123") gives 3
+    ∷ digits (bytes "12a3") gives 2
+    ∷ digits (bytes "a") gives 0
+    ∷ digits [] gives 0
     ∷ []
 
 pub numbers-hold : AllGive number-checks
@@ -229,6 +249,18 @@ test-checks =
     ∷ areBases 2 (bytes "ACG") gives false
     ∷ areBases 2 (bytes "U") gives false
     ∷ areBases 2 (bytes "AU") gives false
+    -- both ends before the CDS, both behind it, or an insertion whose left anchor is before it
+    ∷ isOutOfCds (edit-of kind.Deletion (Minus 2) (Minus 1) "") gives true
+    ∷ isOutOfCds (edit-of kind.Deletion (Plus 1) (Minus 1) "") gives false
+    ∷ isOutOfCds (edit-of kind.Deletion (Minus 1) (Plus 1) "") gives false
+    ∷ isOutOfCds (edit-of kind.Deletion (Star 1) (Star 2) "") gives true
+    ∷ isOutOfCds (edit-of kind.Deletion (Star 1) (Plus 1) "") gives false
+    ∷ isOutOfCds (edit-of kind.Deletion (Plus 1) (Star 1) "") gives false
+    ∷ isOutOfCds (edit-of kind.Deletion (Minus 1) (Star 1) "") gives false
+    ∷ isOutOfCds (edit-of kind.Deletion (Plus 1) (Plus 2) "") gives false
+    ∷ isOutOfCds (edit-of kind.Insertion (Minus 1) (Plus 1) "") gives true
+    ∷ isOutOfCds (edit-of kind.Insertion (Plus 1) (Minus 1) "") gives false
+    ∷ isOutOfCds (edit-of kind.Insertion (Plus 1) (Plus 2) "") gives false
     -- a deletion, delins or substitution with start < ce < end: bases on both sides of the CDS's end
     ∷ leavesCds worked (edit-of kind.Deletion (Plus 15) (Star 1) "") gives true
     ∷ leavesCds worked (edit-of kind.Delins (Plus 15) (Star 1) "") gives true
@@ -294,6 +326,8 @@ test-checks =
     ∷ isCopy 4 2 (bytes "MAKW*") (bytes "MAKMKW*") gives false
     ∷ isCopy 5 2 (bytes "MAKAKW*") (bytes "MAKAKAW*") gives true
     ∷ isCopy 5 2 (bytes "MAKAKW*") (bytes "MAKAAKW*") gives false
+    ∷ isCopy 4 1 (bytes "MAKW*") (bytes "MAAKW*") gives true
+    ∷ isCopy 4 1 (bytes "MAKW*") (bytes "MAWWK*") gives false
     ∷ is kind.Insertion kind.Insertion gives true
     ∷ is kind.Insertion kind.Delins gives false
     ∷ same [] [] gives true
@@ -326,9 +360,6 @@ kind-checks =
 pub kinds-hold : AllGive kind-checks
 unfolding opened
 kinds-hold = refl
-
-abbrev pub from-to : ℕ → ℕ → String → Swap
-from-to a b s = record { from = a; to = b; put = bytes s }
 
 abbrev pub swap-checks : List (Check Swap)
 swap-checks =
@@ -443,6 +474,13 @@ class-checks =
     ∷ classBy 9 0 2 (byte "A") (byte "G") false true gives Duplication
     ∷ classBy 9 0 2 (byte "A") (byte "G") false false gives Insertion
     ∷ classBy 9 2 0 (byte "A") (byte "G") false false gives Deletion
+    -- by the proteins: a residue of each there, and a copy of R's
+    ∷ classOf false 3 0 1 (bytes "MAKW*") (bytes "MAAKW*") gives Duplication
+    ∷ classOf false 3 0 1 (bytes "MAKW*") (bytes "MAWWK*") gives Insertion
+    ∷ classOf false 4 1 0 (bytes "MAKW*") (bytes "MAKW") gives Extension
+    ∷ classOf true 3 2 1 (bytes "MAKW*") (bytes "MAK*") gives StopGained
+    ∷ classOf true 3 2 0 (bytes "MAKW*") (bytes "MAK") gives Frameshift
+    ∷ classOf false 0 1 1 (bytes "MAKW*") (bytes "VAKW*") gives StartLost
     ∷ []
 
 pub classes-hold : AllGive class-checks

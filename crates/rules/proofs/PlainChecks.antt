@@ -9,7 +9,7 @@ use Rattle.rules.specs.declared.Written.{Written}
 use Rattle.rules.specs.declared.Written.the-variants as written
 use Rattle.rules.specs.Bytes.{byte, bytes, Result, given, refused, over}
 use Rattle.rules.specs.Translation.{exceptionList, translation, residueCount, beforeStop, throughStop}
-use Rattle.rules.specs.Names.{threeLetters, oneLetters}
+use Rattle.rules.specs.Names.{threes, threeLetters, oneLetters}
 use Rattle.rules.specs.Complement.{reverseComplement, complemented}
 use Rattle.rules.specs.Trims.{commonPrefix, commonSuffix}
 use Rattle.rules.specs.Answer.{writtenOf, bytesOf}
@@ -175,6 +175,19 @@ pub names-hold : AllGive name-checks
 unfolding opened
 names-hold = refl
 
+abbrev pub three-checks : List (Check (List (List ℕ)))
+three-checks =
+    threes [] gives []
+    ∷ threes (bytes "A") gives (bytes "A" ∷ [])
+    ∷ threes (bytes "AB") gives (bytes "AB" ∷ [])
+    ∷ threes (bytes "ABC") gives (bytes "ABC" ∷ [])
+    ∷ threes (bytes "ABCDEFGH") gives (bytes "ABC" ∷ bytes "DEF" ∷ bytes "GH" ∷ [])
+    ∷ []
+
+pub threes-hold : AllGive three-checks
+unfolding opened
+threes-hold = refl
+
 abbrev pub complement-checks : List (Check (Result (List ℕ)))
 complement-checks =
     -- the fifteen letters
@@ -250,6 +263,7 @@ count-checks =
     ∷ beforeStop (bytes "MAK*A*") gives 3
     ∷ beforeStop (bytes "MAK") gives 3
     ∷ beforeStop (bytes "X") gives 1
+    ∷ beforeStop (bytes ")*") gives 1
     ∷ []
 
 pub counts-hold : AllGive count-checks
@@ -271,6 +285,7 @@ buffer-checks =
     ∷ throughStop (bytes "MAK*A*") gives bytes "MAK*"
     ∷ throughStop (bytes "MAK") gives bytes "MAK"
     ∷ throughStop (bytes "**") gives bytes "*"
+    ∷ throughStop (bytes ")*A") gives bytes ")*"
     -- a refusal writes nothing
     ∷ bytesOf (given (bytes "MAK")) gives bytes "MAK"
     ∷ bytesOf (refused 15) gives []
