@@ -15,7 +15,8 @@ use Rattle.rules.specs.Reference.{Reference, size}
 use Rattle.rules.specs.Position.{place, isOutside, index, isBefore, isBehind}
 use Rattle.rules.specs.Edit.{Asked, kindOf, startPlace, endPlace, startIndex, endIndex}
 use Rattle.rules.specs.Altered.{Swap, swapBy, swap}
-use Rattle.rules.specs.Refusal.{Limits, refusal}
+use Rattle.rules.specs.declared.Limits.{Limits}
+use Rattle.rules.specs.Refusal.{refusal}
 use Rattle.rules.proofs.Tests.{or-left, or-right}
 use Rattle.rules.proofs.Reference.{Bounds}
 use Rattle.rules.proofs.Refusal.{Allowed, reference-accepted, edit-allowed}
