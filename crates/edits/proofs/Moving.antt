@@ -23,9 +23,9 @@ use Rattle.rules.proofs.Trims.{cp-le-l}
 use Rattle.rules.proofs.Translation.{length-exceptions, first-exceptions}
 use Rattle.rules.proofs.Reference.{Excepts, rising-cons, rising-of, rising-at}
 use Rattle.rules.proofs.Refusal.{reference-accepted}
-use Rattle.rules.proofs.Moved.{movedTo, suffix-fits, front-shared, cds-fits}
+use Rattle.rules.proofs.Moved.{movedTo, suffix-fits, before-cds-shared, cds-fits}
 use Rattle.rules.proofs.Altered.{altered-length, longestAltered, altered-fits}
-use Rattle.edits.specs.Moving.{left, Moves, Given, Shared}
+use Rattle.edits.specs.Moving.{leftOf, Moves, Given, Shared}
 use Rattle.edits.specs.declared.exceptions.Moved.{Moved}
 use Rattle.edits.specs.declared.exceptions.Moved.the-variants.{To, Dropped}
 
@@ -74,7 +74,7 @@ module _ (prefix first : ℕ) (old new : List ℕ) where
       → movedAll prefix first old new (take (i + 1) es) ≡ movedAll prefix first old new (take i es) ++ movedOne prefix first old new (getD es i noException)
   one-more es i h = rw (add-one, take-suc es i noException h) (behind-all (take i es) (getD es i noException))
 
-  module _ (given all : List Exception) (i n : ℕ) (m : Moved) (h : i < length given) (moved : take n all ≡ movedAll prefix first old new (take i given)) (is : left m ≡ movedOne prefix first old new (getD given i noException)) where
+  module _ (given all : List Exception) (i n : ℕ) (m : Moved) (h : i < length given) (moved : take n all ≡ movedAll prefix first old new (take i given)) (is : leftOf m ≡ movedOne prefix first old new (getD given i noException)) where
     pub turn-keeps : (e : Exception) → n < length all → m ≡ To e → take (n + 1) (set all n e) ≡ movedAll prefix first old new (take (i + 1) given)
     turn-keeps e k to = rw (one-more given i h, ← is, to, ← moved, add-one) (take-suc-set all n e k)
 
@@ -112,7 +112,7 @@ module _ (m : Limits) (r : Reference) (a : Asked) (ok : refusal m r a ≡ 0) whe
   unfolding size
   moves-of short =
       record {
-        front = front-shared m r a ok;
+        front = before-cds-shared m r a ok;
         old-short = omega (arith, reference-accepted m r a ok .fits);
         new-short = omega (arith, altered-length m r a ok .is, altered-fits m r a ok);
       }

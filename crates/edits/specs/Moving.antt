@@ -14,9 +14,9 @@ use Rattle.edits.specs.declared.exceptions.Moved.{Moved}
 use Rattle.edits.specs.declared.exceptions.Moved.the-variants.{To, Dropped}
 
 -- what is left of one: itself, moved or not, or nothing
-abbrev pub left : Moved → List Exception
-left (To e) = e ∷ []
-left Dropped = []
+abbrev pub leftOf : Moved → List Exception
+leftOf (To e) = e ∷ []
+leftOf Dropped = []
 
 -- the edit leaves the letters before the CDS, and sums of lengths fit
 pub record Moves (first : ℕ) (old new : List ℕ) : Type 0 where

@@ -9,7 +9,7 @@ ghost use lib.ListN.{length};
 ghost use Rattle.rules.specs.Translation.{exceptionList};
 ghost use Rattle.rules.specs.Trims.{commonPrefix};
 ghost use Rattle.rules.specs.Exceptions.{movedOne, movedAll};
-ghost use Rattle.edits.specs.Moving.{left, Moves, Given, Shared};
+ghost use Rattle.edits.specs.Moving.{leftOf, Moves, Given, Shared};
 
 // What becomes of an exception.
 enum Moved {
@@ -29,7 +29,7 @@ fn moved_one(
     requires { ⌜ Moves first (now old) (now new) ⌝ }
     requires { ⌜ Shared prefix suffix (now old) (now new) ⌝ }
     requires { ⌜ (1 ≤ x .codon) × (first + 3 * x .codon ≤ length (now old)) ⌝ }
-    ensures { λ r. ⌜ left r ≡ movedOne prefix first (now (old .entry)) (now (new .entry)) x ⌝ }
+    ensures { λ r. ⌜ leftOf r ≡ movedOne prefix first (now (old .entry)) (now (new .entry)) x ⌝ }
 {
     let at = first + 3 * (x.codon - 1);
     if at + 3 <= prefix {

@@ -119,23 +119,23 @@ shared-front w s h =
     ∙ rw (length-take-le (w .from) s h) in
     omega arith
 
+-- so is what stands before the CDS
+pub before-cds-shared : (m : Limits) (r : Reference) (e : Asked) → refusal m r e ≡ 0 → r .cs - 1 ≤ commonPrefix (r .letters) (alteredTranscript r e)
+unfolding alteredTranscript cutSwap size
+before-cds-shared m r e h =
+    let w = span m r e h in
+    omega (arith, w .front, shared-front (cutSwap r e) (r .letters) (omega (arith, w .rising, w .ends)))
+
 -- the CDS's codons are within the transcript
 pub cds-fits : (cs ce L : ℕ) → 1 ≤ cs → cs ≤ ce → ce ≤ L → cs - 1 + 3 * ((ce + 1 - cs) / 3) ≤ L
 cds-fits cs ce L h k l = omega arith
-
--- so the letters before the CDS are
-pub front-shared : (m : Limits) (r : Reference) (e : Asked) → refusal m r e ≡ 0 → r .cs - 1 ≤ commonPrefix (r .letters) (alteredTranscript r e)
-unfolding alteredTranscript cutSwap size
-front-shared m r e h =
-    let w = span m r e h in
-    omega (arith, w .front, shared-front (cutSwap r e) (r .letters) (omega (arith, w .rising, w .ends)))
 
 pub moved-rising : (m : Limits) (r : Reference) (e : Asked) → refusal m r e ≡ 0
     → areRising 0 ((length (alteredTranscript r e) - (r .cs - 1)) / 3) (movedExceptions r (alteredTranscript r e)) ≡ true
 unfolding movedExceptions codons cdsSize size
 moved-rising m r e h =
     let a = reference-accepted m r e h in
-    let front = front-shared m r e h in
+    let front = before-cds-shared m r e h in
     rising-all (r .cs - 1) (codons r) (r .letters) (alteredTranscript r e) front
     (cds-fits (r .cs) (r .ce) (length (r .letters)) (a .bounds .first) (a .bounds .rising) (a .bounds .inside))
     0 0 (r .exceptions) (a .exceptions) (record { early = λ k. zero-le; late = omega arith })
