@@ -4,6 +4,7 @@ use codons::complement::complements;
 use codons::letters::is_strict;
 use rules::Written;
 ghost use mathlib.Core.Path.{_≡_};
+ghost use mathlib.Core.Bool.{true};
 ghost use Prim.Native.Nat.{_≤_};
 ghost use lib.ListN.{length};
 ghost use Rattle.rules.specs.Bytes.{all, over};
@@ -25,9 +26,10 @@ pub fn all_strict(seq: &[u8]) -> bool
     good
 }
 
-// Writes the reverse complement, by the table of complements, from the buffer's start.
+// Writes the reverse complement of letters, by the table of complements, from the buffer's start.
 pub fn write_revcomp(seq: &[u8], letters: &[u8; 32], out: &mut [u8])
     requires { ⌜ HoldsComplements (now letters) ⌝ }
+    requires { ⌜ all isLetter (now seq) ≡ true ⌝ }
     requires { ⌜ length (now seq) ≤ length (now out) ⌝ }
     ensures { λ _. ⌜ now (out .exit) ≡ over (reverseComplement (now (seq .entry))) (now (out .entry)) ⌝ }
 {

@@ -26,6 +26,9 @@ returns-2 c =
     let old = c .before .before .before .before .before .args .out .now in
     refuses (complemented s (length old)) 2 old (complement-other s (length old) (c .before .before .if1 .left) (sym (c .before .all-strict .ensures) ∙ not-true _ (c .if2 .taken)))
 
+write-revcomp-requires : tie.Need-write-revcomp-requires
+write-revcomp-requires c κs = (search needs, (sym (c .before .before .before .before .all-strict .ensures) ∙ not-false _ (c .before .before .before .if2 .left), search needs))
+
 returns-3 : tie.Need-returns-3
 returns-3 c =
     let s = c .before .before .before .before .before .before .before .before .before .before .before .args .seq .now in
@@ -42,6 +45,6 @@ revcomp-spec =
     (λ c κs. search needs)
     returns-2
     (λ c κs. search needs)
-    (λ c κs. search needs)
+    write-revcomp-requires
     (λ c. search needs)
     returns-3)

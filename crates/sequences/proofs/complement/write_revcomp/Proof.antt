@@ -5,7 +5,9 @@ use Prim.Native.Nat.{_-_, _≤_}
 use borrow.Author.Needs.{needs}
 use lib.ListN.{length, take, length-set}
 use Rattle.rules.specs.Bytes.{over}
+use Rattle.rules.specs.Letters.{isLetter}
 use Rattle.rules.specs.Complement.{reverseComplement}
+use Rattle.rules.proofs.Lists.{all-at}
 use Rattle.rules.proofs.Over.{overFrom}
 use Rattle.sequences.proofs.complement.Laws.{put-start, put-letter, put-last}
 use Rattle.sequences.proofs.complement.write_revcomp.Statement.{statement}
@@ -23,6 +25,9 @@ abbrev μ-loop : tie.MeasureT-loop
 
 loop-holds : tie.Need-loop-holds Inv-loop μ-loop
 loop-holds c = (search needs, refl, refl, put-start (c .before .before .args .seq .now) (c .before .before .args .out .now))
+
+complement-of-requires : tie.Need-complement-of-requires Inv-loop μ-loop
+complement-of-requires c κs = (c .before .before .before .before .before .pre .0, all-at isLetter (c .before .before .before .before .before .args .seq .now) (length (c .before .before .before .before .before .args .seq .now) - 1 - c .before .before .loop .i) (c .before .before .before .before .before .pre .1 .0) (search needs))
 
 loop-again : tie.Need-loop-again Inv-loop μ-loop
 loop-again c =
@@ -48,7 +53,7 @@ write-revcomp-spec =
     (λ c. search needs)
     (λ c. search needs)
     (λ c. search needs)
-    (λ c κs. search needs)
+    complement-of-requires
     (λ c. search needs)
     (λ c. search needs)
     (λ c. search needs)
