@@ -1,18 +1,26 @@
 -- Laws of a part of a list.
 -- Assumes nothing.
 use mathlib.Core.Path.{_≡_, _∙_}
+use mathlib.Core.Bool.{true}
 use mathlib.Core.List.{List, _++_}
 use Prim.Native.Nat.{ℕ, _+_, _-_, _≤_}
 use native.Mathlib.Omega.{arith}
 use lib.ListN.{length, take, drop, length-drop}
 use lib.Seq.{length-take-le, take-take, take-add, drop-drop, take-at}
+use Rattle.rules.specs.Bytes.{all}
+use Rattle.rules.specs.Letters.{isLetter}
 use Rattle.rules.specs.Complement.{reverseComplement}
 use Rattle.rules.specs.Altered.{part}
+use Rattle.rules.proofs.Tests.{all-take, all-drop}
 use Rattle.rules.proofs.Complement.{length-complement, complement-append}
 
 pub length-part : (start end : ℕ) (s : List ℕ) → end ≤ length s → length (part start end s) ≡ end - start
 unfolding part
 length-part start end s h = length-take-le (end - start) (drop start s) (rw length-drop (omega arith))
+
+pub letters-part : (start end : ℕ) (s : List ℕ) → all isLetter s ≡ true → all isLetter (part start end s) ≡ true
+unfolding part
+letters-part start end s h = all-take isLetter (end - start) (drop start s) (all-drop isLetter start s h)
 
 -- two parts in a row
 pub part-split : (start mid end : ℕ) (s : List ℕ) → start ≤ mid → mid ≤ end → part start end s ≡ part start mid s ++ part mid end s
