@@ -1,2 +1,3 @@
--- What several of this crate's proofs cite.
+-- Laws that this crate's proofs and the crates above cite.
 pub mod Tests
+pub mod Moving

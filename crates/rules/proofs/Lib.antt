@@ -6,6 +6,7 @@ pub mod Trims
 pub mod Tests
 pub mod Translation
 pub mod Complement
+pub mod Parts
 pub mod Reference
 pub mod Refusal
 pub mod Span
