@@ -2,7 +2,8 @@
 use hgvs::calls::cut_at_first_stop;
 use hgvs::data::interface::TranslationException;
 use hgvs::mapper::altseq::harness::{self, Given, Kind, Letters, Position};
-use hgvs::mapper::altseq::{AltSeqBuilder, RefTranscriptData};
+use hgvs::mapper::altseq::{AltSeqBuilder, AltTranscriptData, RefTranscriptData};
+use hgvs::mapper::error::Error;
 use hgvs::parser::{HgvsVariant, Mu, ProtLocEdit, ProteinEdit};
 use hgvs::sequences;
 use std::fmt::Debug;
@@ -105,10 +106,19 @@ fn form(variant: Result<HgvsVariant, impl Debug>) -> String {
 fn answer(reference: &RefTranscriptData, line: &str) -> String {
     let Some(variant) = edit(line) else { return "error=line".to_string() };
     let builder = AltSeqBuilder::new(variant, reference);
+    let told = |result: Result<AltTranscriptData, Error>| match result {
+        Ok(alt) => shown(&alt.aa_sequence).to_string(),
+        Err(error) => format!("error:{}", named(&error)),
+    };
+    let until = told(harness::altered(&builder, true));
     let alt = match harness::altered(&builder, false) {
         Ok(alt) => alt,
-        Err(error) => return format!("error={}", named(&error)),
+        Err(error) => {
+            let until = if until == format!("error:{}", named(&error)) { "same" } else { &until };
+            return format!("error={} until={until}", named(&error));
+        }
     };
+    let until = if until == shown(&alt.aa_sequence) { "same" } else { &until };
     let cut = match harness::stop_cut(&builder) {
         Ok(Some(kept)) => kept.to_string(),
         Ok(None) => "-".to_string(),
@@ -116,16 +126,13 @@ fn answer(reference: &RefTranscriptData, line: &str) -> String {
     };
     let moved: Vec<String> =
         harness::moved(&builder, &alt.transcript_sequence).iter().map(|(codon, residue)| format!("{codon}={residue}")).collect();
-    let until = match harness::altered(&builder, true) {
-        Ok(until) if until.aa_sequence == alt.aa_sequence && until.transcript_sequence == alt.transcript_sequence => "same".to_string(),
-        Ok(until) => shown(&until.aa_sequence).to_string(),
-        Err(error) => format!("error:{}", named(&error)),
-    };
+    let region = builder.variant_location().map_or_else(|error| format!("error:{}", named(&error)), |region| format!("{region:?}"));
     let mut line = format!(
-        "transcript={} flag={} unknown={} cut={cut} moved={} until={until}",
+        "region={region} transcript={} flag={} unknown={} start={} cut={cut} moved={} until={until}",
         shown(&alt.transcript_sequence),
         alt.is_frameshift as u8,
         alt.is_ambiguous as u8,
+        alt.variant_start_aa.unwrap_or(0),
         shown(&moved.join(","))
     );
     let mut first = alt.clone();
