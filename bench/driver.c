@@ -1,5 +1,5 @@
-/* Times the module (with -DOURS), the Rust and plain C in one process, by turns, and prints the best of many rounds. Before anything is timed the
- * answers are held to each other. */
+/* Times the module (with -DOURS), the Rust and plain C in one process, by turns, and prints the best of many rounds. All is timed in several passes, so that
+ * no row has its whole time while something else runs. Before anything is timed the answers are held to each other. */
 #include "baseline.h"
 #include "ours.h"
 #include "oracle.h"
@@ -8,7 +8,7 @@
 #include <string.h>
 #include <time.h>
 
-enum { ROUNDS = 1000, SAMPLE_NS = 20000, MOST = 20000, CALLS = 5 };
+enum { PASSES = 10, ROUNDS = 100, SAMPLE_NS = 20000, MOST = 20000, CALLS = 5, ROWS = 32 };
 
 static double now(void)
 {
@@ -153,12 +153,15 @@ enum { TIMES = 1 };
 
 typedef void (*call)(void);
 
-/* The best time of each call, taken by turns; 0 for a call that isn't there. */
-static void best_of(const call *calls, int count, double *best)
+static double kept[ROWS][CALLS];
+static int pass, at;
+
+/* The best time of each call so far, taken by turns; 0 for a call that isn't there. */
+static const double *best_of(const call *calls, int count)
 {
+    double *best = kept[at++];
     int often[CALLS];
     for (int k = 0; k < count; k++) {
-        best[k] = 0;
         if (!calls[k])
             continue;
         calls[k]();
@@ -178,6 +181,7 @@ static void best_of(const call *calls, int count, double *best)
             if (best[k] == 0 || t < best[k])
                 best[k] = t;
         }
+    return best;
 }
 
 static void cell(double ns)
@@ -198,6 +202,8 @@ static void ratio(double a, double b)
 
 static void head(const char *what)
 {
+    if (pass < PASSES)
+        return;
     printf("\n%-38s%10s%10s%10s%10s%10s%10s%10s\n", what, "ours", "Rust", "Rust u.s.", "C", "Rust/ours", "C/ours", "Rust/C");
 }
 
@@ -205,6 +211,8 @@ static void head(const char *what)
 static void row(const char *what, double ours, double rust, double until, double c)
 {
     double faster = until > 0 && until < rust ? until : rust;
+    if (pass < PASSES)
+        return;
     printf("%-38s", what);
     cell(ours);
     cell(rust);
@@ -325,12 +333,11 @@ static double inner(double once, double more)
 static void translations(uint64_t len, int strewn)
 {
     char what[64];
-    double best[CALLS];
     make_letters(len);
     if (strewn)
         strew(len);
     check_translation();
-    best_of((call[]){ours_translate, rust_translate, c_translate, ours_inner_once, ours_inner_more}, 5, best);
+    const double *best = best_of((call[]){ours_translate, rust_translate, c_translate, ours_inner_once, ours_inner_more}, 5);
     snprintf(what, sizeof what, "%lu %s", (unsigned long)len, strewn ? "with ambiguous letters" : "plain");
     row(what, best[0], best[1], 0, best[2]);
 #ifdef OURS
@@ -340,7 +347,6 @@ static void translations(uint64_t len, int strewn)
 
 static void prefixes(uint64_t len)
 {
-    double best[CALLS];
     make_letters(len);
     memcpy(other, letters, len);
     if (oracle_prefix(letters, len, other, len) != len || base_prefix(letters, len, other, len) != len)
@@ -349,7 +355,7 @@ static void prefixes(uint64_t len)
     if (bench_prefix(letters, len, other, len) != len)
         fail("prefix, ours");
 #endif
-    best_of((call[]){ours_prefix, rust_prefix, c_prefix}, 3, best);
+    const double *best = best_of((call[]){ours_prefix, rust_prefix, c_prefix}, 3);
     row("prefix of two equal strings, 16384", best[0], best[1], 0, best[2]);
 }
 
@@ -362,16 +368,15 @@ static void edits(uint64_t len)
     } kinds[] = {{"substitution", 1, 0}, {"deletion of one", 2, 0}, {"duplication of three", 5, 2}};
     for (unsigned k = 0; k < 3; k++) {
         char what[64];
-        double best[CALLS];
         make_reference(len);
         int64_t middle = (int64_t)(ref.ce - ref.cs + 1) / 6 * 3 + 2;   /* the second base of a codon */
         const char *base = letters[ref.cs - 1 + middle - 1] == 'C' ? "G" : "C";
         make_edit(kinds[k].kind, middle, middle + kinds[k].more, kinds[k].kind == 1 ? base : "");
         check_edit();
-        best_of((call[]){ours_anew, rust_anew, rust_anew_until, c_anew}, 4, best);
+        const double *best = best_of((call[]){ours_anew, rust_anew, rust_anew_until, c_anew}, 4);
         snprintf(what, sizeof what, "%lu %s", (unsigned long)len, kinds[k].name);
         row(what, best[0], best[1], best[2], best[3]);
-        best_of((call[]){ours_known_once, rust_known, rust_known_until, c_known, ours_known_more}, 5, best);
+        best = best_of((call[]){ours_known_once, rust_known, rust_known_until, c_known, ours_known_more}, 5);
         row("  reference known", inner(best[0], best[4]), best[1], best[2], best[3]);
         oracle_edit_free(rust_edit);
         oracle_reference_free(rust_ref);
@@ -382,15 +387,18 @@ int main(void)
 {
     static const uint64_t lengths[] = {16384, 3000, 30};
     base_init();
-    printf("nanoseconds a call, the best of %d rounds; u.s. is until_stop; a ratio above 1 says that the first is slower\n", ROUNDS);
-    head("translation");
-    for (int strewn = 0; strewn < 2; strewn++)
-        for (int k = 0; k < 3; k++)
-            translations(lengths[k], strewn);
-    head("common prefix");
-    prefixes(16384);
-    head("edits with their record");
-    edits(3000);
-    edits(16384);
+    printf("nanoseconds a call, the best of %d rounds; u.s. is until_stop; a ratio above 1 says that the first is slower\n", PASSES * ROUNDS);
+    for (pass = 1; pass <= PASSES; pass++) {
+        at = 0;
+        head("translation");
+        for (int strewn = 0; strewn < 2; strewn++)
+            for (int k = 0; k < 3; k++)
+                translations(lengths[k], strewn);
+        head("common prefix");
+        prefixes(16384);
+        head("edits with their record");
+        edits(3000);
+        edits(16384);
+    }
     return 0;
 }
