@@ -197,8 +197,9 @@ fn plain(words: &[&str]) -> Option<String> {
 
 fn main() {
     std::panic::set_hook(Box::new(|info| {
-        let words = info.payload_as_str().unwrap_or("");
-        *PANIC.lock().unwrap() = words.to_string();
+        let words = info.payload();
+        let words = words.downcast_ref::<String>().cloned().or(words.downcast_ref::<&str>().map(|words| words.to_string()));
+        *PANIC.lock().unwrap() = words.unwrap_or_default();
     }));
     let mut out = BufWriter::new(std::io::stdout().lock());
     let mut last = String::new();
