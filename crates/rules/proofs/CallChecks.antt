@@ -80,6 +80,9 @@ two-stops = ref 1 9 0 "ATGAAATAA" (exc 2 "*" ∷ [])
 abbrev pub repeated : Reference
 repeated = ref 1 12 0 "ATGAAAAAATAA" (exc 2 "U" ∷ [])
 
+abbrev pub two-ways : Reference
+two-ways = ref 1 9 0 "ATGAAACCC" (exc 3 "*" ∷ [])
+
 -- an edit of a reference, with so much room for each buffer
 abbrev pub call-by : Option Asked → Reference → Room → Outcome
 call-by none r m = refuses 30
@@ -184,6 +187,10 @@ call-checks =
     ∷ call repeated "3_4insAAA" enough gives writes (changed Duplication 4 3 0 3 1 3) false "ATGAAAAAAAAATAA" "MUK*" "MUKK*"
     ∷ call repeated "9_10insC" enough gives writes (changed Extension 4 3 1 3 2 0) true "ATGAAAAAACTAA" "MUK*" "MUKLX"
     ∷ call repeated "7_8insAAA" enough gives writes (changed Duplication 4 3 0 3 1 3) false "ATGAAAAAAAAATAA" "MUK*" "MUKK*"
+    -- the stop cut reads the new bases without them
+    ∷ call full "12_13insTGACC" enough gives writes (changed StopGained 5 4 1 4 0 0) false "GGATGAAACCCTTTTGAGGGTAACC" "VUPOW*" "VUPO*"
+    ∷ call full "9_10insAAATGACC" enough gives writes (changed Delins 4 3 2 3 1 0) false "GGATGAAACCCAAATGATTTGGGTAACC" "VUPOW*" "VUPK*"
+    ∷ call two-ways "3_4insAAAAAAAAAC" enough gives writes (changed Extension 3 2 1 2 5 0) true "ATGAAAAAAAAACAAACCC" "MK*" "MKKKQTX"
     -- wholly in the suffix moved in frame, else dropped; behind two or three bases before the CDS too
     ∷ call later "4_6del" enough gives writes (changed Deletion 2 1 1 1 0 0) false "CCCATGTGATAACG" "MKU*" "MU*"
     ∷ call later "3_4insCCC" enough gives writes (changed Insertion 2 1 0 1 1 0) false "CCCATGCCCAAATGATAACG" "MKU*" "MPKU*"

@@ -624,6 +624,7 @@ first-lines =
     ∷ "ref 0 6 0 ATGUAA" ▷ "refused 2"
     -- 3
     ∷ "ref 0 6 0 ATGTAA" ▷ "refused 3"
+    ∷ "ref 0 5 0 ATGTAA" ▷ "refused 3"
     ∷ "ref 1 5 0 ATGTAA" ▷ "refused 3"
     ∷ "ref 1 4 0 ATGTAA" ▷ "refused 3"
     ∷ "ref 1 7 0 ATGTAAC" ▷ "refused 3"
@@ -678,6 +679,7 @@ first-lines =
     ∷ "ref 1 6  0 ATGTAA" ▷ "refused 30"
     ∷ "ref 1 6 0 ATGTAA " ▷ "refused 30"
     ∷ "ref 1 6 0 ATG TAA" ▷ "refused 30"
+    ∷ "ref\t1 6 0 ATGTAA" ▷ "refused 30"
     ∷ "ref 1\t6 0 ATGTAA" ▷ "refused 30"
     ∷ "ref 1 6 0 ATGTAA\r" ▷ "refused 30"
     ∷ "ref 1 6 ATGTAA" ▷ "refused 30"
