@@ -1,7 +1,7 @@
--- A table that lists a rule holds it: proved once, for whichever table. Assumes nothing.
+-- A table that lists a rule holds it, and two rules that list alike agree: proved once, for whichever table. Assumes nothing.
 use mathlib.Core.List.{List, [], _∷_}
 use mathlib.Core.Bool.{Bool, true, false}
-use mathlib.Core.Path.{_≡_, refl, ap, _∙_}
+use mathlib.Core.Path.{_≡_, refl, sym, ap, _∙_}
 use Prim.Native.Nat.{ℕ, zero, suc, _+_, _*_, _/_, _%_, _<_}
 use native.Mathlib.Nat.{zero-add, add-zero, le-of-suc-le-suc, not-suc-le-zero}
 use native.Mathlib.Omega.{arith}
@@ -12,14 +12,21 @@ use Rattle.rules.specs.Codons.{codonRule}
 use Rattle.codons.specs.Tables.{HoldsCode, HoldsPlain, HoldsSets, baseSet}
 
 -- f at i, i + 1 and so on: n of them
-abbrev pub listed : (ℕ → ℕ) → ℕ → ℕ → List ℕ
+abbrev pub listed : {A : Type 0} → (ℕ → A) → ℕ → ℕ → List A
 listed f i zero = []
 listed f i (suc n) = f i ∷ listed f (suc i) n
 
-pub listed-at : (f : ℕ → ℕ) (i n k : ℕ) → k < n → getD (listed f i n) k 0 ≡ f (i + k)
-listed-at f i zero k h = absurd (not-suc-le-zero h)
-listed-at f i (suc n) zero h = rw add-zero
-listed-at f i (suc n) (suc k) h = listed-at f (suc i) n k (le-of-suc-le-suc h) ∙ ap f (omega arith)
+listed-from : {A : Type 0} (d : A) (f : ℕ → A) (i n k : ℕ) → k < n → getD (listed f i n) k d ≡ f (i + k)
+listed-from d f i zero k h = absurd (not-suc-le-zero h)
+listed-from d f i (suc n) zero h = rw add-zero
+listed-from d f i (suc n) (suc k) h = listed-from d f (suc i) n k (le-of-suc-le-suc h) ∙ ap f (omega arith)
+
+pub listed-at : {A : Type 0} (d : A) (f : ℕ → A) (n k : ℕ) → k < n → getD (listed f 0 n) k d ≡ f k
+listed-at d f n k h = listed-from d f 0 n k h ∙ ap f (zero-add k)
+
+-- two rules that antt computes alike for all bytes
+pub at-byte : {A : Type 0} (d : A) (f g : ℕ → A) → listed f 0 256 ≡ listed g 0 256 → (b : ℕ) → b < 256 → f b ≡ g b
+at-byte d f g e b h = sym (listed-at d f 256 b h) ∙ ap (λ (xs : List _). getD xs b d) e ∙ listed-at d g 256 b h
 
 -- the codon rule at the place k of table t
 unfoldable pub ruleAt : ℕ → ℕ → ℕ
@@ -33,7 +40,7 @@ code-entry t table is a b c ha hb hc =
     let ea : k / 256 ≡ a = omega arith in
     let eb : k / 16 % 16 ≡ b = omega arith in
     let ec : k % 16 ≡ c = omega arith in
-    rw is (rw (zero-add, ea, eb, ec) at (listed-at (ruleAt t) 0 4096 k (omega arith)))
+    rw is (rw (ea, eb, ec) at (listed-at 0 (ruleAt t) 4096 k (omega arith)))
 
 pub holds-code : (t table : ℕ) → table ≡ t → HoldsCode table (listed (ruleAt t) 0 4096)
 holds-code t table is = record { entry = code-entry t table is }
@@ -50,7 +57,7 @@ plain-entry t table is a b c ha hb hc =
     let ea : k / 16 ≡ a = omega arith in
     let eb : k / 4 % 4 ≡ b = omega arith in
     let ec : k % 4 ≡ c = omega arith in
-    rw is (rw (zero-add, ea, eb, ec) at (listed-at (plainAt t) 0 64 k (omega arith)))
+    rw is (rw (ea, eb, ec) at (listed-at 0 (plainAt t) 64 k (omega arith)))
 
 pub holds-plain : (t table : ℕ) → table ≡ t → HoldsPlain table (listed (plainAt t) 0 64)
 holds-plain t table is = record { entry = plain-entry t table is }
@@ -72,4 +79,4 @@ small-at (x ∷ xs) (suc k) e = small-at xs k (small-case (ltb x 16) (allSmall x
 -- whichever reading of letters is listed
 pub holds-sets : (read : ℕ → ℕ) → allSmall (listed read 0 256) ≡ true → HoldsSets read (listed read 0 256)
 holds-sets read e =
-    record { entry = λ b h. listed-at read 0 256 b h ∙ ap read (zero-add b); small = λ b h. small-at (listed read 0 256) b e }
+    record { entry = λ b h. listed-at 0 read 256 b h; small = λ b h. small-at (listed read 0 256) b e }

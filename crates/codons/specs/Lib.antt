@@ -1,2 +1,3 @@
--- What the crate's tables hold, and the words of its recursive reader, over the definitions of `rules`.
+-- What the crate's tables hold, and what its reader expands and joins, over the definitions of `rules`.
 pub mod Tables
+pub mod Expansion

@@ -1,8 +1,91 @@
-// The letter set of each byte.
+// The two readings of letters: plain translation takes either case, and U as T; transcripts and edits take the fifteen upper-case letters alone.
 ghost use mathlib.Core.Path.{_≡_};
 ghost use Prim.Native.Nat.{_<_};
-ghost use Rattle.rules.specs.Letters.{letterSet};
-ghost use Rattle.codons.specs.Tables.{HoldsSets, plainSet};
+ghost use Rattle.rules.specs.Letters.{letterSet, isLetter, upper, plainLetter};
+ghost use Rattle.codons.specs.Tables.{HoldsSets, plainSet, isBase};
+
+// The set of an upper-case letter, and 0 of any other byte.
+pub fn letter_set(b: u8) -> usize
+    ensures { λ r. ⌜ r ≡ letterSet b ⌝ }
+    ensures small { λ r. ⌜ r < 16 ⌝ }
+{
+    match b {
+        b'A' => 1,
+        b'C' => 2,
+        b'G' => 4,
+        b'T' => 8,
+        b'R' => 5,
+        b'Y' => 10,
+        b'S' => 6,
+        b'W' => 9,
+        b'K' => 12,
+        b'M' => 3,
+        b'B' => 14,
+        b'D' => 13,
+        b'H' => 11,
+        b'V' => 7,
+        b'N' => 15,
+        _ => 0,
+    }
+}
+
+// A byte a to z in upper case, and any other byte itself.
+pub fn upper(b: u8) -> u8
+    ensures { λ r. ⌜ r ≡ upper b ⌝ }
+{
+    match b {
+        b'a'..=b'z' => b - 32,
+        _ => b,
+    }
+}
+
+// The letter that plain translation takes a byte for.
+pub fn plain_letter(b: u8) -> u8
+    ensures { λ r. ⌜ r ≡ plainLetter b ⌝ }
+{
+    match upper(b) {
+        b'U' => b'T',
+        u => u,
+    }
+}
+
+// The set of a byte in plain translation, and 0 of a byte that it refuses.
+pub fn plain_set_of(b: u8) -> usize
+    ensures { λ r. ⌜ r ≡ plainSet b ⌝ }
+    ensures small { λ r. ⌜ r < 16 ⌝ }
+{
+    letter_set(plain_letter(b))
+}
+
+// The tests below have no table and no branch, so that a loop of one goes many bytes at a time.
+
+// Whether plain translation takes a byte: A to D, G, H, K, M, N, R to W, Y, of either case.
+pub fn is_letter(b: u8) -> bool
+    ensures { λ r. ⌜ r ≡ isLetter (plainLetter b) ⌝ }
+{
+    let u = b % 32;
+    let a = (1 <= u) & (u <= 4);
+    let g = (7 <= u) & (u <= 8);
+    let m = (13 <= u) & (u <= 14);
+    let r = (18 <= u) & (u <= 23);
+    (b / 64 == 1) & (a | g | m | r | (u == 11) | (u == 25))
+}
+
+// Whether plain translation takes a byte for one base: A, C, G, T, U, of either case.
+pub fn is_base(b: u8) -> bool
+    ensures { λ r. ⌜ r ≡ isBase b ⌝ }
+{
+    let u = b % 32;
+    let t = (20 <= u) & (u <= 21);
+    (b / 64 == 1) & ((u == 1) | (u == 3) | (u == 7) | t)
+}
+
+// Whether transcripts and edits take a byte: an upper-case letter of plain translation, but not U.
+pub fn is_strict(b: u8) -> bool
+    ensures { λ r. ⌜ r ≡ isLetter b ⌝ }
+{
+    (b / 32 == 2) & (b != b'U') & is_letter(b)
+}
 
 // The sets of all bytes in plain translation.
 pub fn plain_sets() -> [u8; 256]
@@ -40,9 +123,7 @@ pub fn strict_set(sets: &[u8; 256], b: u8) -> usize
     x as usize
 }
 
-// The letter set of each byte, sixteen bytes a line; 0 of a byte that is no letter.
-
-// Plain translation: either case, and U as T.
+// The set of each byte, sixteen bytes a line: in plain translation, then in transcripts and edits.
 const PLAIN: [u8; 256] = *b"\
     \x00\x00\x00\x00\x00\x00\x00\x00\x00\x00\x00\x00\x00\x00\x00\x00\
     \x00\x00\x00\x00\x00\x00\x00\x00\x00\x00\x00\x00\x00\x00\x00\x00\
@@ -61,7 +142,6 @@ const PLAIN: [u8; 256] = *b"\
     \x00\x00\x00\x00\x00\x00\x00\x00\x00\x00\x00\x00\x00\x00\x00\x00\
     \x00\x00\x00\x00\x00\x00\x00\x00\x00\x00\x00\x00\x00\x00\x00\x00";
 
-// The fifteen upper-case letters.
 const STRICT: [u8; 256] = *b"\
     \x00\x00\x00\x00\x00\x00\x00\x00\x00\x00\x00\x00\x00\x00\x00\x00\
     \x00\x00\x00\x00\x00\x00\x00\x00\x00\x00\x00\x00\x00\x00\x00\x00\
