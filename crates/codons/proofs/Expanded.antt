@@ -1,7 +1,7 @@
 -- Laws of `specs/Expansion.antt`, for the turns of the plain codon reader. Assumes nothing.
 use mathlib.Core.List.{List, [], _∷_, _++_}
 use mathlib.Core.Bool.{Bool, true, false}
-use mathlib.Core.Path.{_≡_, refl}
+use mathlib.Core.Path.{_≡_, refl, sym, _∙_}
 use Prim.Native.Nat.{ℕ, zero, suc, _+_, _-_, _*_, _/_, _%_, _<_, _≤_}
 use native.Mathlib.Nat.{suc-sub-suc, le-of-suc-le-suc, not-suc-le-zero}
 use native.Mathlib.Numerals.{add-one, sub-one}
@@ -53,16 +53,17 @@ joined-append found (x ∷ xs) ys = joined-append (joined found x) xs ys
 one-less : (i : ℕ) → i < 4 → 4 - i ≡ suc (4 - suc i)
 one-less i h = omega arith
 
--- a turn at a base that the set has, and at one that it has not
-pub turn-in : (s i found : ℕ) (f : ℕ → List ℕ) → i < 4 → s / bitOf i % 2 ≡ 1
-    → joinedAll found (forEach (basesFrom s i (4 - i)) f) ≡ joinedAll (joinedAll found (f i)) (forEach (basesFrom s (i + 1) (4 - (i + 1))) f)
-turn-in s i found f h e = rw (add-one, one-less i h, e) (joined-append found (f i) (forEach (basesFrom s (suc i) (4 - suc i)) f))
+-- a turn at a base that the set has, and at one that it has not: what is left gives the whole
+pub turn-in : (s i found whole : ℕ) (f : ℕ → List ℕ) → i < 4 → s / bitOf i % 2 ≡ 1 → joinedAll found (forEach (basesFrom s i (4 - i)) f) ≡ whole
+    → joinedAll (joinedAll found (f i)) (forEach (basesFrom s (i + 1) (4 - (i + 1))) f) ≡ whole
+turn-in s i found whole f h e is =
+    rw add-one (sym (joined-append found (f i) (forEach (basesFrom s (suc i) (4 - suc i)) f)) ∙ (rw (one-less i h, e) at is))
 
-pub turn-out : (s i found : ℕ) (f : ℕ → List ℕ) → i < 4 → (s / bitOf i % 2 ≡ 1 → ⊥)
-    → joinedAll found (forEach (basesFrom s i (4 - i)) f) ≡ joinedAll found (forEach (basesFrom s (i + 1) (4 - (i + 1))) f)
-turn-out s i found f h n =
+pub turn-out : (s i found whole : ℕ) (f : ℕ → List ℕ) → i < 4 → (s / bitOf i % 2 ≡ 1 → ⊥) → joinedAll found (forEach (basesFrom s i (4 - i)) f) ≡ whole
+    → joinedAll found (forEach (basesFrom s (i + 1) (4 - (i + 1))) f) ≡ whole
+turn-out s i found whole f h n is =
     let e : s / bitOf i % 2 ≡ 0 = omega (arith, n) in
-    rw (add-one, one-less i h, e)
+    rw add-one (rw (one-less i h, e) at is)
 
 -- no base has the bit 0
 pub bit-some : (i : ℕ) → i < 4 → 0 < bitOf i

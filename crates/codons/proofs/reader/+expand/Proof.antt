@@ -86,8 +86,8 @@ expand-loop-again t c =
     let rest : ℕ → List ℕ = λ i. expanded (at-start .left - 1) (at-start .table) (at-start .t2) (at-start .place * 4 + i) in (
       search needs,
       ⊎-elim
-          (λ w. rw (w .2 ∙ w .1 .ensures) (sym (turn-in letter (at-loop .loop .base) (at-loop .loop .all) rest (c .before .loop-test .taken) (w .0 .taken)) ∙ at-loop .loop .inv .1))
-          (λ w. rw (w .1) (sym (turn-out letter (at-loop .loop .base) (at-loop .loop .all) rest (c .before .loop-test .taken) (w .0 .left)) ∙ at-loop .loop .inv .1))
+          (λ w. rw (w .2, w .1 .ensures) (turn-in letter (at-loop .loop .base) (at-loop .loop .all) _ rest (c .before .loop-test .taken) (w .0 .taken) (at-loop .loop .inv .1)))
+          (λ w. rw (w .1) (turn-out letter (at-loop .loop .base) (at-loop .loop .all) _ rest (c .before .loop-test .taken) (w .0 .left) (at-loop .loop .inv .1)))
           (c .if2 .came),
     )
 
