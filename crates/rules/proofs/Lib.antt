@@ -3,4 +3,5 @@ pub mod Lists
 pub mod Over
 pub mod Fills
 pub mod Trims
+pub mod Translation
 pub mod Thirteen

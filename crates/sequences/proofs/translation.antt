@@ -1,0 +1,2 @@
+-- Laws of translation by loops.
+pub mod Blocks
