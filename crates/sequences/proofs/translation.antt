@@ -1,3 +1,4 @@
 -- Laws of translation by loops.
 pub mod Blocks
 pub mod Residues
+pub mod Places

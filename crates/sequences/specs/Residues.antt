@@ -1,14 +1,16 @@
 -- Codons by index, exceptions put over residues, plain codons by the numbers of their letters, and what a walk to the first stop leaves.
 use Prim.Native.Nat.{ℕ, zero, suc, _+_, _*_, _/_, _%_, _<_, _≤_}
 use mathlib.Core.Path.{_≡_}
+use mathlib.Core.Bool.{Bool}
 use mathlib.Core.List.{List, [], _∷_}
 use lib.ListN.{length, getD}
 use Rattle.rules.specs.declared.Exception.{Exception}
-use Rattle.rules.specs.Bytes.{over}
+use Rattle.rules.specs.Bytes.{all, over}
 use Rattle.rules.specs.Codons.{codon}
-use Rattle.rules.specs.Translation.{excepted}
+use Rattle.rules.specs.Translation.{excepted, wholeCodons}
 use Rattle.rules.proofs.Over.{overFrom}
 use Rattle.rules.proofs.Translation.{restOf}
+use Rattle.codons.specs.Tables.{isBase}
 
 -- the residue of codon i, counted from 0, of a list of letters
 unfoldable pub codonAt : ℕ → List ℕ → ℕ → ℕ
@@ -26,6 +28,10 @@ numberOf b = b / 2 % 4
 -- where the residue of plain codon i stands among the 64
 unfoldable pub placeAt : List ℕ → ℕ → ℕ
 placeAt s i = numberOf (getD s (i * 3) 0) * 16 + numberOf (getD s (i * 3 + 1) 0) * 4 + numberOf (getD s (i * 3 + 2) 0)
+
+-- each byte of the whole codons is a base of plain translation
+unfoldable pub areBases : List ℕ → Bool
+areBases s = all isBase (wholeCodons s)
 
 -- four bytes from place k on as one number, the first lowest, and eight
 abbrev pub fourAt : List ℕ → ℕ → ℕ

@@ -14,9 +14,9 @@ use Rattle.rules.specs.Translation.{excepted, residuesFrom, translated, residue
 use Rattle.rules.proofs.Lists.{all-at, all-map}
 use Rattle.rules.proofs.Over.{overFrom, from-end, from-turn}
 use Rattle.rules.proofs.Translation.{restOf, residues-more, residues-rest, length-residues, length-whole}
-use Rattle.codons.specs.Tables.{plainSet}
+use Rattle.codons.specs.Tables.{plainSet, isBase}
 use Rattle.codons.proofs.Sets.{plain-some}
-use Rattle.sequences.specs.Residues.{codonAt}
+use Rattle.sequences.specs.Residues.{codonAt, areBases}
 
 pub plain-at : (s : List ℕ) (k : ℕ) → getD (map plainLetter s) k 0 ≡ plainLetter (getD s k 0)
 unfolding upper plainLetter
@@ -26,14 +26,21 @@ pub codon-sets : (t : ℕ) (s : List ℕ) (i : ℕ) → codonAt t (map plainLett
 unfolding codonAt codon plainSet
 codon-sets t s i = rw (plain-at s (i * 3), plain-at s (i * 3 + 1), plain-at s (i * 3 + 2))
 
--- a byte of a whole codon is a letter
-pub letter-at : (s : List ℕ) (k : ℕ) → areLetters s ≡ true → k < length s / 3 * 3 → isLetter (plainLetter (getD s k 0)) ≡ true
-unfolding areLetters wholeCodons
-letter-at s k e h =
+-- a byte of a whole codon passes what all of them pass
+whole-at : (p : ℕ → Bool) (s : List ℕ) (k : ℕ) → all p (wholeCodons s) ≡ true → k < length s / 3 * 3 → p (getD s k 0) ≡ true
+unfolding wholeCodons
+whole-at p s k e h =
     let n : ℕ = length s - length s % 3 in
     let long : length (take n s) ≡ n = length-take-le n s (omega arith) in
-    let e′ : all (λ b. isLetter (plainLetter b)) (take n s) ≡ true = sym (all-map isLetter plainLetter (take n s)) ∙ e in
-    ap (λ (b : ℕ). isLetter (plainLetter b)) (sym (getD-take n s k 0 (omega arith))) ∙ all-at (λ b. isLetter (plainLetter b)) (take n s) k e′ (omega arith)
+    ap p (sym (getD-take n s k 0 (omega arith))) ∙ all-at p (take n s) k e (omega arith)
+
+pub letter-at : (s : List ℕ) (k : ℕ) → areLetters s ≡ true → k < length s / 3 * 3 → isLetter (plainLetter (getD s k 0)) ≡ true
+unfolding areLetters
+letter-at s k e h = whole-at (λ b. isLetter (plainLetter b)) s k (sym (all-map isLetter plainLetter (wholeCodons s)) ∙ e) h
+
+pub base-at : (s : List ℕ) (k : ℕ) → areBases s ≡ true → k < length s / 3 * 3 → isBase (getD s k 0) ≡ true
+unfolding areBases
+base-at s k e h = whole-at isBase s k e h
 
 -- what is read there is a set that isn't empty
 pub set-there : (s : List ℕ) (k : ℕ) {r : ℕ} → areLetters s ≡ true → k < length s / 3 * 3 → (r ≡ plainSet (getD s k 0)) × (r < 16) → (0 < r) × (r < 16)
