@@ -2,18 +2,18 @@
 -- Assumes nothing.
 use mathlib.Core.Path.{_≡_, refl, sym, ap, _∙_}
 use mathlib.Core.Bool.{Bool, true, false}
-use mathlib.Core.List.{List, [], _∷_, _++_, map, append-nil}
+use mathlib.Core.List.{List, [], _∷_, _++_}
 use Prim.Native.Nat.{ℕ, zero, suc, _+_, _-_, _*_, _/_, _%_, _≤_, _<_}
-use native.Mathlib.Numerals.{add-one}
 use native.Mathlib.Omega.{arith}
 use lib.Dec.{eqb}
-use lib.ListN.{length, getD, take, drop, length-append, length-drop, length-map, take-append-drop}
-use lib.Seq.{drop-cons, length-take-le}
+use lib.ListN.{length, getD, take, drop, replicate, length-append, length-take, length-drop, length-replicate, take-append-drop}
+use lib.Seq.{drop-cons, length-take-le, take-append-le}
 use borrow.Author.Tests.{eq-eqb, ne-eqb}
 use Rattle.rules.specs.declared.Exception.{Exception}
+use Rattle.rules.specs.declared.Exceptions.{Exceptions}
 use Rattle.rules.specs.Bytes.{byte, if_then_else_}
 use Rattle.rules.specs.Codons.{codon}
-use Rattle.rules.specs.Translation.{excepted, residuesFrom, translated, residueCount, beforeStop, throughStop, wholeCodons}
+use Rattle.rules.specs.Translation.{noException, exceptionList, excepted, residuesFrom, translated, residueCount, beforeStop, throughStop, wholeCodons}
 
 -- one X where bytes remain
 abbrev pub restOf : ℕ → List ℕ
@@ -189,3 +189,13 @@ pub excepted-append : (xs ys : List Exception) (n r : ℕ) → excepted (xs ++ y
 unfolding excepted
 excepted-append [] ys n r = refl
 excepted-append (x ∷ xs) ys n r = excepted-append xs ys n (if eqb (x .codon) n then x .residue else r)
+
+-- the exceptions given, of an array of sixteen
+module _ (e : Exceptions) (long : length (e .all) ≡ 16) where
+  pub listed-few : e .count ≤ 16 → exceptionList e ≡ take (e .count) (e .all)
+  unfolding exceptionList
+  listed-few h = take-append-le (e .count) (e .all) (replicate (e .count) noException) (omega arith)
+
+  pub length-listed : length (exceptionList e) ≡ e .count
+  unfolding exceptionList
+  length-listed = simp (length-take, length-append, length-replicate) (omega arith)

@@ -2,3 +2,4 @@
 pub mod Blocks
 pub mod Residues
 pub mod Places
+pub mod Excepted

@@ -3,16 +3,19 @@ use codons::letters::is_base;
 use codons::letters::is_letter;
 use codons::letters::plain_set;
 use codons::tables::residue_in;
+use rules::Exception;
+use rules::Exceptions;
 ghost use mathlib.Core.Path.{_≡_};
-ghost use mathlib.Core.Bool.{true};
-ghost use mathlib.Core.List.{[], map};
+ghost use mathlib.Core.Bool.{true, _&&_};
+ghost use mathlib.Core.List.{[], _∷_, _++_, map};
+ghost use lib.Dec.{leb};
 ghost use Prim.Native.Nat.{_+_, _*_, _/_, _%_, _<_, _≤_, min};
-ghost use lib.ListN.{length};
+ghost use lib.ListN.{length, take, drop};
 ghost use Rattle.rules.specs.Bytes.{all, over};
 ghost use Rattle.rules.specs.Letters.{isLetter, plainLetter};
-ghost use Rattle.rules.specs.Translation.{residueCount, areLetters, plainTranslated};
+ghost use Rattle.rules.specs.Translation.{exceptionList, isResidue, areExceptions, residueCount, areLetters, plainTranslated};
 ghost use Rattle.codons.specs.Tables.{HoldsCode, HoldsPlain, HoldsSets, plainSet, isBase};
-ghost use Rattle.sequences.specs.Residues.{codonAt, placeAt, areBases, fourAt};
+ghost use Rattle.sequences.specs.Residues.{codonAt, exceptedFrom, placeAt, areBases, fourAt};
 
 // Whether each byte is a letter of plain translation.
 fn all_letters(s: &[u8]) -> bool
@@ -156,5 +159,58 @@ fn write_plain(seq: &[u8], table: usize, code: &[u8; 64], out: &mut [u8])
     }
     if seq.len() % 3 != 0 {
         out[whole] = b'X';
+    }
+}
+
+// Whether an exception can be taken, wherever its codon stands.
+fn is_exception(x: Exception) -> bool
+    ensures { λ r. ⌜ r ≡ leb 1 (x .codon) && isResidue (x .residue) ⌝ }
+{
+    let r = x.residue;
+    (1 <= x.codon) & (((b'A' <= r) & (r <= b'Z')) | (r == b'*'))
+}
+
+// Whether plain translation takes the exceptions.
+fn are_exceptions(e: Exceptions) -> bool
+    ensures { λ r. ⌜ r ≡ areExceptions (exceptionList e) ⌝ }
+{
+    let count = e.count;
+    if 16 < count {
+        return false;
+    }
+    let mut k = 0;
+    while k < count {
+        let x = e.all[k];
+        if !is_exception(x) {
+            return false;
+        }
+        k += 1;
+    }
+    true
+}
+
+// Puts an exception over the residue of its codon, unless it is numbered past the whole codons.
+fn put_exception(x: Exception, whole: usize, out: &mut [u8])
+    requires { ⌜ whole ≤ length (now out) ⌝ }
+    ensures { λ _. ⌜ now (out .exit) ≡ exceptedFrom (x ∷ []) 1 (take whole (now (out .entry))) ++ drop whole (now (out .entry)) ⌝ }
+{
+    let codon = x.codon;
+    if (1 <= codon) & (codon <= whole) {
+        out[codon - 1] = x.residue;
+    }
+}
+
+// Puts the exceptions over the residues of the whole codons, in their order.
+fn put_exceptions(e: Exceptions, whole: usize, out: &mut [u8])
+    requires { ⌜ e .count ≤ 16 ⌝ }
+    requires { ⌜ whole ≤ length (now out) ⌝ }
+    ensures { λ _. ⌜ now (out .exit) ≡ exceptedFrom (exceptionList e) 1 (take whole (now (out .entry))) ++ drop whole (now (out .entry)) ⌝ }
+{
+    let count = e.count;
+    let mut k = 0;
+    while k < count {
+        let x = e.all[k];
+        put_exception(x, whole, out);
+        k += 1;
     }
 }
