@@ -3,3 +3,4 @@ pub mod Blocks
 pub mod Residues
 pub mod Places
 pub mod Excepted
+pub mod Answers

@@ -6,5 +6,7 @@ mod trims;
 pub use names::aa1_to_aa3;
 pub use names::aa3_to_aa1;
 pub use translation::all_bases;
+pub use translation::translate;
+pub use translation::write_translated;
 pub use trims::common_prefix_len;
 pub use trims::common_suffix_len;

@@ -18,6 +18,11 @@ pub was-true : (b : Bool) → not b ≡ false → b ≡ true
 was-true true e = refl
 was-true false e = sym e
 
+pub never : false ≡ true → ⊥
+never e =
+    let z : _≡_ {A = ℕ} 0 1 = cc in
+    omega arith
+
 module _ (p : ℕ → Bool) (s : List ℕ) (i end : ℕ) (h : i ≤ end) where
   all-block : all p (drop i s) ≡ all p (take (end - i) (drop i s)) && all p (drop end s)
   all-block =

@@ -7,7 +7,7 @@ use native.Mathlib.Omega.{arith}
 use borrow.Author.Needs.{needs}
 use lib.ListN.{length, take, length-map}
 use Rattle.rules.specs.Bytes.{all}
-use Rattle.sequences.proofs.translation.Blocks.{was-false, was-true}
+use Rattle.sequences.proofs.translation.Blocks.{was-false, was-true, never}
 use Rattle.sequences.proofs.translation.Excepted.{canBe, too-many, taken-more, not-taken, all-taken}
 use Rattle.sequences.proofs.translation.are_exceptions.Statement.{statement}
 use Rattle.sequences.proofs.translation.are_exceptions.Tie as tie
@@ -23,7 +23,7 @@ returns : tie.Need-returns Inv-loop μ-loop
 returns c =
     let args = c .before .args in
     let long : length (args .t1 .all) ≡ 16 = sym (length-map (args .t1 .all) _) ∙ c .before .good .0 .1 .1 .0 .1 .0 .1 in
-    sym (too-many (args .t1) long (c .if1 .taken))
+    (sym (too-many (args .t1) long (c .if1 .taken)), λ e. absurd (never e))
 
 loop-holds : tie.Need-loop-holds Inv-loop μ-loop
 unfolding all
@@ -37,7 +37,7 @@ returns-2 c =
     let args = c .before .before .before .before .before .before .args in
     let loop = c .before .before .before .before .loop in
     let is-exception = c .before .is-exception in
-    sym (not-taken (args .t1) (loop .inv .2) (loop .inv .1) (loop .k) _ (search needs) (sym (is-exception .ensures) ∙ was-false (is-exception .result) (c .if2 .taken)))
+    (sym (not-taken (args .t1) (loop .inv .2) (loop .inv .1) (loop .k) _ (search needs) (sym (is-exception .ensures) ∙ was-false (is-exception .result) (c .if2 .taken))), λ e. loop .inv .1)
 
 loop-again : tie.Need-loop-again Inv-loop μ-loop
 loop-again c =
@@ -54,7 +54,7 @@ returns-3 : tie.Need-returns-3 Inv-loop μ-loop
 returns-3 c =
     let args = c .before .before .before .args in
     let loop = c .before .loop in
-    sym (all-taken (args .t1) (loop .inv .2) (loop .inv .1) (loop .k) (omega arith) (loop .inv .3))
+    (sym (all-taken (args .t1) (loop .inv .2) (loop .inv .1) (loop .k) (omega arith) (loop .inv .3)), λ e. loop .inv .1)
 
 pub are-exceptions-spec : {M : Type 1} → statement M
 are-exceptions-spec =
