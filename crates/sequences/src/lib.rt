@@ -3,3 +3,4 @@ mod trims;
 
 pub use trims::common_prefix_len;
 pub use trims::common_suffix_len;
+pub use trims::equals;
