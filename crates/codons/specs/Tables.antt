@@ -1,4 +1,4 @@
--- What the tables of letter sets, of residues and of complements hold. Assumes nothing: these are definitions.
+-- A byte's reading in plain translation, and what the tables of letter sets, of residues and of complements hold. Assumes nothing: these are definitions.
 use Prim.Native.Nat.{ℕ, _+_, _*_, _<_}
 use mathlib.Core.List.{List, [], _∷_}
 use mathlib.Core.Bool.{Bool}
@@ -26,7 +26,7 @@ pub record HoldsSets (read : ℕ → ℕ) (xs : List ℕ) : Type 0 where
 pub record HoldsCode (t : ℕ) (xs : List ℕ) : Type 0 where
   pub entry : (a b c : ℕ) → a < 16 → b < 16 → c < 16 → getD xs (a * 256 + b * 16 + c) 0 ≡ codonRule t a b c
 
--- the set of the base whose letter b has that number b / 2 % 4: A 0, C 1, T 2, G 3
+-- the set of a base, by its letter's number b / 2 % 4: A 0, C 1, T and U 2, G 3
 abbrev pub baseSet : ℕ → ℕ
 baseSet i = getD (1 ∷ 2 ∷ 8 ∷ 4 ∷ []) i 0
 

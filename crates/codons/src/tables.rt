@@ -244,7 +244,7 @@ const MITOCHONDRIAL: [u8; 4096] = *b"\
     XXXXXXXXXXXXXXXXXXXXXXXXXXXXXXXXXXXXXXXXXXXXXXXXXXXXXXXXXXXXXXXX\
     XXXXXXXXXXXXXXXXXXXXXXXXXXXXXXXXXXXXXXXXXXXXXXXXXXXXXXXXXXXXXXXX";
 
-// The same three codes, of plain codons alone: by the numbers of the letters, A 0, C 1, T 2, G 3.
+// The same three codes, of plain codons alone: by the numbers of their letters, A 0, C 1, T and U 2, G 3.
 const PLAIN_STANDARD: [u8; 64] =
     *b"KNNKTTTTIIIMRSSRQHHQPPPPLLLLRRRR*YY*SSSSLFFL*CCWEDDEAAAAVVVVGGGG";
 

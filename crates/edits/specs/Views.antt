@@ -18,6 +18,12 @@ bare s c = record { letters = s; cs = c .cs; ce = c .ce; table = c .table; excep
 abbrev pub asked : Edit → List ℕ → Asked
 asked e new = record { edit = e; new = new }
 
+-- the bounds in order, and so small that a place fits
+pub record Bounded (c : Cds) : Type 0 where
+  pub first : 1 ≤ c .cs
+  pub ordered : c .cs ≤ c .ce
+  pub small : c .ce < 4294967296
+
 -- what the checks of a reference, 1 to 4, leave
 pub record Sound (s : List ℕ) (c : Cds) : Type 0 where
   pub first : 1 ≤ c .cs

@@ -3,8 +3,9 @@ use crate::Cds;
 use rules::Position;
 ghost use mathlib.Core.Path.{_≡_};
 ghost use mathlib.Core.Bool.{false};
-ghost use Prim.Native.Nat.{_≤_, _<_, min};
+ghost use Prim.Native.Nat.{_+_, _<_, min};
 ghost use Rattle.rules.specs.Position.{place, isOutside, index, isBefore, isBehind, counted};
+ghost use Rattle.edits.specs.Views.{Bounded};
 
 pub fn least(a: usize, b: usize) -> usize
     ensures { λ r. ⌜ r ≡ min a b ⌝ }
@@ -14,8 +15,7 @@ pub fn least(a: usize, b: usize) -> usize
 
 // 0; past the CDS; before base 1 of the transcript; star 0 or above 65,535.
 pub fn is_outside(p: Position, c: Cds) -> bool
-    requires { ⌜ (1 ≤ c .cs) × (c .cs ≤ c .ce) ⌝ }
-    requires { ⌜ c .ce < 4294967296 ⌝ }
+    requires { ⌜ Bounded c ⌝ }
     ensures { λ r. ⌜ r ≡ isOutside (c .cs) (c .ce) p ⌝ }
 {
     match p {
@@ -27,11 +27,10 @@ pub fn is_outside(p: Position, c: Cds) -> bool
 
 // The place, counted from 0.
 pub fn place_of(p: Position, c: Cds) -> usize
-    requires { ⌜ (1 ≤ c .cs) × (c .cs ≤ c .ce) ⌝ }
-    requires { ⌜ c .ce < 4294967296 ⌝ }
+    requires { ⌜ Bounded c ⌝ }
     requires { ⌜ isOutside (c .cs) (c .ce) p ≡ false ⌝ }
     ensures { λ r. ⌜ r ≡ place (c .cs) (c .ce) p ⌝ }
-    ensures small { λ r. ⌜ r < 4295032831 ⌝ }
+    ensures near { λ r. ⌜ r < c .ce + 65535 ⌝ }
 {
     match p {
         Position::Plus(n) => c.cs + n - 2,
@@ -40,10 +39,9 @@ pub fn place_of(p: Position, c: Cds) -> usize
     }
 }
 
-// The index in editing.
+// The index used in editing.
 pub fn index_of(p: Position, c: Cds, len: usize) -> usize
-    requires { ⌜ (1 ≤ c .cs) × (c .cs ≤ c .ce) ⌝ }
-    requires { ⌜ c .ce < 4294967296 ⌝ }
+    requires { ⌜ Bounded c ⌝ }
     requires { ⌜ isOutside (c .cs) (c .ce) p ≡ false ⌝ }
     ensures { λ r. ⌜ r ≡ index (c .cs) (c .ce) len p ⌝ }
 {
@@ -80,7 +78,7 @@ pub fn counted_of(p: Position) -> usize
 {
     match p {
         Position::Plus(n) => n,
-        Position::Minus(_) => 0,
+        Position::Minus(_) => 1,
         Position::Star(q) => q,
     }
 }

@@ -7,43 +7,55 @@ use crate::positions::place_of;
 use codons::letters::is_strict;
 use rules::Edit;
 use rules::Kind;
-use rules::Position;
+ghost use Prim.Native.Nat.{ℕ};
 ghost use mathlib.Core.Path.{_≡_};
 ghost use mathlib.Core.Bool.{false};
+ghost use mathlib.Core.List.{List};
 ghost use Rattle.rules.specs.Bytes.{all, firstOf};
 ghost use Rattle.rules.specs.Letters.{isLetter};
-ghost use lib.Dec.{leb};
-ghost use lib.ListN.{length};
-ghost use Rattle.rules.specs.Position.{place, isOutside};
-ghost use Rattle.rules.specs.Edit.{is, areBases, fitBases, editTests};
+ghost use Rattle.rules.specs.Position.{isOutside};
+ghost use Rattle.rules.specs.Edit.{kindNumber, is, endsPast, isMisplaced, isDisordered, isOutOfCds, areBases, fitBases, editTests};
 ghost use Rattle.rules.specs.declared.Kind.the-variants.{Substitution, Insertion, Duplication};
-ghost use Rattle.edits.specs.Views.{bare, asked, Sound};
+ghost use Rattle.edits.specs.Views.{bare, asked, Bounded, Sound};
+
+// The number that a host gives a kind.
+fn kind_number(kind: Kind) -> usize
+    ensures { λ r. ⌜ r ≡ kindNumber kind ⌝ }
+{
+    match kind {
+        Kind::Other => 0,
+        Kind::Substitution => 1,
+        Kind::Deletion => 2,
+        Kind::Delins => 3,
+        Kind::Insertion => 4,
+        Kind::Duplication => 5,
+        Kind::Inversion => 6,
+        Kind::Identity => 7,
+    }
+}
+
+pub fn is_kind(a: Kind, b: Kind) -> bool
+    ensures { λ r. ⌜ r ≡ is a b ⌝ }
+{
+    kind_number(a) == kind_number(b)
+}
 
 pub fn is_substitution(kind: Kind) -> bool
     ensures { λ r. ⌜ r ≡ is Substitution kind ⌝ }
 {
-    match kind {
-        Kind::Substitution => true,
-        _ => false,
-    }
+    is_kind(Kind::Substitution, kind)
 }
 
 pub fn is_insertion(kind: Kind) -> bool
     ensures { λ r. ⌜ r ≡ is Insertion kind ⌝ }
 {
-    match kind {
-        Kind::Insertion => true,
-        _ => false,
-    }
+    is_kind(Kind::Insertion, kind)
 }
 
 pub fn is_duplication(kind: Kind) -> bool
     ensures { λ r. ⌜ r ≡ is Duplication kind ⌝ }
 {
-    match kind {
-        Kind::Duplication => true,
-        _ => false,
-    }
+    is_kind(Kind::Duplication, kind)
 }
 
 // Whether every byte is one of the fifteen letters.
@@ -89,51 +101,76 @@ fn fit_bases(most: usize, kind: Kind, new: &[u8]) -> bool
 }
 
 // Whether the end's place is L or more.
-pub fn ends_after_transcript(letters: &[u8], c: Cds, end: Position) -> bool
-    requires { ⌜ Sound (now letters) c ⌝ }
-    requires { ⌜ isOutside (c .cs) (c .ce) end ≡ false ⌝ }
-    ensures { λ r. ⌜ r ≡ leb (length (now (letters .entry))) (place (c .cs) (c .ce) end) ⌝ }
+pub fn ends_after_transcript(letters: &[u8], c: Cds, edit: Edit) -> bool
+    requires { ⌜ Bounded c ⌝ }
+    requires { ⌜ isOutside (c .cs) (c .ce) (edit .end) ≡ false ⌝ }
+    ensures { λ r. ⌜ ((new : List ℕ) → r ≡ endsPast (bare (now (letters .entry)) c) (asked edit new)) ⌝ }
 {
+    let end = edit.end;
     letters.len() <= place_of(end, c)
 }
 
-// The lowest of 7 to 10 that applies, or 0.
-pub fn edit_refusal(letters: &[u8], c: Cds, most: usize, edit: Edit, new: &[u8]) -> usize
-    requires { ⌜ Sound (now letters) c ⌝ }
-    ensures { λ r. ⌜ r ≡ firstOf (editTests most (bare (now (letters .entry)) c) (asked edit (now (new .entry)))) ⌝ }
+// 7: a position outside, or a duplication's end at L or behind.
+fn is_misplaced(letters: &[u8], c: Cds, edit: Edit) -> bool
+    requires { ⌜ Bounded c ⌝ }
+    ensures { λ r. ⌜ ((new : List ℕ) → r ≡ isMisplaced (bare (now (letters .entry)) c) (asked edit new)) ⌝ }
 {
     let kind = edit.kind;
     let start = edit.start;
     let end = edit.end;
     if is_outside(start, c) {
-        return 7;
+        return true;
     }
     if is_outside(end, c) {
-        return 7;
+        return true;
     }
-    let last = place_of(end, c);
-    if is_duplication(kind) & (letters.len() <= last) {
-        return 7;
-    }
+    is_duplication(kind) & ends_after_transcript(letters, c, edit)
+}
+
+// 8: places out of order, an insertion's not neighbours, or a substitution's not the same.
+fn is_disordered(c: Cds, edit: Edit) -> bool
+    requires { ⌜ Bounded c ⌝ }
+    requires { ⌜ isOutside (c .cs) (c .ce) (edit .start) ≡ false ⌝ }
+    requires { ⌜ isOutside (c .cs) (c .ce) (edit .end) ≡ false ⌝ }
+    ensures { λ r. ⌜ ((s new : List ℕ) → r ≡ isDisordered (bare s c) (asked edit new)) ⌝ }
+{
+    let kind = edit.kind;
+    let start = edit.start;
+    let end = edit.end;
     let first = place_of(start, c);
-    if last < first {
+    let last = place_of(end, c);
+    let apart = is_insertion(kind) & (last != first + 1);
+    let two = is_substitution(kind) & (last != first);
+    (last < first) | apart | two
+}
+
+// 9: both ends before the CDS, both behind it, or an insertion's left anchor before it.
+fn is_out_of_cds(edit: Edit) -> bool
+    ensures { λ r. ⌜ ((new : List ℕ) → r ≡ isOutOfCds (asked edit new)) ⌝ }
+{
+    let kind = edit.kind;
+    let start = edit.start;
+    let end = edit.end;
+    let before = is_before(start) & is_before(end);
+    let behind = is_behind(start) & is_behind(end);
+    before | behind | (is_insertion(kind) & is_before(start))
+}
+
+// The lowest of 7 to 10 that applies, or 0.
+pub fn edit_refusal(letters: &[u8], c: Cds, most: usize, edit: Edit, new: &[u8]) -> usize
+    requires { ⌜ Bounded c ⌝ }
+    ensures { λ r. ⌜ r ≡ firstOf (editTests most (bare (now (letters .entry)) c) (asked edit (now (new .entry)))) ⌝ }
+{
+    if is_misplaced(letters, c, edit) {
+        return 7;
+    }
+    if is_disordered(c, edit) {
         return 8;
     }
-    if is_insertion(kind) & (last != first + 1) {
-        return 8;
-    }
-    if is_substitution(kind) & (last != first) {
-        return 8;
-    }
-    if is_before(start) & is_before(end) {
+    if is_out_of_cds(edit) {
         return 9;
     }
-    if is_behind(start) & is_behind(end) {
-        return 9;
-    }
-    if is_insertion(kind) & is_before(start) {
-        return 9;
-    }
+    let kind = edit.kind;
     if fit_bases(most, kind, new) {
         return 0;
     }

@@ -18,7 +18,8 @@ use Rattle.rules.specs.Complement.{reverseComplement}
 use Rattle.rules.specs.Reference.{Reference, size}
 use Rattle.rules.specs.Edit.{Asked, kindOf, startIndex, endIndex, areBases, fitBases}
 use Rattle.rules.specs.Altered.{part, Swap, carried, swapBy, swap, frame, framed, findsStop, throughStopCodon, kept, cutSwap, alteredTranscript, deleted, inserted, cutOff, alteredLength}
-use Rattle.rules.specs.Refusal.{Limits, refusal}
+use Rattle.rules.specs.declared.Limits.{Limits}
+use Rattle.rules.specs.Refusal.{refusal}
 use Rattle.rules.proofs.Tests.{and-left, and-right, all-take, all-drop, all-both}
 use Rattle.rules.proofs.Complement.{length-complement, letters-complement}
 use Rattle.rules.proofs.Refusal.{reference-accepted, edit-allowed}

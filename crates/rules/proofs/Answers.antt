@@ -19,7 +19,8 @@ use Rattle.rules.specs.Edit.{Asked}
 use Rattle.rules.specs.Altered.{alteredTranscript, alteredLength}
 use Rattle.rules.specs.Protein.{alteredProtein}
 use Rattle.rules.specs.Record.{isUnknown}
-use Rattle.rules.specs.Refusal.{Limits, refusal, Room, roomTests, roomRefusal}
+use Rattle.rules.specs.declared.Limits.{Limits}
+use Rattle.rules.specs.Refusal.{refusal, Room, roomTests, roomRefusal}
 use Rattle.rules.specs.Answer.{Outcome, writesNothing, unknownReport, fullReport, writesAll, outcomeBy, outcome, Answers}
 use Rattle.rules.proofs.Tests.{or-left, or-right, first-clear}
 use Rattle.rules.proofs.Reference.{length-protein}

@@ -15,7 +15,8 @@ use Rattle.rules.specs.Reference.{Reference, size, cdsSize, codons, areR
 use Rattle.rules.specs.Edit.{Asked}
 use Rattle.rules.specs.Altered.{Swap, carried, cutSwap, alteredTranscript}
 use Rattle.rules.specs.Exceptions.{suffixBehind, inPrefix, inSuffix, shifted, inFrame, codonIndex, codonNumber, movedOne, movedAll, movedExceptions}
-use Rattle.rules.specs.Refusal.{Limits, refusal}
+use Rattle.rules.specs.declared.Limits.{Limits}
+use Rattle.rules.specs.Refusal.{refusal}
 use Rattle.rules.proofs.Tests.{and-left, and-right}
 use Rattle.rules.proofs.Trims.{cp-le-l, cp-le-r, cp-append, cs-le-l, cs-le-r}
 use Rattle.rules.proofs.Reference.{rising-cons, rising-of}

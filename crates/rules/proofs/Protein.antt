@@ -20,7 +20,8 @@ use Rattle.rules.specs.Altered.{frameshift, alteredTranscript, alteredLe
 use Rattle.rules.specs.Exceptions.{movedExceptions}
 use Rattle.rules.specs.Protein.{proteinOf, alteredProtein}
 use Rattle.rules.specs.Record.{isUnknown, silentNumber, recordOf}
-use Rattle.rules.specs.Refusal.{Limits, refusal}
+use Rattle.rules.specs.declared.Limits.{Limits}
+use Rattle.rules.specs.Refusal.{refusal}
 use Rattle.rules.proofs.Trims.{cp-le-r, cp-take}
 use Rattle.rules.proofs.Translation.{length-translated, none-translated, through-le, none-through, StopsOnce, stops-once}
 use Rattle.rules.proofs.Reference.{protein-read}

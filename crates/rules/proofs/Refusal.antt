@@ -11,7 +11,8 @@ use Rattle.rules.specs.Bytes.{all, firstOf}
 use Rattle.rules.specs.Reference.{Reference, size, referenceTests}
 use Rattle.rules.specs.Position.{isOutside, isBefore, isBehind}
 use Rattle.rules.specs.Edit.{Asked, is, kindOf, startPlace, endPlace, endsPast, isMisplaced, isDisordered, isOutOfCds, fitBases, editTests}
-use Rattle.rules.specs.Refusal.{Limits, referenceRefusal, refusal}
+use Rattle.rules.specs.declared.Limits.{Limits}
+use Rattle.rules.specs.Refusal.{referenceRefusal, refusal}
 use Rattle.rules.proofs.Tests.{or-left, or-right, and-implies, first-clear, first-behind, first-before}
 use Rattle.rules.proofs.Reference.{Accepted, accepted}
 

@@ -15,7 +15,8 @@ use Rattle.rules.specs.Reference.{Reference, size}
 use Rattle.rules.specs.Position.{place, isOutside, index, isBefore, isBehind}
 use Rattle.rules.specs.Edit.{Asked, kindOf, startPlace, endPlace, startIndex, endIndex}
 use Rattle.rules.specs.Altered.{Swap, swapBy, swap}
-use Rattle.rules.specs.Refusal.{Limits, refusal}
+use Rattle.rules.specs.declared.Limits.{Limits}
+use Rattle.rules.specs.Refusal.{refusal}
 use Rattle.rules.proofs.Tests.{or-left, or-right}
 use Rattle.rules.proofs.Reference.{Bounds}
 use Rattle.rules.proofs.Refusal.{Allowed, reference-accepted, edit-allowed}
@@ -24,7 +25,7 @@ never : false ≡ true → ⊥
 never h = let z : _≡_ {A = ℕ} 0 1 = cc in omega arith
 
 -- a number that isn't 0 and not above another
-within : (p most : ℕ) → (eqb p 0 || ltb most p) ≡ false → (1 ≤ p) × (p ≤ most)
+pub within : (p most : ℕ) → (eqb p 0 || ltb most p) ≡ false → (1 ≤ p) × (p ≤ most)
 within p most h =
     let some : p ≡ 0 → ⊥ = eqb-false p 0 (or-left (eqb p 0) (ltb most p) h) in
     let fits : p ≤ most = ltb-false most p (or-right (eqb p 0) (ltb most p) h) in

@@ -3,6 +3,7 @@ use Prim.Native.Nat.{ℕ, _+_, _-_}
 use mathlib.Core.List.{List, [], _∷_, _++_}
 use mathlib.Core.Bool.{_||_}
 use lib.Dec.{ltb}
+use Rattle.rules.specs.declared.Limits.{Limits}
 use Rattle.rules.specs.declared.Record.{Record}
 use Rattle.rules.specs.Bytes.{Test, _↯_, firstOf, Result, unless}
 use Rattle.rules.specs.Translation.{residueCount}
@@ -11,11 +12,7 @@ use Rattle.rules.specs.Edit.{Asked, editTests}
 use Rattle.rules.specs.Altered.{alteredLength}
 use Rattle.rules.specs.Record.{recordOf}
 
--- the longest transcript, and the most new bases
-pub record Limits : Type 0 where
-  pub longest : ℕ
-  pub most : ℕ
-
+-- transcripts of 1 to 16,384 bases, 1 to 4,096 new ones
 abbrev pub limits : Limits
 limits = record { longest = 16384; most = 4096 }
 

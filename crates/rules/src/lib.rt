@@ -38,6 +38,12 @@ pub struct Exceptions {
     pub count: usize,
 }
 
+// The longest transcript, and the most new bases.
+pub struct Limits {
+    pub longest: usize,
+    pub most: usize,
+}
+
 // What a function that fills one lent buffer answers: a refusal's number, or the number of bytes written from the buffer's start.
 pub enum Written {
     Refused(usize),

@@ -1,0 +1,2 @@
+-- What several of this crate's proofs cite.
+pub mod Tests
