@@ -2,6 +2,8 @@
 // altered length, the frameshift flag, and where exceptions move.
 pub mod positions;
 pub mod refusals;
+pub mod stops;
+pub mod swaps;
 
 // The bounds and the table of a reference; its letters are lent beside them.
 pub struct Cds {
