@@ -2,7 +2,7 @@
 -- Assumes nothing.
 use mathlib.Core.Path.{_≡_, refl, sym, ap, _∙_}
 use mathlib.Core.Bool.{Bool, true, false, _&&_, _||_, not, and-true, or-false}
-use mathlib.Core.List.{List, [], _∷_}
+use mathlib.Core.List.{List, [], _∷_, _++_}
 use Prim.Native.Nat.{ℕ, _+_, _-_, _*_, _%_, _≤_, _<_, min}
 use native.Mathlib.Nat.{le-refl}
 use native.Mathlib.Omega.{arith}
@@ -20,7 +20,7 @@ use Rattle.rules.specs.Complement.{reverseComplement}
 use Rattle.rules.specs.Reference.{Reference, size}
 use Rattle.rules.specs.Position.{index}
 use Rattle.rules.specs.Edit.{Asked, is, kindOf, startIndex, endIndex, editTests}
-use Rattle.rules.specs.Altered.{part, Swap, swapBy, swap, frame, framed, findsStop, throughStopCodon, kept, deleted, inserted, cutOff, alteredLength, isUneven, leavesCds, putsBack, frameshift}
+use Rattle.rules.specs.Altered.{part, Swap, carried, swapBy, swap, frame, framed, findsStop, throughStopCodon, kept, cutSwap, alteredTranscript, deleted, inserted, cutOff, alteredLength, isUneven, leavesCds, putsBack, frameshift}
 use Rattle.rules.proofs.Tests.{or-left, or-right, all-take, all-drop}
 use Rattle.rules.proofs.Complement.{length-complement}
 use Rattle.rules.proofs.Altered.{kept-is, length-kept}
@@ -31,7 +31,9 @@ use Rattle.edits.specs.declared.swaps.Source.the-variants.{New, Copy, Tu
 use Rattle.edits.specs.declared.swaps.Plan.{Plan}
 use Rattle.edits.specs.declared.Cds.{Cds}
 use Rattle.edits.specs.Views.{bare, asked, Sound}
-use Rattle.edits.specs.Plans.{sourceOf, planOf, sourceBytes, goesIn, Planned, isReplacing, isInserting, Ranges, Replaces, Inserts, Keeps, shiftBy, framedBy, cutOf}
+use Rattle.edits.specs.Cuts.{framedBy, cutOf}
+use Rattle.edits.specs.Plans.{sourceOf, planOf, sourceBytes, goesIn, Planned, isReplacing, isInserting, Ranges, Replaces, Inserts, Keeps, shiftBy}
+use Rattle.edits.proofs.Cuts.{cut-le}
 use Rattle.edits.proofs.Tests.{edit-allowed, edit-indexes, edit-fitting}
 
 never : false ≡ true → ⊥
@@ -54,6 +56,21 @@ pub goes-in : (r : Reference) (e : Asked) → goesIn (planOf r e) (r .letters) (
 unfolding goesIn planOf swap
 goes-in r e =
     ap (take (length (kept r e))) (sym (put-is (kindOf e) (r .letters) (startIndex r e) (endIndex r e) (e .new))) ∙ sym (kept-is r e)
+
+-- and no more than the source holds
+pub kept-fits : (r : Reference) (e : Asked) → planOf r e .kept ≤ length (sourceBytes (planOf r e .source) (planOf r e .start) (planOf r e .end) (r .letters) (e .new))
+unfolding planOf swap inserted
+kept-fits r e = rw (← put-is (kindOf e) (r .letters) (startIndex r e) (endIndex r e) (e .new)) (length-kept r e)
+
+-- the altered transcript, by the plan
+pub transcript-is : (r : Reference) (e : Asked) → alteredTranscript r e ≡ take (planOf r e .from) (r .letters) ++ (goesIn (planOf r e) (r .letters) (e .new) ++ drop (planOf r e .to) (r .letters))
+unfolding alteredTranscript carried cutSwap planOf
+transcript-is r e = rw (goes-in r e)
+
+-- exceptions play no part
+pub bare-plan : (r : Reference) (e : Asked) → planOf r e ≡ planOf (bare (r .letters) (record { cs = r .cs; ce = r .ce; table = r .table })) e
+unfolding planOf size startIndex endIndex swap frame framed findsStop throughStopCodon kept deleted inserted cutOff alteredLength isUneven leavesCds putsBack frameshift
+bare-plan r e = refl
 
 -- a plan, field by field
 module _ (r : Reference) (e : Asked) (source : Source) (start end from to n total : ℕ) (shift : Bool) where
@@ -158,15 +175,6 @@ inserting Duplication h = record { stays = refl; moves = refl }
 inserting Inversion h = absurd (never h)
 inserting Identity h = absurd (never h)
 inserting Other h = absurd (never h)
-
--- the cut keeps no more than there is
-pub cut-le : (t frame : ℕ) (put : List ℕ) → cutOf t frame put .kept ≤ length put
-unfolding cutOf
-cut-le t frame put = by (ltb (beforeStop (framedBy t frame put)) (length (framedBy t frame put))) (3 * (beforeStop (framedBy t frame put) + 1) - frame)
-  where
-    by : (b : Bool) (n : ℕ) → length (if b then take n put else put) ≤ length put
-    by true n = omega (arith, length-take n put)
-    by false n = le-refl (length put)
 
 cut-length : (L n k : ℕ) (i : ℕ) → k ≤ n → L - (i - i) + n - (n - k) ≡ L + k
 cut-length L n k i h = omega arith

@@ -1,16 +1,16 @@
--- What an accepted edit does, in numbers, and the stop cut.
-use Prim.Native.Nat.{ℕ, _+_, _-_, _*_, _/_, _%_, _<_, _≤_}
+-- What an accepted edit does, in numbers; the silent number, and refusals 11 and 12, by numbers.
+use Prim.Native.Nat.{ℕ, _+_, _-_, _/_, _%_, _<_, _≤_}
 use mathlib.Core.Path.{_≡_}
-use mathlib.Core.List.{List, [], _∷_, _++_}
+use mathlib.Core.List.{List, [], _∷_}
 use mathlib.Core.Bool.{Bool, true, false, _&&_, _||_, not}
 use lib.Dec.{eqb, ltb}
-use lib.ListN.{length, take, replicate}
+use lib.ListN.{length, take}
 use Rattle.rules.specs.declared.Kind.{Kind}
 use Rattle.rules.specs.declared.Kind.the-variants.{Substitution, Deletion, Delins, Insertion, Duplication, Inversion, Identity, Other}
 use Rattle.rules.specs.declared.Edit.{Edit}
-use Rattle.rules.specs.Bytes.{byte, if_then_else_, all, same, _↯_, firstOf}
+use Rattle.rules.specs.Bytes.{if_then_else_, all, same, _↯_, firstOf}
 use Rattle.rules.specs.Letters.{isLetter}
-use Rattle.rules.specs.Translation.{translated, residueCount, beforeStop}
+use Rattle.rules.specs.Translation.{residueCount}
 use Rattle.rules.specs.Complement.{reverseComplement}
 use Rattle.rules.specs.Reference.{Reference, size}
 use Rattle.rules.specs.Position.{isOutside, counted}
@@ -23,7 +23,6 @@ use Rattle.edits.specs.declared.swaps.Range.{Range}
 use Rattle.edits.specs.declared.swaps.Source.{Source}
 use Rattle.edits.specs.declared.swaps.Source.the-variants.{New, Copy, Turned}
 use Rattle.edits.specs.declared.swaps.Plan.{Plan}
-use Rattle.edits.specs.declared.stops.Cut.{Cut}
 
 -- where what goes in comes from
 abbrev pub sourceOf : Kind → Source
@@ -107,17 +106,6 @@ unfoldable pub shiftBy : ℕ → List ℕ → ℕ → ℕ → List ℕ → Bool
 shiftBy ce s start end new =
     (not (eqb (length new % 3) ((end - start) % 3)) || (ltb start ce && ltb ce end))
     && not (same (part start end s) new)
-
--- so many letters N before the bytes that go in, translated
-unfoldable pub framedBy : ℕ → ℕ → List ℕ → List ℕ
-framedBy table frame put = translated table [] (replicate frame (byte "N") ++ put)
-
--- the stop cut behind so many letters N: whether a `*` appears, and how many of the bytes stay
-unfoldable pub cutOf : ℕ → ℕ → List ℕ → Cut
-cutOf table frame put =
-    let before = beforeStop (framedBy table frame put) in
-    let found = ltb before (length (framedBy table frame put)) in
-    record { found = found; kept = length (if found then take (3 * (before + 1) - frame) put else put) }
 
 -- a silent record's number, of so many residues of R
 unfoldable pub silentWithin : ℕ → Edit → ℕ

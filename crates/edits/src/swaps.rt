@@ -1,4 +1,4 @@
-// "Positions and edits": what an accepted edit does, in numbers. Nothing is written here.
+// "Positions and edits": what an accepted edit does, in numbers; the number of a silent record, and refusals 11 and 12.
 use crate::Cds;
 use crate::positions::counted_of;
 use crate::positions::index_of;
@@ -18,6 +18,7 @@ ghost use Rattle.rules.specs.Position.{isOutside, index};
 ghost use Rattle.rules.specs.Edit.{Asked};
 ghost use Rattle.rules.specs.Record.{within};
 ghost use Rattle.codons.specs.Tables.{HoldsSets, HoldsCode};
+ghost use Rattle.edits.specs.declared.Cds.{Cds};
 ghost use Rattle.edits.specs.Views.{bare, asked, Bounded, Sound};
 ghost use Rattle.edits.specs.Plans.{planOf, Planned, Replaces, Inserts, Keeps, shiftBy, silentWithin, roomBy};
 
@@ -121,22 +122,26 @@ fn insert(
 {
     let frame = (at - (c.cs - 1)) % 3;
     let cut = insert_stop_seq_end(put, frame, c.table, sets, lut);
+    let kept = cut.kept;
+    let found = cut.found;
+    let length = letters.len() + kept;
+    let uneven = put.len() % 3 != 0;
     Plan {
         source,
         start: range.start,
         end: range.end,
         from: at,
         to: at,
-        kept: cut.kept,
-        length: letters.len() + cut.kept,
-        shift: (put.len() % 3 != 0) & !cut.found,
+        kept,
+        length,
+        shift: uneven & !found,
     }
 }
 
 // Inversion and identity, and an unknown kind: as many bases as there were.
-fn keep_length(letters: &[u8], c: Cds, range: Range, source: Source) -> Plan
+fn keep_length(letters: &[u8], range: Range, source: Source) -> Plan
     requires { ⌜ (range .start ≤ range .end) × (range .end ≤ length (now letters)) ⌝ }
-    ensures { λ r. ⌜ ((e : Asked) → Keeps (bare (now (letters .entry)) c) e range source → r ≡ planOf (bare (now (letters .entry)) c) e) ⌝ }
+    ensures { λ r. ⌜ ((c : Cds) (e : Asked) → Keeps (bare (now (letters .entry)) c) e range source → r ≡ planOf (bare (now (letters .entry)) c) e) ⌝ }
 {
     let start = range.start;
     let end = range.end;
@@ -170,16 +175,17 @@ pub fn plan_of(
     let range = setup_incorporate(letters.len(), c, edit);
     let start = range.start;
     let end = range.end;
+    let copy = &letters[start..end];
     let kind = edit.kind;
     match kind {
         Kind::Substitution => replace(letters, c, range, new),
         Kind::Deletion => replace(letters, c, range, new),
         Kind::Delins => replace(letters, c, range, new),
         Kind::Insertion => insert(letters, c, range, Source::New, start + 1, new, sets, lut),
-        Kind::Duplication => insert(letters, c, range, Source::Copy, end, &letters[start..end], sets, lut),
-        Kind::Inversion => keep_length(letters, c, range, Source::Turned),
-        Kind::Identity => keep_length(letters, c, range, Source::Copy),
-        Kind::Other => keep_length(letters, c, range, Source::Copy),
+        Kind::Duplication => insert(letters, c, range, Source::Copy, end, copy, sets, lut),
+        Kind::Inversion => keep_length(letters, range, Source::Turned),
+        Kind::Identity => keep_length(letters, range, Source::Copy),
+        Kind::Other => keep_length(letters, range, Source::Copy),
     }
 }
 
@@ -220,7 +226,13 @@ pub fn silent_number(len: usize, edit: Edit) -> usize
 }
 
 // 11 or 12 for an altered length and the room of the three buffers, or 0.
-pub fn room_refusal(c: Cds, length: usize, transcript: usize, reference: usize, altered: usize) -> usize
+pub fn room_refusal(
+    c: Cds,
+    length: usize,
+    transcript: usize,
+    reference: usize,
+    altered: usize,
+) -> usize
     requires { ⌜ Bounded c ⌝ }
     requires { ⌜ c .cs - 1 ≤ length ⌝ }
     ensures { λ r. ⌜ r ≡ roomBy c length (record { transcript = transcript; reference = reference; altered = altered }) ⌝ }

@@ -11,7 +11,7 @@ returns : tie.Need-returns
 unfolding size
 returns c =
     let args = c .args in
-    λ e h. keeps-plan (bare (args .letters .now) (args .c)) e (args .range) (args .source) h (search needs)
+    λ d e h. keeps-plan (bare (args .letters .now) d) e (args .range) (args .source) h (search needs)
 
 pub keep-length-spec : {M : Type 1} → statement M
 keep-length-spec =

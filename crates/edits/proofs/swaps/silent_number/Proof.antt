@@ -10,16 +10,14 @@ use Rattle.edits.proofs.swaps.silent_number.Tie as tie
 
 returns : tie.Need-returns
 returns c =
-    let args = c .before .before .before .before .args in
-    (
+    let args = c .before .before .before .before .args in (
       c .within .ensures .0 ∙ silent-end (args .len) (args .edit) (c .before .before .before .is-duplication .result) (c .before .before .before .is-duplication .ensures) (c .before .counted-of .result) (c .before .before .if1 .taken) (c .before .counted-of .ensures),
       c .within .ensures .1,
     )
 
 returns-2 : tie.Need-returns-2
 returns-2 c =
-    let args = c .before .before .before .before .before .args in
-    (
+    let args = c .before .before .before .before .before .args in (
       c .within2 .ensures .0 ∙ ap (λ (k : ℕ). within (args .len) k) (c .before .thirds .ensures) ∙ silent-start (args .len) (args .edit) (c .before .before .before .before .is-duplication .result) (c .before .before .before .before .is-duplication .ensures) (c .before .before .counted-of2 .result) (c .before .before .before .if1 .left) (c .before .before .counted-of2 .ensures),
       c .within2 .ensures .1,
     )
