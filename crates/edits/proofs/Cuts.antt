@@ -17,6 +17,8 @@ use Rattle.rules.specs.Codons.{residueX, codonRule, codon}
 use Rattle.rules.specs.Translation.{excepted, residuesFrom, translated, residueCount, beforeStop}
 use Rattle.rules.proofs.Lists.{all-at}
 use Rattle.rules.proofs.Translation.{length-translated}
+use Rattle.codons.specs.Tables.{plainSet}
+use Rattle.codons.proofs.Sets.{letter-plain}
 use Rattle.edits.specs.declared.stops.Cut.{Cut}
 use Rattle.edits.specs.Cuts.{framedBy, cutOf}
 
@@ -75,21 +77,26 @@ unfolding framedBy translated residuesFrom excepted
 framed-two t [] h = absurd (omega arith)
 framed-two t (a ∷ s) h = refl
 
-module _ (t frame : ℕ) (put : List ℕ) (enough : 3 ≤ frame + length put) (a r : ℕ) (e : a ≡ letterSet (getD put 0 0)) where
+-- the set of a letter, by the reading of plain translation: it is not empty
+module _ (s : List ℕ) (i x : ℕ) (h : all isLetter s ≡ true) (k : i < length s) (e : x ≡ plainSet (getD s i 0)) where
+  pub set-is : x ≡ letterSet (getD s i 0)
+  unfolding plainSet
+  set-is = e ∙ ap letterSet (letter-plain (getD s i 0) (all-at isLetter s i h k))
+
+  pub set-there : 0 < x
+  unfolding isLetter
+  set-there = rw set-is (ltb-true 0 (letterSet (getD s i 0)) (all-at isLetter s i h k))
+
+module _ (t frame : ℕ) (put : List ℕ) (enough : 3 ≤ frame + length put) (letters : all isLetter put ≡ true) (a r : ℕ) (e : a ≡ plainSet (getD put 0 0)) where
   pub codon-of-two : frame ≡ 2 → r ≡ codonRule t 15 15 a → r ≡ getD (framedBy t frame put) 0 0
   unfolding codon letterSet
-  codon-of-two f h = h ∙ rw (f, e) (sym (framed-two t put (omega arith)))
+  codon-of-two f h = h ∙ rw (f, set-is put 0 a letters (omega arith) e) (sym (framed-two t put (omega arith)))
 
-  pub codon-of-one : 1 ≤ frame → frame < 3 → (frame ≡ 2 → ⊥) → (b : ℕ) → b ≡ letterSet (getD put 1 0) → r ≡ codonRule t 15 a b → r ≡ getD (framedBy t frame put) 0 0
+  pub codon-of-one : 1 ≤ frame → frame < 3 → (frame ≡ 2 → ⊥) → (b : ℕ) → b ≡ plainSet (getD put 1 0) → r ≡ codonRule t 15 a b → r ≡ getD (framedBy t frame put) 0 0
   unfolding codon letterSet
   codon-of-one k l f b d h =
       let one : frame ≡ 1 = omega arith in
-      h ∙ rw (one, e, d) (sym (framed-one t put (omega arith)))
-
--- no letter's set is empty
-pub set-there : (s : List ℕ) (i x : ℕ) → all isLetter s ≡ true → i < length s → x ≡ letterSet (getD s i 0) → 0 < x
-unfolding isLetter
-set-there s i x h k e = rw e (ltb-true 0 (letterSet (getD s i 0)) (all-at isLetter s i h k))
+      h ∙ rw (one, set-is put 0 a letters (omega arith) e, set-is put 1 b letters (omega arith) d) (sym (framed-one t put (omega arith)))
 
 counts : (frame b n m : ℕ) → 1 ≤ frame → frame < 3 → 3 ≤ frame + n → m ≡ n - (3 - frame) → 3 - frame + min (3 * (b + 1) - 0) m ≡ min (3 * (suc b + 1) - frame) n
 counts frame b n m h k l e = omega arith

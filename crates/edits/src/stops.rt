@@ -1,5 +1,5 @@
 // The stop cut: what goes in ends with its first stop codon.
-use codons::letters::strict_set;
+use codons::letters::plain_set;
 use codons::tables::residue_in;
 ghost use Prim.Native.Nat.{_+_, _*_, _/_, _<_, _≤_, min};
 ghost use mathlib.Core.Path.{_≡_};
@@ -7,10 +7,10 @@ ghost use mathlib.Core.Bool.{true};
 ghost use mathlib.Core.List.{[]};
 ghost use lib.ListN.{length, getD};
 ghost use Rattle.rules.specs.Bytes.{all};
-ghost use Rattle.rules.specs.Letters.{letterSet, isLetter};
+ghost use Rattle.rules.specs.Letters.{isLetter};
 ghost use Rattle.rules.specs.Codons.{codon};
 ghost use Rattle.rules.specs.Translation.{translated, beforeStop};
-ghost use Rattle.codons.specs.Tables.{HoldsSets, HoldsCode};
+ghost use Rattle.codons.specs.Tables.{plainSet, HoldsSets, HoldsCode};
 ghost use Rattle.edits.specs.Cuts.{framedBy, cutOf};
 
 // Whether a `*` appears, and how many of the bases stay.
@@ -27,15 +27,15 @@ fn framed_codon(put: &[u8], frame: usize, table: usize, sets: &[u8; 256], lut: &
     requires { ⌜ (1 ≤ frame) × (frame < 3) ⌝ }
     requires { ⌜ 3 ≤ frame + length (now put) ⌝ }
     requires { ⌜ all isLetter (now put) ≡ true ⌝ }
-    requires { ⌜ HoldsSets letterSet (now sets) ⌝ }
+    requires { ⌜ HoldsSets plainSet (now sets) ⌝ }
     requires { ⌜ HoldsCode table (now lut) ⌝ }
     ensures { λ r. ⌜ r ≡ getD (framedBy table frame (now (put .entry))) 0 0 ⌝ }
 {
-    let a = strict_set(sets, put[0]);
+    let a = plain_set(sets, put[0]);
     if frame == 2 {
         return residue_in(table, lut, ANY, ANY, a);
     }
-    let b = strict_set(sets, put[1]);
+    let b = plain_set(sets, put[1]);
     residue_in(table, lut, ANY, a, b)
 }
 
@@ -43,20 +43,20 @@ fn framed_codon(put: &[u8], frame: usize, table: usize, sets: &[u8; 256], lut: &
 fn codon_at(put: &[u8], i: usize, table: usize, sets: &[u8; 256], lut: &[u8; 4096]) -> u8
     requires { ⌜ i < length (now put) / 3 ⌝ }
     requires { ⌜ all isLetter (now put) ≡ true ⌝ }
-    requires { ⌜ HoldsSets letterSet (now sets) ⌝ }
+    requires { ⌜ HoldsSets plainSet (now sets) ⌝ }
     requires { ⌜ HoldsCode table (now lut) ⌝ }
     ensures { λ r. ⌜ r ≡ codon table (getD (now (put .entry)) (i * 3) 0) (getD (now (put .entry)) (i * 3 + 1) 0) (getD (now (put .entry)) (i * 3 + 2) 0) ⌝ }
 {
-    let a = strict_set(sets, put[i * 3]);
-    let b = strict_set(sets, put[i * 3 + 1]);
-    let c = strict_set(sets, put[i * 3 + 2]);
+    let a = plain_set(sets, put[i * 3]);
+    let b = plain_set(sets, put[i * 3 + 1]);
+    let c = plain_set(sets, put[i * 3 + 2]);
     residue_in(table, lut, a, b, c)
 }
 
 // The index of the first stop codon, or the codon count.
 fn first_stop(put: &[u8], table: usize, sets: &[u8; 256], lut: &[u8; 4096]) -> usize
     requires { ⌜ all isLetter (now put) ≡ true ⌝ }
-    requires { ⌜ HoldsSets letterSet (now sets) ⌝ }
+    requires { ⌜ HoldsSets plainSet (now sets) ⌝ }
     requires { ⌜ HoldsCode table (now lut) ⌝ }
     ensures { λ r. ⌜ r ≡ min (beforeStop (translated table [] (now (put .entry)))) (length (now (put .entry)) / 3) ⌝ }
 {
@@ -77,7 +77,7 @@ fn first_stop(put: &[u8], table: usize, sets: &[u8; 256], lut: &[u8; 4096]) -> u
 // The cut of bases that begin with a codon.
 fn cut_in_frame(put: &[u8], table: usize, sets: &[u8; 256], lut: &[u8; 4096]) -> Cut
     requires { ⌜ all isLetter (now put) ≡ true ⌝ }
-    requires { ⌜ HoldsSets letterSet (now sets) ⌝ }
+    requires { ⌜ HoldsSets plainSet (now sets) ⌝ }
     requires { ⌜ HoldsCode table (now lut) ⌝ }
     ensures { λ r. ⌜ r ≡ cutOf table 0 (now (put .entry)) ⌝ }
 {
@@ -104,7 +104,7 @@ pub fn insert_stop_seq_end(
 ) -> Cut
     requires { ⌜ frame < 3 ⌝ }
     requires { ⌜ all isLetter (now put) ≡ true ⌝ }
-    requires { ⌜ HoldsSets letterSet (now sets) ⌝ }
+    requires { ⌜ HoldsSets plainSet (now sets) ⌝ }
     requires { ⌜ HoldsCode table (now lut) ⌝ }
     ensures { λ r. ⌜ r ≡ cutOf table frame (now (put .entry)) ⌝ }
 {
