@@ -3,4 +3,5 @@ pub mod Blocks
 pub mod Residues
 pub mod Places
 pub mod Excepted
+pub mod Stops
 pub mod Answers
