@@ -4,4 +4,5 @@ pub mod Residues
 pub mod Places
 pub mod Excepted
 pub mod Stops
+pub mod Strict
 pub mod Answers

@@ -453,3 +453,63 @@ fn write_plain_to_stop(seq: &[u8], table: usize, code: &[u8; 64], out: &mut [u8]
     };
     stop
 }
+
+// The walk to the first stop, the faster way where all letters are bases and there are no exceptions.
+fn write_walk(
+    seq: &[u8],
+    table: usize,
+    plain: bool,
+    sets: &[u8; 256],
+    lut: &[u8; 4096],
+    code: &[u8; 64],
+    e: Exceptions,
+    out: &mut [u8],
+) -> usize
+    requires { ⌜ HoldsSets plainSet (now sets) ⌝ }
+    requires { ⌜ HoldsCode table (now lut) ⌝ }
+    requires { ⌜ HoldsPlain table (now code) ⌝ }
+    requires { ⌜ areLetters (now seq) ≡ true ⌝ }
+    requires { ⌜ (plain ≡ true → areBases (now seq) ≡ true) ⌝ }
+    requires { ⌜ e .count ≤ 16 ⌝ }
+    requires { ⌜ residueCount (length (now seq)) ≤ length (now out) ⌝ }
+    ensures { λ r. ⌜ WalkedTo (throughStop (plainTranslated table (exceptionList e) (now (seq .entry)))) (length (now (seq .entry))) (now (out .entry)) (now (out .exit)) r ⌝ }
+{
+    if plain & (e.count == 0) {
+        return write_plain_to_stop(seq, table, code, out);
+    }
+    write_to_stop(seq, table, sets, lut, e, out)
+}
+
+// Writes the residues of letters that were looked at, exceptions applied, to the buffer's start: through the first `*`; with none, to the end,
+// X for a rest. Answers how many they are.
+pub fn write_through_stop(
+    seq: &[u8],
+    table: usize,
+    plain: bool,
+    sets: &[u8; 256],
+    lut: &[u8; 4096],
+    code: &[u8; 64],
+    e: Exceptions,
+    out: &mut [u8],
+) -> usize
+    requires { ⌜ HoldsSets plainSet (now sets) ⌝ }
+    requires { ⌜ HoldsCode table (now lut) ⌝ }
+    requires { ⌜ HoldsPlain table (now code) ⌝ }
+    requires { ⌜ areLetters (now seq) ≡ true ⌝ }
+    requires { ⌜ (plain ≡ true → areBases (now seq) ≡ true) ⌝ }
+    requires { ⌜ e .count ≤ 16 ⌝ }
+    requires { ⌜ residueCount (length (now seq)) ≤ length (now out) ⌝ }
+    ensures { λ r. ⌜ r ≡ length (throughStop (plainTranslated table (exceptionList e) (now (seq .entry)))) ⌝ }
+    ensures written { λ _. ⌜ now (out .exit) ≡ over (throughStop (plainTranslated table (exceptionList e) (now (seq .entry)))) (now (out .entry)) ⌝ }
+{
+    let stop = write_walk(seq, table, plain, sets, lut, code, e, out);
+    let whole = seq.len() / 3;
+    if stop < whole {
+        return stop + 1;
+    }
+    if seq.len() % 3 != 0 {
+        out[whole] = b'X';
+        return whole + 1;
+    }
+    whole
+}
