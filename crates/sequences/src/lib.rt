@@ -10,3 +10,4 @@ pub use names::aa1_to_aa3;
 pub use names::aa3_to_aa1;
 pub use trims::common_prefix_len;
 pub use trims::common_suffix_len;
+pub use trims::equals;
