@@ -23,7 +23,8 @@ use Rattle.rules.specs.Edit.{Asked}
 use Rattle.rules.specs.Line.{editLine}
 use Rattle.rules.specs.Exceptions.{movedExceptions}
 use Rattle.rules.specs.Altered.{alteredTranscript}
-use Rattle.rules.specs.Refusal.{Limits, limits, Room, refusal, referenceRefusal, recordUnless}
+use Rattle.rules.specs.declared.Limits.{Limits}
+use Rattle.rules.specs.Refusal.{limits, Room, refusal, referenceRefusal, recordUnless}
 use Rattle.rules.specs.Answer.{Outcome, Answers, outcome}
 use Rattle.rules.specs.Values.{Values, valuesOf}
 use Rattle.rules.specs.Opened.{opened}
@@ -211,8 +212,8 @@ calls-hold = refl
 -- a value's fields in their order
 abbrev pub row : Values → List ℕ
 row v =
-    v .answer ∷ v .refusal ∷ v .frameshift ∷ v .transcript ∷ v .reference ∷ v .altered ∷ v .change
-    ∷ v .number ∷ v .deletedAt ∷ v .deletedLen ∷ v .insertedAt ∷ v .insertedLen ∷ v .first ∷ []
+    v .told .answer ∷ v .refusal ∷ v .frameshift ∷ v .transcript ∷ v .reference ∷ v .altered ∷ v .told .class
+    ∷ v .told .number ∷ v .told .deletedAt ∷ v .told .deletedLen ∷ v .told .insertedAt ∷ v .told .insertedLen ∷ v .told .first ∷ []
 
 abbrev pub reported : Record → Bool → Answer
 reported x flag = Reported (record { found = x; frameshift = flag; transcript = 91; reference = 92; altered = 93 })

@@ -74,7 +74,7 @@ number-checks =
     -- the silent number, brought into 1..5: by the start, and by a duplication's end
     ∷ map (λ (p : Position). silentNumber worked (edit-of kind.Identity p (Plus 9) "")) (Plus 1 ∷ Plus 3 ∷ Plus 4 ∷ Plus 15 ∷ Minus 1 ∷ Star 4 ∷ Star 99 ∷ []) gives (1 ∷ 1 ∷ 2 ∷ 5 ∷ 1 ∷ 2 ∷ 5 ∷ [])
     ∷ map (λ (p : Position). silentNumber worked (edit-of kind.Duplication (Plus 13) p "")) (Plus 2 ∷ Plus 3 ∷ Plus 5 ∷ Plus 6 ∷ Plus 15 ∷ Star 2 ∷ Star 6 ∷ Minus 1 ∷ []) gives (1 ∷ 2 ∷ 2 ∷ 3 ∷ 5 ∷ 1 ∷ 3 ∷ 1 ∷ [])
-    ∷ map counted (Plus 7 ∷ Minus 7 ∷ Star 7 ∷ []) gives (7 ∷ 0 ∷ 7 ∷ [])
+    ∷ map counted (Plus 7 ∷ Minus 7 ∷ Star 7 ∷ []) gives (7 ∷ 1 ∷ 7 ∷ [])
     ∷ map (within 5) (0 ∷ 1 ∷ 2 ∷ 5 ∷ 6 ∷ []) gives (1 ∷ 1 ∷ 2 ∷ 5 ∷ 5 ∷ [])
     ∷ map (within 0) (0 ∷ 3 ∷ []) gives (1 ∷ 1 ∷ [])
     -- the first residue copied, in a duplication only

@@ -1,17 +1,17 @@
 -- Laws of the common beginning and the common ending of two lists.
 -- Assumes nothing.
 use mathlib.Core.Path.{_≡_, refl, sym, ap, subst, _∙_}
-use mathlib.Core.Bool.{Bool, true, false}
+use mathlib.Core.Bool.{Bool, true, false, _&&_, and-self}
 use mathlib.Core.List.{List, [], _∷_, _++_, reverse, append-assoc, append-nil, reverse-append, reverse-reverse}
 use Prim.Native.Nat.{ℕ, zero, suc, _+_, _-_, _≤_, _<_, min, zero-le, suc-le-suc}
 use native.Mathlib.Numerals.{add-one}
 use native.Mathlib.Nat.{le-refl, suc-add, sub-zero, zero-add}
 use native.Mathlib.Omega.{arith}
-use lib.Dec.{eqb}
+use lib.Dec.{eqb, eqb·zero-suc, eqb·suc-suc}
 use lib.ListN.{length, take, drop, getD, length-append, length-take, length-drop, length-reverse, take-append-drop, drop-of-length-le}
 use lib.Seq.{take-length, take-suc, drop-cons, length-take-le, take-append-seam, take-at}
-use borrow.Author.Tests.{eq-eqb, ne-eqb, eqb-true}
-use Rattle.rules.specs.Bytes.{if_then_else_}
+use borrow.Author.Tests.{eq-eqb, ne-eqb, eqb-true, eqb-false}
+use Rattle.rules.specs.Bytes.{if_then_else_, same}
 use Rattle.rules.specs.Trims.{commonPrefix, commonSuffix}
 
 pub cp-same : (x y : ℕ) (a b : List ℕ) → x ≡ y → commonPrefix (x ∷ a) (y ∷ b) ≡ suc (commonPrefix a b)
@@ -67,6 +67,29 @@ cp-take (suc n) (x ∷ a) (y ∷ b) h = at (eqb x y) refl h (cp-take n a b)
 pub cp-append : (p a b : List ℕ) → commonPrefix (p ++ a) (p ++ b) ≡ length p + commonPrefix a b
 cp-append [] a b = omega arith
 cp-append (x ∷ p) a b = cp-same x x (p ++ a) (p ++ b) refl ∙ ap suc (cp-append p a b) ∙ sym (suc-add (length p) (commonPrefix a b))
+
+-- two lists are the same where their common beginning is the whole of each
+pub same-whole : (a b : List ℕ) → same a b ≡ (eqb (commonPrefix a b) (length a) && eqb (commonPrefix a b) (length b))
+unfolding same
+same-whole [] [] = rw (cp-nil-l [])
+same-whole [] (y ∷ b) = rw (cp-nil-l (y ∷ b), eqb·zero-suc (length b))
+same-whole (x ∷ a) [] = rw (cp-nil-r (x ∷ a), eqb·zero-suc (length a))
+same-whole (x ∷ a) (y ∷ b) = at (eqb x y) refl (same-whole a b)
+  where
+    at : (t : Bool) → eqb x y ≡ t → same a b ≡ (eqb (commonPrefix a b) (length a) && eqb (commonPrefix a b) (length b)) → (t && same a b) ≡ (eqb (commonPrefix (x ∷ a) (y ∷ b)) (suc (length a)) && eqb (commonPrefix (x ∷ a) (y ∷ b)) (suc (length b)))
+    at true e k = rw (cp-same x y a b (eqb-true x y e), eqb·suc-suc (commonPrefix a b) (length a), eqb·suc-suc (commonPrefix a b) (length b)) k
+    at false e k = rw (cp-differ x y a b (eqb-false x y e), eqb·zero-suc (length a))
+
+-- so that their lengths are equal
+pub same-lengths : (a b : List ℕ) → (length a ≡ length b → ⊥) → same a b ≡ false
+same-lengths a b h = same-whole a b ∙ at (eqb (commonPrefix a b) (length a)) refl
+  where
+    at : (t : Bool) → eqb (commonPrefix a b) (length a) ≡ t → (t && eqb (commonPrefix a b) (length b)) ≡ false
+    at true e = ne-eqb _ _ (λ q. h (sym (eqb-true _ _ e) ∙ q))
+    at false e = refl
+
+pub same-equal : (a b : List ℕ) → length a ≡ length b → same a b ≡ eqb (commonPrefix a b) (length a)
+same-equal a b h = same-whole a b ∙ rw (← h, and-self)
 
 -- one step of a loop that goes from the front
 module _ (a b : List ℕ) (i : ℕ) where

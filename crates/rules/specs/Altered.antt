@@ -1,7 +1,7 @@
 -- "Positions and edits": what each kind replaces by what, the stop cut, the altered transcript, its length, and the frameshift flag.
-use Prim.Native.Nat.{ℕ, zero, suc, _+_, _-_, _*_, _%_}
-use mathlib.Core.List.{List, [], _∷_, _++_}
-use mathlib.Core.Bool.{Bool, true, false, _&&_, _||_, not}
+use Prim.Native.Nat.{ℕ, _+_, _-_, _*_, _%_}
+use mathlib.Core.List.{List, [], _++_}
+use mathlib.Core.Bool.{Bool, _&&_, _||_, not}
 use lib.Dec.{eqb, ltb}
 use lib.ListN.{length, take, drop, replicate}
 use Rattle.rules.specs.declared.Kind.{Kind}
@@ -26,7 +26,7 @@ unfoldable pub carried : Swap → List ℕ → List ℕ
 carried w s = take (w .from) s ++ (w .put ++ drop (w .to) s)
 
 -- deletion, delins, substitution: start..end give way to the new bases; insertion: new bases after the start index; duplication: a copy of
--- start..end goes in at end; inversion: start..end is reverse complemented; identity: nothing changes
+-- start..end goes in at end; inversion: start..end is reverse complemented; identity: nothing changes, as in an unknown kind
 unfoldable pub swapBy : Kind → List ℕ → ℕ → ℕ → List ℕ → Swap
 swapBy Substitution s start end new = record { from = start; to = end; put = new }
 swapBy Deletion s start end new = record { from = start; to = end; put = new }
@@ -98,6 +98,7 @@ leavesCds r e =
 unfoldable pub putsBack : Reference → Asked → Bool
 putsBack r e = same (part (swap r e .from) (swap r e .to) (r .letters)) (swap r e .put)
 
+-- never if the replaced bases equal the new ones or the stop cut finds a `*`, and never in an inversion or identity
 unfoldable pub frameshift : Reference → Asked → Bool
 frameshift r e =
     (isUneven r e || leavesCds r e)

@@ -1,11 +1,11 @@
 -- "Refusal numbers": what a call answers and writes. Unknown is decided after 10 and before 11.
 use Prim.Native.Nat.{ℕ, zero, suc}
 use mathlib.Core.Path.{_≡_}
-use mathlib.Core.List.{List, [], _∷_}
+use mathlib.Core.List.{List, []}
 use mathlib.Core.Bool.{Bool, true, false}
 use lib.ListN.{length}
-use Rattle.rules.specs.declared.Record.{Record}
 use Rattle.rules.specs.declared.Record.the-variants.{Unknown}
+use Rattle.rules.specs.declared.Limits.{Limits}
 use Rattle.rules.specs.declared.Report.{Report}
 use Rattle.rules.specs.declared.Answer.{Answer}
 use Rattle.rules.specs.declared.Answer.the-variants.{Refused, Reported}
@@ -17,7 +17,7 @@ use Rattle.rules.specs.Edit.{Asked}
 use Rattle.rules.specs.Altered.{alteredTranscript, frameshift}
 use Rattle.rules.specs.Protein.{alteredProtein}
 use Rattle.rules.specs.Record.{isUnknown, recordOf}
-use Rattle.rules.specs.Refusal.{Limits, refusal, Room, roomRefusal}
+use Rattle.rules.specs.Refusal.{refusal, Room, roomRefusal}
 
 -- the answer of a function that fills one buffer, and what it writes there
 unfoldable pub writtenOf : Result (List ℕ) → Written

@@ -1,17 +1,17 @@
 -- "Letters and codons": the residue of a codon of three letter sets, in each of the three tables.
 use Prim.Native.Nat.{ℕ, zero, suc, _+_, _*_, _/_, _%_}
-use Prim.Native.Char.{Char, code}
+use Prim.Native.Char.{Char}
 use Prim.Native.String.{String}
 use mathlib.Core.Bool.{Bool, true, false}
 use mathlib.Core.List.{List, [], _∷_, _++_}
 use lib.Dec.{eqb, leb}
 use lib.ListN.{getD, set}
-use Rattle.rules.specs.Bytes.{bytes}
+use Rattle.rules.specs.Bytes.{byte, bytes}
 use Rattle.rules.specs.Letters.{pick, valueOf, letterSet}
 
 -- first base slowest, order T, C, A, G: a base's number
 abbrev pub order : List (ℕ × ℕ)
-order = (code "T", 0) ∷ (code "C", 1) ∷ (code "A", 2) ∷ (code "G", 3) ∷ []
+order = (byte "T", 0) ∷ (byte "C", 1) ∷ (byte "A", 2) ∷ (byte "G", 3) ∷ []
 
 -- where a plain codon stands among the 64, behind the bases that make n
 abbrev pub placeFrom : ℕ → List ℕ → ℕ
@@ -20,9 +20,9 @@ placeFrom n (b ∷ bs) = placeFrom (n * 4 + valueOf b order) bs
 
 -- a code with one codon read as another residue
 abbrev pub reading : String → Char → List ℕ → List ℕ
-reading codon r residues = set residues (placeFrom 0 (bytes codon)) (code r)
+reading codon r residues = set residues (placeFrom 0 (bytes codon)) (byte r)
 
--- NCBI's code 1
+-- table 0, NCBI's code 1
 abbrev pub standard : List ℕ
 standard = bytes "FFLLSSSSYY**CC*WLLLLPPPPHHQQRRRRIIIMTTTTNNKKSSRRVVVVAAAADDEEGGGG"
 
@@ -37,12 +37,12 @@ unfoldable pub isTable : ℕ → Bool
 isTable table = leb table 2
 
 -- the residue X
-abbrev pub unknown : ℕ
-unknown = code "X"
+abbrev pub residueX : ℕ
+residueX = byte "X"
 
 -- the residue of a plain codon, its bases by their numbers
 abbrev pub plainCodon : ℕ → ℕ → ℕ → ℕ → ℕ
-plainCodon t i j k = getD (geneticCode t) (i * 16 + j * 4 + k) unknown
+plainCodon t i j k = getD (geneticCode t) (i * 16 + j * 4 + k) residueX
 
 -- what a base adds to a set, by the base's number
 abbrev pub bitOf : ℕ → ℕ
@@ -74,8 +74,8 @@ allAre r (x ∷ xs) = elim (eqb x r) [ true ↦ allAre r xs | false ↦ false ]
 
 -- if all plain codons give one residue that is the answer, else X
 abbrev pub agreed : List ℕ → ℕ
-agreed [] = unknown
-agreed (r ∷ rs) = pick (allAre r rs) r unknown
+agreed [] = residueX
+agreed (r ∷ rs) = pick (allAre r rs) r residueX
 
 -- the residue of three letter sets
 unfoldable pub codonRule : ℕ → ℕ → ℕ → ℕ → ℕ

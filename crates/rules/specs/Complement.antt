@@ -1,15 +1,15 @@
 -- "Letters and codons": the reverse complement reverses the letters and complements each set.
-use Prim.Native.Nat.{ℕ, zero, suc}
-use Prim.Native.Char.{Char, code}
+use Prim.Native.Nat.{ℕ}
+use Prim.Native.Char.{Char}
 use mathlib.Core.List.{List, [], _∷_, map, reverse}
-use mathlib.Core.Bool.{Bool, true, false, not}
+use mathlib.Core.Bool.{not}
 use lib.Dec.{eqb, ltb}
 use lib.ListN.{length}
-use Rattle.rules.specs.Bytes.{if_then_else_, all, _↯_, firstOf, Result, unless}
+use Rattle.rules.specs.Bytes.{byte, if_then_else_, all, _↯_, firstOf, Result, unless}
 use Rattle.rules.specs.Letters.{isLetter}
 
 abbrev pub pair : Char → Char → ℕ × ℕ
-pair a b = (code a, code b)
+pair a b = (byte a, byte b)
 
 -- A-T, C-G, R-Y, K-M, B-V, D-H; S, W, N stay
 abbrev pub partners : List (ℕ × ℕ)

@@ -1,7 +1,7 @@
 -- "Positions and edits": an edit and its new bases, and refusals 7 to 10.
-use Prim.Native.Nat.{ℕ, zero, suc, _+_, _-_, min}
+use Prim.Native.Nat.{ℕ, _+_, min}
 use mathlib.Core.List.{List, [], _∷_}
-use mathlib.Core.Bool.{Bool, true, false, _&&_, _||_, not}
+use mathlib.Core.Bool.{Bool, false, _&&_, _||_, not}
 use lib.Dec.{eqb, leb, ltb}
 use lib.ListN.{length}
 use Rattle.rules.specs.declared.Kind.{Kind}
@@ -17,7 +17,7 @@ pub record Asked : Type 0 where
   pub edit : Edit
   pub new : List ℕ
 
--- the number that a host gives each kind; any other number is an unknown kind
+-- the number that a host gives each kind; every other number is an unknown kind, here 0
 abbrev pub kindNumber : Kind → ℕ
 kindNumber Other = 0
 kindNumber Substitution = 1
@@ -74,11 +74,11 @@ isOutOfCds e =
     || (isBehind (e .edit .start) && isBehind (e .edit .end))
     || (is Insertion (kindOf e) && isBefore (e .edit .start))
 
--- new bases, 1 to `most` of them
+-- new bases, 1 to `most` of them, all of the fifteen letters
 unfoldable pub areBases : ℕ → List ℕ → Bool
 areBases most s = leb 1 (length s) && leb (length s) most && all isLetter s
 
--- the new bases are those that the kind takes: one, 1 to `most`, or none; an unknown kind takes none
+-- the new bases are those that the kind takes: one, 1 to `most`, or none; an unknown kind is refused whatever they are
 unfoldable pub fitBases : ℕ → Kind → List ℕ → Bool
 fitBases most Substitution s = areBases 1 s
 fitBases most Deletion s = isNone s

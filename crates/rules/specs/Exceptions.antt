@@ -1,7 +1,7 @@
 -- "Positions and edits": exceptions move.
-use Prim.Native.Nat.{ℕ, zero, suc, _+_, _-_, _*_, _/_, _%_}
-use mathlib.Core.List.{List, [], _∷_}
-use mathlib.Core.Bool.{Bool, true, false, _&&_, _||_}
+use Prim.Native.Nat.{ℕ, _+_, _-_, _*_, _/_, _%_}
+use mathlib.Core.List.{List, [], _∷_, _++_}
+use mathlib.Core.Bool.{Bool, _&&_}
 use lib.Dec.{eqb, leb}
 use lib.ListN.{length, drop}
 use Rattle.rules.specs.declared.Exception.{Exception}
@@ -37,18 +37,18 @@ unfoldable pub codonNumber : ℕ → ℕ → ℕ
 codonNumber first at = (at - first) / 3 + 1
 
 -- a codon wholly in the prefix stays; one wholly in the suffix moves by the length change if it lands in frame; the others are dropped
-unfoldable pub movedOne : ℕ → ℕ → List ℕ → List ℕ → Exception → List Exception → List Exception
-movedOne prefix first old new e rest =
+unfoldable pub movedOne : ℕ → ℕ → List ℕ → List ℕ → Exception → List Exception
+movedOne prefix first old new e =
     let at = codonIndex first (e .codon) in
     let to = shifted at old new in
     let moved : Exception = record { codon = codonNumber first to; residue = e .residue } in
-    if inPrefix prefix at then e ∷ rest
-    else if inSuffix prefix at old new && inFrame first to then moved ∷ rest
-    else rest
+    if inPrefix prefix at then e ∷ []
+    else if inSuffix prefix at old new && inFrame first to then moved ∷ []
+    else []
 
 unfoldable pub movedAll : ℕ → ℕ → List ℕ → List ℕ → List Exception → List Exception
 movedAll prefix first old new [] = []
-movedAll prefix first old new (e ∷ es) = movedOne prefix first old new e (movedAll prefix first old new es)
+movedAll prefix first old new (e ∷ es) = movedOne prefix first old new e ++ movedAll prefix first old new es
 
 -- with the longest common prefix of the old and new transcript
 unfoldable pub movedExceptions : Reference → List ℕ → List Exception

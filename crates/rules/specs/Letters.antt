@@ -1,6 +1,6 @@
 -- "Letters and codons": a letter is a set of bases, and a set is the sum of its bases: A 1, C 2, G 4, T 8.
-use Prim.Native.Nat.{ℕ, zero, suc, _+_, _-_}
-use Prim.Native.Char.{Char, code}
+use Prim.Native.Nat.{ℕ, _+_, _-_}
+use Prim.Native.Char.{Char}
 use Prim.Native.String.{String}
 use mathlib.Core.List.{List, [], _∷_}
 use mathlib.Core.Bool.{Bool, true, false, _&&_}
@@ -17,7 +17,7 @@ valueOf b [] = 0
 valueOf b (p ∷ ps) = pick (eqb b (p .0)) (p .1) (valueOf b ps)
 
 abbrev pub bases : List (ℕ × ℕ)
-bases = (code "A", 1) ∷ (code "C", 2) ∷ (code "G", 4) ∷ (code "T", 8) ∷ []
+bases = (byte "A", 1) ∷ (byte "C", 2) ∷ (byte "G", 4) ∷ (byte "T", 8) ∷ []
 
 -- the set of the bases named
 abbrev pub setOf : List ℕ → ℕ
@@ -25,7 +25,7 @@ setOf [] = 0
 setOf (b ∷ bs) = valueOf b bases + setOf bs
 
 abbrev pub letter : Char → String → ℕ × ℕ
-letter c s = (code c, setOf (bytes s))
+letter c s = (byte c, setOf (bytes s))
 
 -- A, C, G, T; R=AG, Y=CT, S=CG, W=AT, K=GT, M=AC, B=CGT, D=AGT, H=ACT, V=ACG, N=ACGT
 abbrev pub letters : List (ℕ × ℕ)

@@ -1,4 +1,5 @@
--- The definitions of document 01, a file for each of its parts and in its order, each over those above it.
+-- The definitions of document 01, a file for each of its parts and in its order, each over those above it. Bytes has the words that all
+-- share, Values the numbers that a host reads, Opened what a worked example computes with.
 pub mod Bytes
 pub mod Letters
 pub mod Codons

@@ -1,7 +1,7 @@
 -- "Text program": the form of a line.
-use Prim.Native.Nat.{ℕ, zero, suc}
+use Prim.Native.Nat.{ℕ}
 use mathlib.Core.List.{List, [], _∷_}
-use mathlib.Core.Bool.{Bool, true, false, _&&_}
+use mathlib.Core.Bool.{Bool, false, _&&_}
 use mathlib.Core.Option.{Option, none, some}
 use lib.Dec.{eqb, leb}
 use lib.ListN.{length, take, drop}
@@ -9,7 +9,7 @@ use Rattle.rules.specs.declared.Position.{Position}
 use Rattle.rules.specs.declared.Position.the-variants.{Plus, Minus, Star}
 use Rattle.rules.specs.declared.Kind.{Kind}
 use Rattle.rules.specs.declared.Kind.the-variants.{Substitution, Deletion, Delins, Insertion, Duplication, Inversion, Identity}
-use Rattle.rules.specs.Bytes.{bytes, byte, if_then_else_, same, isNone, all, isCapital}
+use Rattle.rules.specs.Bytes.{bytes, byte, if_then_else_, same, all, isCapital}
 use Rattle.rules.specs.Reference.{Reference}
 use Rattle.rules.specs.Edit.{Asked}
 use Rattle.rules.specs.Number.{Numbered, number}
@@ -50,7 +50,7 @@ joined p (b ∷ s) =
 unfoldable pub range : List ℕ → Option Range
 range s = andThen (position s) (λ p. joined (p .position) (p .rest))
 
--- one or more bytes A to Z
+-- one or more bytes A to Z; a wrong one is left to 2 and 10
 unfoldable pub areCapitals : List ℕ → Bool
 areCapitals s = leb 1 (length s) && all isCapital s
 
@@ -115,6 +115,6 @@ referenceLine s =
     then some (record { letters = t .rest; cs = cs .number; ce = ce .number; table = t .number; exceptions = [] })
     else none))))
 
--- lines above 20,480 bytes are 30
+-- lines above 20,480 bytes are 30; so are empty ones, which no form takes
 unfoldable pub fitsLine : List ℕ → Bool
 fitsLine s = leb (length s) 20480

@@ -1,12 +1,12 @@
 -- "Letters and codons": one-letter and three-letter residue names, both ways, case counting.
-use Prim.Native.Nat.{ℕ, zero, suc, _%_}
-use Prim.Native.Char.{Char, code}
+use Prim.Native.Nat.{ℕ, _%_}
+use Prim.Native.Char.{Char}
 use Prim.Native.String.{String}
 use mathlib.Core.List.{List, [], _∷_}
-use mathlib.Core.Bool.{Bool, true, false, _&&_, _||_, not}
+use mathlib.Core.Bool.{not}
 use lib.Dec.{eqb, ltb}
 use lib.ListN.{length}
-use Rattle.rules.specs.Bytes.{bytes, if_then_else_, same, isNone, all, each, _↯_, firstOf, Result, unless}
+use Rattle.rules.specs.Bytes.{byte, bytes, if_then_else_, same, isNone, all, each, _↯_, firstOf, Result, unless}
 
 pub record Name : Type 0 where
   pub one : ℕ
@@ -14,7 +14,7 @@ pub record Name : Type 0 where
 
 infix 80 _is_
 abbrev pub _is_ : Char → String → Name
-c is s = record { one = code c; three = bytes s }
+c is s = record { one = byte c; three = bytes s }
 
 -- IUPAC: 20 residues, U Sec, X Xaa, B Asx, Z Glx, `*` Ter
 unfoldable pub names : List Name

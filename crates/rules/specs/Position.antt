@@ -1,7 +1,7 @@
 -- "Positions and edits": a position is a signed number p, never zero, or a star number q from 1 to 65,535.
-use Prim.Native.Nat.{ℕ, zero, suc, _+_, _-_, min}
+use Prim.Native.Nat.{ℕ, _+_, _-_, min}
 use mathlib.Core.Bool.{Bool, true, false, _||_}
-use lib.Dec.{eqb, leb, ltb}
+use lib.Dec.{eqb, ltb}
 use Rattle.rules.specs.declared.Position.{Position}
 use Rattle.rules.specs.declared.Position.the-variants.{Plus, Minus, Star}
 
@@ -35,8 +35,8 @@ isBehind (Plus p) = false
 isBehind (Minus p) = false
 isBehind (Star q) = true
 
--- s or e in a silent record's number: p, q for a star, and 0 for p < 0
+-- s or e in a silent record's number: p, q for a star, 1 where p < 0
 unfoldable pub counted : Position → ℕ
 counted (Plus p) = p
-counted (Minus p) = 0
+counted (Minus p) = 1
 counted (Star q) = q

@@ -1,8 +1,8 @@
 -- "The record": Unknown, NoProtein, Silent or Changed, and the class.
-use Prim.Native.Nat.{ℕ, zero, suc, _+_, _-_, _/_, min, max}
-use mathlib.Core.List.{List, [], _∷_, _++_}
-use mathlib.Core.Bool.{Bool, true, false, _&&_, _||_, not}
-use lib.Dec.{eqb, leb, ltb}
+use Prim.Native.Nat.{ℕ, _+_, _-_, _/_, min, max}
+use mathlib.Core.List.{List, _++_}
+use mathlib.Core.Bool.{Bool, true, false, _&&_, _||_}
+use lib.Dec.{eqb, ltb}
 use lib.ListN.{length, take, drop, getD}
 use Rattle.rules.specs.declared.Kind.the-variants as kind
 use Rattle.rules.specs.declared.Class.{Class}
@@ -55,7 +55,8 @@ classByCounts d i copy =
     else if eqb d 0 then Insertion
     else Delins
 
--- first that holds: d deleted, i inserted, the residues of R and A there (0 where the protein has ended), the flag
+-- first that holds: d deleted, i inserted, the residues of R and A there (0 where the protein has ended), the flag, and whether the
+-- inserted ones are a copy
 unfoldable pub classBy : ℕ → ℕ → ℕ → ℕ → ℕ → Bool → Bool → Class
 classBy number d i inR inA flag copy =
     if eqb number 1 then StartLost
@@ -109,6 +110,6 @@ recordOf r e =
     if isUnknown r e then Unknown
     else recordFrom (frameshift r e) (silentNumber r e) (referenceProtein r) (alteredProtein r e)
 
--- the residues `taken` that stand at a number give way to `put`
+-- a record carried out: the residues `taken` that stand at its number give way to `put`
 unfoldable pub replayed : ℕ → List ℕ → List ℕ → List ℕ → List ℕ
 replayed number taken put s = take (number - 1) s ++ (put ++ drop (number - 1 + length taken) s)

@@ -1,7 +1,7 @@
 -- "Reference": letters, bounds, table and exceptions, and the reference protein R.
-use Prim.Native.Nat.{ℕ, zero, suc, _+_, _-_, _/_, _%_}
+use Prim.Native.Nat.{ℕ, _+_, _-_, _/_, _%_}
 use mathlib.Core.List.{List, [], _∷_}
-use mathlib.Core.Bool.{Bool, true, false, _&&_, _||_, not}
+use mathlib.Core.Bool.{Bool, true, _&&_, not}
 use lib.Dec.{eqb, leb, ltb}
 use lib.ListN.{length, take, drop, getD}
 use Rattle.rules.specs.declared.Exception.{Exception}
@@ -47,7 +47,7 @@ areRising last most [] = true
 areRising last most (e ∷ es) =
     ltb last (e .codon) && leb (e .codon) most && isResidue (e .residue) && areRising (e .codon) most es
 
--- at most 16
+-- at most 16, each a codon number from 1 to the number of CDS codons
 unfoldable pub fitExceptions : Reference → Bool
 fitExceptions r = leb (length (r .exceptions)) 16 && areRising 0 (codons r) (r .exceptions)
 

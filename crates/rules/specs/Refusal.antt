@@ -1,8 +1,9 @@
 -- "Refusal numbers": the lowest is given, but for orders named.
-use Prim.Native.Nat.{ℕ, zero, suc, _+_, _-_}
+use Prim.Native.Nat.{ℕ, _+_, _-_}
 use mathlib.Core.List.{List, [], _∷_, _++_}
-use mathlib.Core.Bool.{Bool, true, false, _||_}
+use mathlib.Core.Bool.{_||_}
 use lib.Dec.{ltb}
+use Rattle.rules.specs.declared.Limits.{Limits}
 use Rattle.rules.specs.declared.Record.{Record}
 use Rattle.rules.specs.Bytes.{Test, _↯_, firstOf, Result, unless}
 use Rattle.rules.specs.Translation.{residueCount}
@@ -11,11 +12,7 @@ use Rattle.rules.specs.Edit.{Asked, editTests}
 use Rattle.rules.specs.Altered.{alteredLength}
 use Rattle.rules.specs.Record.{recordOf}
 
--- the longest transcript, and the most new bases
-pub record Limits : Type 0 where
-  pub longest : ℕ
-  pub most : ℕ
-
+-- transcripts of 1 to 16,384 bases, 1 to 4,096 new ones
 abbrev pub limits : Limits
 limits = record { longest = 16384; most = 4096 }
 
@@ -35,14 +32,14 @@ pub record Room : Type 0 where
 
 -- 11: transcript buffer shorter than the altered length; 12: a protein buffer shorter than CDS/3 or ceil((altered length-cs+1)/3)
 unfoldable pub roomTests : Reference → Asked → Room → List Test
-roomTests r e m =
-    ltb (m .transcript) (alteredLength r e) ↯ 11
-    ∷ (ltb (m .reference) (residueCount (cdsSize r)) || ltb (m .altered) (residueCount (alteredLength r e + 1 - r .cs))) ↯ 12
+roomTests r e room =
+    ltb (room .transcript) (alteredLength r e) ↯ 11
+    ∷ (ltb (room .reference) (residueCount (cdsSize r)) || ltb (room .altered) (residueCount (alteredLength r e + 1 - r .cs))) ↯ 12
     ∷ []
 
 unfoldable pub roomRefusal : Reference → Asked → Room → ℕ
-roomRefusal r e m = firstOf (roomTests r e m)
+roomRefusal r e room = firstOf (roomTests r e room)
 
--- the record, where every buffer has room
+-- 1 to 10, else the record: what is answered where every buffer has room
 unfoldable pub recordUnless : Limits → Reference → Asked → Result Record
 recordUnless m r e = unless (refusal m r e) (recordOf r e)

@@ -1,7 +1,7 @@
 -- "Text program": what each line is answered, and the whole run.
 use Prim.Native.Nat.{ℕ, zero, suc, _+_, _/_, _%_}
 use mathlib.Core.List.{List, [], _∷_, _++_, map}
-use mathlib.Core.Bool.{Bool, true, false}
+use mathlib.Core.Bool.{true, false}
 use mathlib.Core.Option.{Option, none, some}
 use lib.Dec.{eqb, ltb}
 use Rattle.rules.specs.declared.Class.{Class}
@@ -17,7 +17,7 @@ use Rattle.rules.specs.Record.{partOf}
 use Rattle.rules.specs.Refusal.{limits, referenceRefusal, recordUnless}
 use Rattle.rules.specs.Line.{editLine, referenceLine, fitsLine}
 
--- the last `fuel` decimal digits of a number, with no leading zero
+-- the decimal digits of a number, no leading zero; `fuel` is at least their number
 unfoldable pub decimalOf : ℕ → ℕ → List ℕ
 decimalOf zero n = []
 decimalOf (suc fuel) n =
@@ -76,7 +76,7 @@ editAnswer r (some e) = answerLine (recordUnless limits r e) (referenceProtein r
 unfoldable pub editLineAnswer : Reference → List ℕ → List ℕ
 editLineAnswer r s = editAnswer r (if fitsLine s then editLine s else none)
 
--- a refused first line prints its `refused` line and ends the run
+-- an accepted first line prints R, and the edits follow; a refused one prints its `refused` line and ends the run
 unfoldable pub answersFrom : ℕ → Reference → List (List ℕ) → List (List ℕ)
 answersFrom zero r lines = (bytes "reference " ++ referenceProtein r) ∷ map (editLineAnswer r) lines
 answersFrom (suc n) r lines = refusedLine (suc n) ∷ []
@@ -90,18 +90,22 @@ unfoldable pub answers : List (List ℕ) → List (List ℕ)
 answers [] = []
 answers (s ∷ lines) = answersOf (if fitsLine s then referenceLine s else none) lines
 
+abbrev pub lineFeed : ℕ
+lineFeed = 10
+
 -- a line ends at a line feed, the last perhaps without; `line` is what stands before the bytes in theirs
 unfoldable pub linesFrom : List ℕ → List ℕ → List (List ℕ)
 linesFrom [] [] = []
 linesFrom (x ∷ xs) [] = (x ∷ xs) ∷ []
-linesFrom line (b ∷ s) = elim (eqb b 10) [ true ↦ line ∷ linesFrom [] s | false ↦ linesFrom (line ++ (b ∷ [])) s ]
+linesFrom line (b ∷ s) = elim (eqb b lineFeed) [ true ↦ line ∷ linesFrom [] s | false ↦ linesFrom (line ++ (b ∷ [])) s ]
 
 unfoldable pub lines : List ℕ → List (List ℕ)
 lines s = linesFrom [] s
 
+-- every output line ends in a line feed
 unfoldable pub unlines : List (List ℕ) → List ℕ
 unlines [] = []
-unlines (l ∷ ls) = l ++ (10 ∷ unlines ls)
+unlines (l ∷ ls) = l ++ (lineFeed ∷ unlines ls)
 
 -- what the program prints on an input
 unfoldable pub run : List ℕ → List ℕ

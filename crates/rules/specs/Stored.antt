@@ -1,7 +1,7 @@
 -- "Stored reference": fields of a one-byte tag, a two-byte length (high byte first) and the content.
 use Prim.Native.Nat.{ℕ, zero, suc, _+_, _*_, _%_}
 use mathlib.Core.List.{List, [], _∷_}
-use mathlib.Core.Bool.{Bool, true, false, _&&_, _||_, not}
+use mathlib.Core.Bool.{Bool, _&&_, _||_, not}
 use mathlib.Core.Option.{Option, none, some}
 use lib.Dec.{eqb, leb, ltb}
 use lib.ListN.{length, take, drop, getD}
@@ -11,8 +11,8 @@ use Rattle.rules.specs.Reference.{Reference}
 use Rattle.rules.specs.Refusal.{referenceRefusal}
 
 -- a number of two bytes, high byte first
-unfoldable pub two : ℕ → ℕ → ℕ
-two high low = 256 * high + low
+unfoldable pub twoBytes : ℕ → ℕ → ℕ
+twoBytes high low = 256 * high + low
 
 -- what the bytes begin with: nothing, a field cut off, or a whole field and the bytes behind it
 pub data Field : Type 0 where
@@ -25,7 +25,7 @@ field [] = ended
 field (tag ∷ []) = cut tag
 field (tag ∷ high ∷ []) = cut tag
 field (tag ∷ high ∷ low ∷ s) =
-    if leb (two high low) (length s) then whole tag (take (two high low) s) (drop (two high low) s) else cut tag
+    if leb (twoBytes high low) (length s) then whole tag (take (twoBytes high low) s) (drop (twoBytes high low) s) else cut tag
 
 -- 21: tag unknown, repeated or not rising; `last` is the tag before it
 unfoldable pub isWrongTag : ℕ → ℕ → Bool
@@ -71,7 +71,7 @@ unfoldable pub exceptionsIn : List ℕ → List Exception
 exceptionsIn [] = []
 exceptionsIn (a ∷ []) = []
 exceptionsIn (a ∷ b ∷ []) = []
-exceptionsIn (a ∷ b ∷ r ∷ s) = record { codon = two a b; residue = r } ∷ exceptionsIn s
+exceptionsIn (a ∷ b ∷ r ∷ s) = record { codon = twoBytes a b; residue = r } ∷ exceptionsIn s
 
 -- tag 4 may be absent
 abbrev pub orEmpty : Option (List ℕ) → List ℕ
@@ -86,8 +86,8 @@ assembled (some letters) (some bounds) none exceptions = refused 22
 assembled (some letters) (some bounds) (some table) exceptions =
     given (record {
       letters = letters;
-      cs = two (getD bounds 0 0) (getD bounds 1 0);
-      ce = two (getD bounds 2 0) (getD bounds 3 0);
+      cs = twoBytes (getD bounds 0 0) (getD bounds 1 0);
+      ce = twoBytes (getD bounds 2 0) (getD bounds 3 0);
       table = getD table 0 0;
       exceptions = exceptionsIn exceptions;
     })

@@ -1,20 +1,20 @@
 -- "Letters and codons": translation of a byte string, with exceptions.
-use Prim.Native.Nat.{ℕ, zero, suc, _+_, _-_, _/_, _%_}
+use Prim.Native.Nat.{ℕ, suc, _+_, _-_, _/_, _%_}
 use mathlib.Core.List.{List, [], _∷_, _++_, map}
-use mathlib.Core.Bool.{Bool, true, false, _&&_, _||_, not}
+use mathlib.Core.Bool.{Bool, _&&_, _||_, not}
 use lib.Dec.{eqb, leb, ltb}
 use lib.ListN.{length, take, replicate}
 use Rattle.rules.specs.declared.Exception.{Exception}
 use Rattle.rules.specs.declared.Exceptions.{Exceptions}
 use Rattle.rules.specs.Bytes.{byte, if_then_else_, all, isCapital, Test, _↯_, firstOf, Result, unless}
 use Rattle.rules.specs.Letters.{isLetter, plainLetter}
-use Rattle.rules.specs.Codons.{isTable, codon}
+use Rattle.rules.specs.Codons.{isTable, residueX, codon}
 
--- an exception that breaks the rules
+-- what stands behind the sixteen
 abbrev pub noException : Exception
 noException = record { codon = 0; residue = 0 }
 
--- the exceptions given: the first `count`. A count above sixteen gives as many, some of which break the rules
+-- the exceptions given: the first `count`. A count above sixteen gives a list of that length, which breaks the rules
 unfoldable pub exceptionList : Exceptions → List Exception
 exceptionList e = take (e .count) (e .all ++ replicate (e .count) noException)
 
@@ -26,8 +26,8 @@ excepted (e ∷ es) n r = excepted es n (if eqb (e .codon) n then e .residue els
 -- one residue a whole codon, the first of them number n, then one X if one or two bytes remain
 unfoldable pub residuesFrom : ℕ → List Exception → ℕ → List ℕ → List ℕ
 residuesFrom table es n [] = []
-residuesFrom table es n (a ∷ []) = byte "X" ∷ []
-residuesFrom table es n (a ∷ b ∷ []) = byte "X" ∷ []
+residuesFrom table es n (a ∷ []) = residueX ∷ []
+residuesFrom table es n (a ∷ b ∷ []) = residueX ∷ []
 residuesFrom table es n (a ∷ b ∷ c ∷ s) = excepted es n (codon table a b c) ∷ residuesFrom table es (suc n) s
 
 unfoldable pub translated : ℕ → List Exception → List ℕ → List ℕ
@@ -58,7 +58,7 @@ areExceptions es = leb (length es) 16 && all (λ (e : Exception). leb 1 (e .codo
 unfoldable pub wholeCodons : List ℕ → List ℕ
 wholeCodons s = take (length s - length s % 3) s
 
--- a remaining byte is not looked at
+-- any other byte in a whole codon is refused; a remaining byte is not looked at
 unfoldable pub areLetters : List ℕ → Bool
 areLetters s = all isLetter (map plainLetter (wholeCodons s))
 

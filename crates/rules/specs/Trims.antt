@@ -1,7 +1,6 @@
 -- "Letters and codons": a trim answers the number of equal first, or equal last, bytes of two byte strings.
-use Prim.Native.Nat.{ℕ, zero, suc}
+use Prim.Native.Nat.{ℕ, suc}
 use mathlib.Core.List.{List, [], _∷_, reverse}
-use mathlib.Core.Bool.{Bool, true, false}
 use lib.Dec.{eqb}
 use Rattle.rules.specs.Bytes.{if_then_else_}
 

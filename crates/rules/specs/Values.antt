@@ -1,14 +1,12 @@
--- The numbers and values that a host reads in each case of an answer.
-use Prim.Native.Nat.{ℕ, zero, suc, _+_, _-_}
+-- This paper's number and values for each case of an answer, and the numbers of kinds and classes, as a host reads them.
+use Prim.Native.Nat.{ℕ, zero, suc, _-_}
 use mathlib.Core.Bool.{Bool, true, false}
 use Rattle.rules.specs.declared.Kind.{Kind}
 use Rattle.rules.specs.declared.Kind.the-variants as kind
 use Rattle.rules.specs.declared.Class.{Class}
 use Rattle.rules.specs.declared.Class.the-variants.{StartLost, Extension, StopGained, Frameshift, Substitution, Deletion, Duplication, Insertion, Delins}
-use Rattle.rules.specs.declared.Change.{Change}
 use Rattle.rules.specs.declared.Record.{Record}
 use Rattle.rules.specs.declared.Record.the-variants.{Unknown, NoProtein, Silent, Changed}
-use Rattle.rules.specs.declared.Report.{Report}
 use Rattle.rules.specs.declared.Answer.{Answer}
 use Rattle.rules.specs.declared.Answer.the-variants.{Refused, Reported}
 
@@ -24,7 +22,7 @@ kindAt (suc (suc (suc (suc (suc (suc zero)))))) = kind.Inversion
 kindAt (suc (suc (suc (suc (suc (suc (suc zero))))))) = kind.Identity
 kindAt (suc (suc (suc (suc (suc (suc (suc (suc n)))))))) = kind.Other
 
--- in the order of their tests
+-- classes in the order of their tests
 abbrev pub classNumber : Class → ℕ
 classNumber StartLost = 1
 classNumber Extension = 2
@@ -36,30 +34,10 @@ classNumber Duplication = 7
 classNumber Insertion = 8
 classNumber Delins = 9
 
--- parts by place, from 0, and length; 0 where a case has no such value
-pub record Values : Type 0 where
-  pub answer : ℕ
-  pub refusal : ℕ
-  pub frameshift : ℕ
-  pub transcript : ℕ
-  pub reference : ℕ
-  pub altered : ℕ
-  pub change : ℕ
-  pub number : ℕ
-  pub deletedAt : ℕ
-  pub deletedLen : ℕ
-  pub insertedAt : ℕ
-  pub insertedLen : ℕ
-  pub first : ℕ
-
-abbrev pub flagNumber : Bool → ℕ
-flagNumber false = 0
-flagNumber true = 1
-
--- what a record gives, in a report
+-- what a record tells: parts by place, from 0, and length; 0 where a case has no such value
 pub record Told : Type 0 where
   pub answer : ℕ
-  pub change : ℕ
+  pub class : ℕ
   pub number : ℕ
   pub deletedAt : ℕ
   pub deletedLen : ℕ
@@ -67,18 +45,21 @@ pub record Told : Type 0 where
   pub insertedLen : ℕ
   pub first : ℕ
 
--- 1 unknown, 2 no protein, 3 silent, 4 changed
+-- an answer's number alone
+abbrev pub alone : ℕ → Told
+alone n =
+    record { answer = n; class = 0; number = 0; deletedAt = 0; deletedLen = 0; insertedAt = 0; insertedLen = 0; first = 0 }
+
+-- 1 unknown, 2 no protein, 3 silent (both parts are the residue at its number), 4 changed
 unfoldable pub toldBy : Record → Told
-toldBy Unknown =
-    record { answer = 1; change = 0; number = 0; deletedAt = 0; deletedLen = 0; insertedAt = 0; insertedLen = 0; first = 0 }
-toldBy NoProtein =
-    record { answer = 2; change = 0; number = 0; deletedAt = 0; deletedLen = 0; insertedAt = 0; insertedLen = 0; first = 0 }
+toldBy Unknown = alone 1
+toldBy NoProtein = alone 2
 toldBy (Silent n x) =
-    record { answer = 3; change = 0; number = n; deletedAt = n - 1; deletedLen = 1; insertedAt = n - 1; insertedLen = 1; first = 0 }
+    record { answer = 3; class = 0; number = n; deletedAt = n - 1; deletedLen = 1; insertedAt = n - 1; insertedLen = 1; first = 0 }
 toldBy (Changed c) =
     record {
       answer = 4;
-      change = classNumber (c .class);
+      class = classNumber (c .class);
       number = c .number;
       deletedAt = c .deleted .at;
       deletedLen = c .deleted .len;
@@ -87,38 +68,28 @@ toldBy (Changed c) =
       first = c .first;
     }
 
--- 0 refused: its number, and 0 in every other field
+abbrev pub flagNumber : Bool → ℕ
+flagNumber false = 0
+flagNumber true = 1
+
+-- a refusal's number or 0, the flag, the bytes written to each buffer, and what the record tells
+pub record Values : Type 0 where
+  pub refusal : ℕ
+  pub frameshift : ℕ
+  pub transcript : ℕ
+  pub reference : ℕ
+  pub altered : ℕ
+  pub told : Told
+
+-- 0 refused
 unfoldable pub valuesOf : Answer → Values
-valuesOf (Refused n) =
-    record {
-      answer = 0;
-      refusal = n;
-      frameshift = 0;
-      transcript = 0;
-      reference = 0;
-      altered = 0;
-      change = 0;
-      number = 0;
-      deletedAt = 0;
-      deletedLen = 0;
-      insertedAt = 0;
-      insertedLen = 0;
-      first = 0;
-    }
+valuesOf (Refused n) = record { refusal = n; frameshift = 0; transcript = 0; reference = 0; altered = 0; told = alone 0 }
 valuesOf (Reported p) =
-    let t = toldBy (p .found) in
     record {
-      answer = t .answer;
       refusal = 0;
       frameshift = flagNumber (p .frameshift);
       transcript = p .transcript;
       reference = p .reference;
       altered = p .altered;
-      change = t .change;
-      number = t .number;
-      deletedAt = t .deletedAt;
-      deletedLen = t .deletedLen;
-      insertedAt = t .insertedAt;
-      insertedLen = t .insertedLen;
-      first = t .first;
+      told = toldBy (p .found);
     }

@@ -38,7 +38,13 @@ pub struct Exceptions {
     pub count: usize,
 }
 
-// What a function that fills one lent buffer answers: a refusal's number, or the bytes that it wrote from the buffer's start.
+// The longest transcript, and the most new bases.
+pub struct Limits {
+    pub longest: usize,
+    pub most: usize,
+}
+
+// What a function that fills one lent buffer answers: a refusal's number, or the number of bytes written from the buffer's start.
 pub enum Written {
     Refused(usize),
     Bytes(usize),
@@ -62,7 +68,8 @@ pub struct Part {
     pub len: usize,
 }
 
-// `deleted` is a part of R, `inserted` a part of A. `first` is the first residue that a duplication copies, and 0 in every other class.
+// `deleted` is a part of R, `inserted` a part of A. `first` is the number of the first residue that a duplication copies, and 0 in every
+// other class.
 pub struct Change {
     pub class: Class,
     pub number: usize,
@@ -78,7 +85,7 @@ pub enum Record {
     Changed(Change),
 }
 
-// A record, the frameshift flag, and the bytes written to each of the three buffers.
+// A record, the frameshift flag, and the number of bytes written to each of the three buffers.
 pub struct Report {
     pub found: Record,
     pub frameshift: bool,

@@ -1,0 +1,6 @@
+-- Laws of letters and tables, which the functions' proofs and the crates above cite.
+pub mod Listed
+pub mod Sets
+pub mod Partners
+pub mod Expanded
+pub mod Agreement

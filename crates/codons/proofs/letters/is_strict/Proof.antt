@@ -1,0 +1,19 @@
+-- `codons::letters::is_strict` meets its contract: antt computes the two tests alike for all bytes. Assumes nothing.
+use mathlib.Core.Bool.{false, _&&_, not}
+use mathlib.Core.Path.{refl}
+use Prim.Native.Nat.{ℕ, _/_}
+use borrow.Author.Needs.{needs}
+use lib.Dec.{eqb}
+use Rattle.rules.specs.Letters.{letterSet, isLetter, upper, plainLetter}
+use Rattle.codons.proofs.Listed.{at-byte}
+use Rattle.codons.proofs.letters.is_strict.Statement.{statement}
+use Rattle.codons.proofs.letters.is_strict.Tie as tie
+
+returns : tie.Need-returns
+unfolding letterSet isLetter upper plainLetter
+returns c =
+    rw (c .is-letter .ensures)
+    (at-byte false (λ (b : ℕ). (eqb (b / 32) 2 && not (eqb b 85)) && isLetter (plainLetter b)) isLetter refl (c .before .args .b) (search needs))
+
+pub is-strict-spec : {M : Type 1} → statement M
+is-strict-spec = tie.close (tie.spec (λ c κs. search needs) returns)

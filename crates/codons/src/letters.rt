@@ -1,0 +1,159 @@
+// The two readings of letters: plain translation takes either case, and U as T; transcripts and edits take the fifteen upper-case letters alone.
+ghost use mathlib.Core.Path.{_≡_};
+ghost use Prim.Native.Nat.{_<_};
+ghost use Rattle.rules.specs.Letters.{letterSet, isLetter, upper, plainLetter};
+ghost use Rattle.codons.specs.Tables.{HoldsSets, plainSet, isBase};
+
+// The set of an upper-case letter, and 0 of any other byte.
+pub fn letter_set(b: u8) -> usize
+    ensures { λ r. ⌜ r ≡ letterSet b ⌝ }
+    ensures small { λ r. ⌜ r < 16 ⌝ }
+{
+    match b {
+        b'A' => 1,
+        b'C' => 2,
+        b'G' => 4,
+        b'T' => 8,
+        b'R' => 5,
+        b'Y' => 10,
+        b'S' => 6,
+        b'W' => 9,
+        b'K' => 12,
+        b'M' => 3,
+        b'B' => 14,
+        b'D' => 13,
+        b'H' => 11,
+        b'V' => 7,
+        b'N' => 15,
+        _ => 0,
+    }
+}
+
+// A byte a to z in upper case, and any other byte itself.
+pub fn upper(b: u8) -> u8
+    ensures { λ r. ⌜ r ≡ upper b ⌝ }
+{
+    match b {
+        b'a'..=b'z' => b - 32,
+        _ => b,
+    }
+}
+
+// The letter that plain translation takes a byte for.
+pub fn plain_letter(b: u8) -> u8
+    ensures { λ r. ⌜ r ≡ plainLetter b ⌝ }
+{
+    match upper(b) {
+        b'U' => b'T',
+        u => u,
+    }
+}
+
+// The set of a byte in plain translation, and 0 of a byte that it refuses.
+pub fn plain_set_of(b: u8) -> usize
+    ensures { λ r. ⌜ r ≡ plainSet b ⌝ }
+    ensures small { λ r. ⌜ r < 16 ⌝ }
+{
+    letter_set(plain_letter(b))
+}
+
+// The tests below have no table and no branch, so that a loop of one goes many bytes at a time.
+
+// Whether plain translation takes a byte: A to Y of either case, but for E, F, I, J, L, O, P, Q, X.
+pub fn is_letter(b: u8) -> bool
+    ensures { λ r. ⌜ r ≡ isLetter (plainLetter b) ⌝ }
+{
+    let u = b & 223;
+    let within = (b'A' <= u) & (u <= b'Y');
+    let efij = ((u + 3) & 250) == b'H';
+    let opq = (b'O' <= u) & (u <= b'Q');
+    within & !efij & !opq & (u != b'L') & (u != b'X')
+}
+
+// Whether plain translation takes a byte for one base: A, C, G, T, U, of either case.
+pub fn is_base(b: u8) -> bool
+    ensures { λ r. ⌜ r ≡ isBase b ⌝ }
+{
+    let u = b & 223;
+    (u == b'A') | (u == b'C') | (u == b'G') | (u == b'T') | (u == b'U')
+}
+
+// Whether transcripts and edits take a byte: an upper-case letter of plain translation, but not U.
+pub fn is_strict(b: u8) -> bool
+    ensures { λ r. ⌜ r ≡ isLetter b ⌝ }
+{
+    (b / 32 == 2) & (b != b'U') & is_letter(b)
+}
+
+// The sets of all bytes in plain translation.
+pub fn plain_sets() -> [u8; 256]
+    ensures { λ r. ⌜ HoldsSets plainSet r ⌝ }
+{
+    PLAIN
+}
+
+// The sets of all bytes in transcripts and edits.
+pub fn strict_sets() -> [u8; 256]
+    ensures { λ r. ⌜ HoldsSets letterSet r ⌝ }
+{
+    STRICT
+}
+
+// The set of a byte in plain translation, from the sets of all.
+pub fn plain_set(sets: &[u8; 256], b: u8) -> usize
+    requires { ⌜ HoldsSets plainSet (now sets) ⌝ }
+    ensures { λ r. ⌜ r ≡ plainSet b ⌝ }
+    ensures small { λ r. ⌜ r < 16 ⌝ }
+{
+    let i = b as usize;
+    let x = sets[i];
+    x as usize
+}
+
+// The set of a byte in transcripts and edits, from the sets of all.
+pub fn strict_set(sets: &[u8; 256], b: u8) -> usize
+    requires { ⌜ HoldsSets letterSet (now sets) ⌝ }
+    ensures { λ r. ⌜ r ≡ letterSet b ⌝ }
+    ensures small { λ r. ⌜ r < 16 ⌝ }
+{
+    let i = b as usize;
+    let x = sets[i];
+    x as usize
+}
+
+// The set of each byte, sixteen bytes a line: in plain translation, then in transcripts and edits.
+const PLAIN: [u8; 256] = *b"\
+    \x00\x00\x00\x00\x00\x00\x00\x00\x00\x00\x00\x00\x00\x00\x00\x00\
+    \x00\x00\x00\x00\x00\x00\x00\x00\x00\x00\x00\x00\x00\x00\x00\x00\
+    \x00\x00\x00\x00\x00\x00\x00\x00\x00\x00\x00\x00\x00\x00\x00\x00\
+    \x00\x00\x00\x00\x00\x00\x00\x00\x00\x00\x00\x00\x00\x00\x00\x00\
+    \x00\x01\x0e\x02\x0d\x00\x00\x04\x0b\x00\x00\x0c\x00\x03\x0f\x00\
+    \x00\x00\x05\x06\x08\x08\x07\x09\x00\x0a\x00\x00\x00\x00\x00\x00\
+    \x00\x01\x0e\x02\x0d\x00\x00\x04\x0b\x00\x00\x0c\x00\x03\x0f\x00\
+    \x00\x00\x05\x06\x08\x08\x07\x09\x00\x0a\x00\x00\x00\x00\x00\x00\
+    \x00\x00\x00\x00\x00\x00\x00\x00\x00\x00\x00\x00\x00\x00\x00\x00\
+    \x00\x00\x00\x00\x00\x00\x00\x00\x00\x00\x00\x00\x00\x00\x00\x00\
+    \x00\x00\x00\x00\x00\x00\x00\x00\x00\x00\x00\x00\x00\x00\x00\x00\
+    \x00\x00\x00\x00\x00\x00\x00\x00\x00\x00\x00\x00\x00\x00\x00\x00\
+    \x00\x00\x00\x00\x00\x00\x00\x00\x00\x00\x00\x00\x00\x00\x00\x00\
+    \x00\x00\x00\x00\x00\x00\x00\x00\x00\x00\x00\x00\x00\x00\x00\x00\
+    \x00\x00\x00\x00\x00\x00\x00\x00\x00\x00\x00\x00\x00\x00\x00\x00\
+    \x00\x00\x00\x00\x00\x00\x00\x00\x00\x00\x00\x00\x00\x00\x00\x00";
+
+const STRICT: [u8; 256] = *b"\
+    \x00\x00\x00\x00\x00\x00\x00\x00\x00\x00\x00\x00\x00\x00\x00\x00\
+    \x00\x00\x00\x00\x00\x00\x00\x00\x00\x00\x00\x00\x00\x00\x00\x00\
+    \x00\x00\x00\x00\x00\x00\x00\x00\x00\x00\x00\x00\x00\x00\x00\x00\
+    \x00\x00\x00\x00\x00\x00\x00\x00\x00\x00\x00\x00\x00\x00\x00\x00\
+    \x00\x01\x0e\x02\x0d\x00\x00\x04\x0b\x00\x00\x0c\x00\x03\x0f\x00\
+    \x00\x00\x05\x06\x08\x00\x07\x09\x00\x0a\x00\x00\x00\x00\x00\x00\
+    \x00\x00\x00\x00\x00\x00\x00\x00\x00\x00\x00\x00\x00\x00\x00\x00\
+    \x00\x00\x00\x00\x00\x00\x00\x00\x00\x00\x00\x00\x00\x00\x00\x00\
+    \x00\x00\x00\x00\x00\x00\x00\x00\x00\x00\x00\x00\x00\x00\x00\x00\
+    \x00\x00\x00\x00\x00\x00\x00\x00\x00\x00\x00\x00\x00\x00\x00\x00\
+    \x00\x00\x00\x00\x00\x00\x00\x00\x00\x00\x00\x00\x00\x00\x00\x00\
+    \x00\x00\x00\x00\x00\x00\x00\x00\x00\x00\x00\x00\x00\x00\x00\x00\
+    \x00\x00\x00\x00\x00\x00\x00\x00\x00\x00\x00\x00\x00\x00\x00\x00\
+    \x00\x00\x00\x00\x00\x00\x00\x00\x00\x00\x00\x00\x00\x00\x00\x00\
+    \x00\x00\x00\x00\x00\x00\x00\x00\x00\x00\x00\x00\x00\x00\x00\x00\
+    \x00\x00\x00\x00\x00\x00\x00\x00\x00\x00\x00\x00\x00\x00\x00\x00";

@@ -1,0 +1,73 @@
+// The plain codon reader: the codon rule without the tables of letter sets, for comparison with them.
+ghost use mathlib.Core.Path.{_≡_};
+ghost use Prim.Native.Nat.{_-_, _<_, _≤_};
+ghost use lib.ListN.{getD};
+ghost use Rattle.rules.specs.Codons.{geneticCode, residueX, codonRule};
+ghost use Rattle.codons.specs.Expansion.{codonCount, expanded, joined, joinedAll};
+
+// What a base adds to a set, in the order T, C, A, G.
+const BITS: [usize; 4] = [8, 2, 1, 4];
+
+// The residues of the 64 plain codons, first base slowest, order T, C, A, G: the three codes of the tables.
+const STANDARD: [u8; 64] = *b"FFLLSSSSYY**CC*WLLLLPPPPHHQQRRRRIIIMTTTTNNKKSSRRVVVVAAAADDEEGGGG";
+
+const SELENOCYSTEINE: [u8; 64] =
+    *b"FFLLSSSSYY**CCUWLLLLPPPPHHQQRRRRIIIMTTTTNNKKSSRRVVVVAAAADDEEGGGG";
+
+const MITOCHONDRIAL: [u8; 64] =
+    *b"FFLLSSSSYY**CCWWLLLLPPPPHHQQRRRRIIMMTTTTNNKKSS**VVVVAAAADDEEGGGG";
+
+// The residue of the plain codon at a place among the 64.
+fn plain_residue(table: usize, place: usize) -> u8
+    requires { ⌜ (table < 3) × (place < 64) ⌝ }
+    ensures { λ r. ⌜ r ≡ getD (geneticCode table) place residueX ⌝ }
+{
+    match table {
+        0 => STANDARD[place],
+        1 => SELENOCYSTEINE[place],
+        _ => MITOCHONDRIAL[place],
+    }
+}
+
+// A residue beside the one found so far, which is 0 where there is none yet.
+fn join(found: u8, residue: u8) -> u8
+    ensures { λ r. ⌜ r ≡ joined found residue ⌝ }
+{
+    if found == 0 {
+        return residue;
+    }
+    if residue == found { found } else { b'X' }
+}
+
+// Expands the letters left, one at a time, behind the bases that make the place, and joins the residue of each plain codon to the one found so far.
+fn expand(table: usize, sets: [usize; 3], left: usize, place: usize, found: u8) -> u8
+    requires { ⌜ (table < 3) × (left ≤ 3) ⌝ }
+    requires { ⌜ place < codonCount (3 - left) ⌝ }
+    ensures { λ r. ⌜ r ≡ joinedAll found (expanded left table sets place) ⌝ }
+{
+    if left == 0 {
+        return join(found, plain_residue(table, place));
+    }
+    let letter = sets[3 - left];
+    let mut all = found;
+    let mut base = 0;
+    while base < 4 {
+        let bit = BITS[base];
+        if letter / bit % 2 == 1 {
+            all = expand(table, sets, left - 1, place * 4 + base, all);
+        }
+        base += 1;
+    }
+    all
+}
+
+// The residue of a codon of three letter sets, none of them empty.
+pub fn plain_codon(table: usize, a: usize, b: usize, c: usize) -> u8
+    requires { ⌜ table < 3 ⌝ }
+    requires { ⌜ (0 < a) × (a < 16) ⌝ }
+    requires { ⌜ (0 < b) × (b < 16) ⌝ }
+    requires { ⌜ (0 < c) × (c < 16) ⌝ }
+    ensures { λ r. ⌜ r ≡ codonRule table a b c ⌝ }
+{
+    expand(table, [a, b, c], 3, 0, 0)
+}
