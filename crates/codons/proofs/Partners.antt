@@ -1,10 +1,8 @@
 -- Laws of complements. Assumes nothing.
 use mathlib.Core.Bool.{true, false}
 use mathlib.Core.Path.{_≡_, refl}
-use Prim.Native.Nat.{ℕ, _+_, _/_, _%_, _<_}
+use Prim.Native.Nat.{ℕ, _+_, _%_}
 use native.Mathlib.Omega.{arith}
-use lib.Dec.{eqb}
-use borrow.Author.Tests.{ne-eqb}
 use Rattle.rules.specs.Bytes.{if_then_else_}
 use Rattle.rules.specs.Letters.{letterSet, isLetter}
 use Rattle.rules.specs.Complement.{partnerIn, complement}
@@ -15,15 +13,9 @@ use Rattle.codons.proofs.Sets.{letter-within}
 pub holds-complements : HoldsComplements (listed (λ i. complement (64 + i)) 0 32)
 holds-complements = record { entry = λ i h. listed-at 0 (λ k. complement (64 + k)) 32 i h }
 
--- a byte from 64 to 95 is 64 and its place
-pub at-place : (b : ℕ) → b / 32 ≡ 2 → 64 + b % 32 ≡ b
-at-place b e = omega arith
-
--- another byte has none
-pub no-partner : (b : ℕ) → b < 256 → (b / 32 ≡ 2 → ⊥) → complement b ≡ b
-unfolding partnerIn complement
-no-partner b h n =
-    rw (ne-eqb (b / 32) 2 n) at (at-byte 0 (λ (k : ℕ). if eqb (k / 32) 2 then 0 else complement k) (λ (k : ℕ). if eqb (k / 32) 2 then 0 else k) refl b h)
+-- a letter is 64 and its place
+pub at-place : (b : ℕ) → isLetter b ≡ true → 64 + b % 32 ≡ b
+at-place b e = omega (arith, letter-within b e)
 
 -- a letter's complement is a letter
 pub complement-letter : (b : ℕ) → isLetter b ≡ true → isLetter (complement b) ≡ true

@@ -1,5 +1,7 @@
 // The complement of a letter.
 ghost use mathlib.Core.Path.{_≡_};
+ghost use mathlib.Core.Bool.{true};
+ghost use Rattle.rules.specs.Letters.{isLetter};
 ghost use Rattle.rules.specs.Complement.{complement};
 ghost use Rattle.codons.specs.Tables.{HoldsComplements};
 
@@ -13,14 +15,12 @@ pub fn complements() -> [u8; 32]
     COMPLEMENTS
 }
 
-// The complement of a letter, from the table, and any other byte itself.
+// The complement of a letter, from the table.
 pub fn complement_of(letters: &[u8; 32], b: u8) -> u8
     requires { ⌜ HoldsComplements (now letters) ⌝ }
+    requires { ⌜ isLetter b ≡ true ⌝ }
     ensures { λ r. ⌜ r ≡ complement b ⌝ }
 {
-    if b / 32 != 2 {
-        return b;
-    }
     let i = (b % 32) as usize;
     letters[i]
 }

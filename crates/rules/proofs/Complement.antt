@@ -2,10 +2,11 @@
 -- Assumes nothing.
 use mathlib.Core.Path.{_≡_, refl, ap, _∙_}
 use mathlib.Core.Bool.{Bool, true, false}
-use mathlib.Core.List.{List, [], _∷_, map}
-use Prim.Native.Nat.{ℕ, _+_, _*_, _/_, _%_}
+use mathlib.Core.List.{List, [], _∷_, map, map-append, reverse-append}
+use Prim.Native.Nat.{ℕ, suc, _+_, _*_, _/_, _%_, _<_}
 use lib.Dec.{eqb, ltb}
-use lib.ListN.{length, length-reverse, length-map}
+use lib.ListN.{length, take, getD, length-reverse, length-map}
+use lib.Seq.{take-suc}
 use borrow.Author.Tests.{eqb-true}
 use Rattle.rules.specs.Bytes.{all}
 use Rattle.rules.specs.Letters.{pick, valueOf, letters, letterSet, isLetter}
@@ -56,3 +57,12 @@ length-complement s = length-reverse (map complement s) ∙ length-map s complem
 pub letters-complement : (s : List ℕ) → all isLetter s ≡ true → all isLetter (reverseComplement s) ≡ true
 unfolding reverseComplement
 letters-complement s h = all-reverse isLetter (map complement s) (all-map isLetter complement letter-complement s h)
+
+-- the last of so many letters comes first
+pub complement-last : (s : List ℕ) (m : ℕ) → m < length s → reverseComplement (take (suc m) s) ≡ complement (getD s m 0) ∷ reverseComplement (take m s)
+unfolding reverseComplement
+complement-last s m h = rw (take-suc s m 0 h, map-append, reverse-append)
+
+pub complement-append : (a b : List ℕ) → reverseComplement (a ++ b) ≡ reverseComplement b ++ reverseComplement a
+unfolding reverseComplement
+complement-append a b = rw (map-append, reverse-append)

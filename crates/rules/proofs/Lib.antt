@@ -1,9 +1,12 @@
 -- Laws of the definitions, and the theorems over them alone.
+pub mod Lists
 pub mod Over
+pub mod Fills
 pub mod Trims
 pub mod Tests
 pub mod Translation
 pub mod Complement
+pub mod Parts
 pub mod Reference
 pub mod Refusal
 pub mod Span
@@ -14,3 +17,10 @@ pub mod Demand
 pub mod Protein
 pub mod Answers
 pub mod Thirteen
+pub mod Checks
+pub mod CodonChecks
+pub mod PlainChecks
+pub mod CallChecks
+pub mod EdgeChecks
+pub mod StoredChecks
+pub mod LineChecks

@@ -2,10 +2,11 @@
 -- Assumes nothing.
 use mathlib.Core.Path.{_≡_, refl, sym, ap, subst, _∙_}
 use mathlib.Core.List.{List, [], _∷_, _++_, reverse, append-assoc, append-nil}
-use Prim.Native.Nat.{ℕ, _+_, _-_, _≤_, _<_}
+use Prim.Native.Nat.{ℕ, suc, _+_, _-_, _≤_, _<_}
+use native.Mathlib.Numerals.{add-one}
 use native.Mathlib.Omega.{arith}
-use lib.ListN.{length, take, drop, getD, length-append, length-take, length-drop, List·getD-append, drop-of-length-le}
-use lib.Seq.{length-take-le, take-length, drop-length, take-all, take-at, drop-at, drop-drop, take-append-seam, drop-append-seam, take-append-le, drop-append-le}
+use lib.ListN.{length, take, drop, getD, set, length-append, length-take, length-drop, take-append-drop, List·getD-append, drop-of-length-le}
+use lib.Seq.{length-take-le, take-length, drop-length, take-all, take-at, drop-at, drop-drop, take-append-seam, drop-append-seam, take-append-le, drop-append-le, take-suc-set, drop-set-lt}
 use borrow.Rule.Slice.PartMut.{putMid}
 use Rattle.rules.specs.Bytes.{over}
 
@@ -62,3 +63,25 @@ tail-is a s = take-all (length s - a) (drop a s) (rw length-drop (omega arith))
 -- what `bytes::copy` of s leaves, where s is known as p
 pub copied-as : (s p d e : List ℕ) → s ≡ p → e ≡ take (length s) s ++ drop (length s) d → e ≡ over p d
 copied-as s p d e q h = h ∙ copied s d ∙ ap (λ (l : List ℕ). over l d) q
+
+-- what a loop has still to write: p, from place n on
+unfoldable pub overFrom : ℕ → List ℕ → List ℕ → List ℕ
+overFrom n p d = take n d ++ over p (drop n d)
+
+pub from-start : (p d : List ℕ) → overFrom 0 p d ≡ over p d
+unfolding overFrom
+from-start p d = refl
+
+pub from-end : (n : ℕ) (d : List ℕ) → overFrom n [] d ≡ d
+unfolding overFrom over
+from-end n d = take-append-drop n d
+
+-- a turn stores its first
+pub from-more : (n x : ℕ) (p d : List ℕ) → n < length d → overFrom n (x ∷ p) d ≡ overFrom (n + 1) p (set d n x)
+unfolding overFrom over
+from-more n x p d h =
+    let e : n + suc (length p) ≡ suc n + length p = omega arith in
+    rw (add-one, take-suc-set d n x h, drop-set-lt (suc n) d n x (omega arith)) (simp (append-assoc, drop-drop, e))
+
+pub from-turn : (n x : ℕ) (p q d e : List ℕ) → n < length d → p ≡ x ∷ q → overFrom n p d ≡ e → overFrom (n + 1) q (set d n x) ≡ e
+from-turn n x p q d e h t i = sym (from-more n x q d h) ∙ ap (λ (l : List ℕ). overFrom n l d) (sym t) ∙ i

@@ -1,0 +1,2 @@
+-- Laws of the reverse complement.
+pub mod Laws

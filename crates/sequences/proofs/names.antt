@@ -1,0 +1,2 @@
+-- Laws of residue names.
+pub mod Laws

@@ -1,0 +1,58 @@
+// The reverse complement of letters.
+use codons::complement::complement_of;
+use codons::complement::complements;
+use codons::letters::is_strict;
+use rules::Written;
+ghost use mathlib.Core.Path.{_≡_};
+ghost use mathlib.Core.Bool.{true};
+ghost use Prim.Native.Nat.{_≤_};
+ghost use lib.ListN.{length};
+ghost use Rattle.rules.specs.Bytes.{all, over};
+ghost use Rattle.rules.specs.Letters.{isLetter};
+ghost use Rattle.rules.specs.Complement.{reverseComplement, complemented};
+ghost use Rattle.rules.specs.Answer.{writtenOf, bytesOf};
+ghost use Rattle.codons.specs.Tables.{HoldsComplements};
+
+// Whether each byte is one of the fifteen letters. No byte ends the loop early, so that it goes many at a time.
+pub fn all_strict(seq: &[u8]) -> bool
+    ensures { λ r. ⌜ r ≡ all isLetter (now (seq .entry)) ⌝ }
+{
+    let mut good = true;
+    let mut i = 0;
+    while i < seq.len() {
+        good = good & is_strict(seq[i]);
+        i += 1;
+    }
+    good
+}
+
+// Writes the reverse complement of letters, by the table of complements, from the buffer's start.
+pub fn write_revcomp(seq: &[u8], letters: &[u8; 32], out: &mut [u8])
+    requires { ⌜ HoldsComplements (now letters) ⌝ }
+    requires { ⌜ all isLetter (now seq) ≡ true ⌝ }
+    requires { ⌜ length (now seq) ≤ length (now out) ⌝ }
+    ensures { λ _. ⌜ now (out .exit) ≡ over (reverseComplement (now (seq .entry))) (now (out .entry)) ⌝ }
+{
+    let n = seq.len();
+    let mut i = 0;
+    while i < n {
+        out[i] = complement_of(letters, seq[n - 1 - i]);
+        i += 1;
+    }
+}
+
+// The reverse complement: 15 for too little room, then 2 for a byte that is none of the fifteen letters.
+pub fn revcomp(seq: &[u8], out: &mut [u8]) -> Written
+    ensures { λ r. ⌜ r ≡ writtenOf (complemented (now (seq .entry)) (length (now (out .entry)))) ⌝ }
+    ensures { λ _. ⌜ now (out .exit) ≡ over (bytesOf (complemented (now (seq .entry)) (length (now (out .entry))))) (now (out .entry)) ⌝ }
+{
+    if out.len() < seq.len() {
+        return Written::Refused(15);
+    }
+    if !all_strict(seq) {
+        return Written::Refused(2);
+    }
+    let letters = complements();
+    write_revcomp(seq, &letters, out);
+    Written::Bytes(seq.len())
+}
