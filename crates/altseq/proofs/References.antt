@@ -16,10 +16,10 @@ use Rattle.rules.specs.declared.Limits.{Limits}
 use Rattle.rules.specs.Bytes.{byte, if_then_else_, all, count, _↯_, firstOf, over}
 use Rattle.rules.specs.Letters.{isLetter}
 use Rattle.rules.specs.Codons.{isTable}
-use Rattle.rules.specs.Translation.{noException, exceptionList, translated, residueCount, isResidue}
+use Rattle.rules.specs.Translation.{noException, exceptionList, residueCount, areLetters, plainTranslated}
 use Rattle.rules.specs.Reference.{Reference, size, isSize, cdsSize, areBounds, cds, codons, areRising, fitExceptions, referenceProtein, endsInStop, referenceTests}
 use Rattle.rules.specs.Refusal.{referenceRefusal}
-use Rattle.rules.proofs.Tests.{and-left, and-right, or-left, or-right, first-clear, first-behind, first-before}
+use Rattle.rules.proofs.Tests.{and-left, and-right, or-left, or-right, first-clear, first-behind, first-before, all-take, all-drop}
 use Rattle.rules.proofs.Over.{length-over, fits-over, read-back, read-at}
 use Rattle.rules.proofs.Translation.{length-exceptions, first-exceptions}
 use Rattle.rules.proofs.Reference.{Bounds, bounds-of, length-cds, length-protein, protein-read}
@@ -30,6 +30,8 @@ use Rattle.edits.specs.Views.{bare, Sound}
 use Rattle.altseq.specs.declared.reference.Known.{Known}
 use Rattle.altseq.specs.declared.reference.Checked.{Checked}
 use Rattle.altseq.specs.declared.reference.Checked.the-variants as checked
+use Rattle.altseq.specs.Stub.{areBases}
+use Rattle.altseq.proofs.Plain.{plainly-letters, plainly-translated, plainly-bases}
 use Rattle.altseq.specs.Known.{referenceOf, isException, earlyRefusal, proteinUnless, knownOf, checkedBy, readOf, checkedOf, Readable, Knows}
 
 -- one test by the other
@@ -338,6 +340,17 @@ module _ (s : List ℕ) (c : Cds) (e : Exceptions) (x : Readable s c e) where
   unfolding codons residueCount
   residues-read = sym (length-protein (referenceOf s c e) reference-bounds ∙ whole-count (cdsSize (referenceOf s c e)) (reference-bounds .whole))
 
+  part-letters : all isLetter (take (c .ce - (c .cs - 1)) (drop (c .cs - 1) s)) ≡ true
+  part-letters = all-take isLetter (c .ce - (c .cs - 1)) (drop (c .cs - 1) s) (all-drop isLetter (c .cs - 1) s (x .sound .letters))
+
+  pub part-readable : areLetters (take (c .ce - (c .cs - 1)) (drop (c .cs - 1) s)) ≡ true
+  part-readable = plainly-letters (take (c .ce - (c .cs - 1)) (drop (c .cs - 1) s)) part-letters
+
+  pub part-plain : (plain : Bool) → plain ≡ all isBase s → plain ≡ true → areBases (take (c .ce - (c .cs - 1)) (drop (c .cs - 1) s)) ≡ true
+  part-plain plain is h =
+      plainly-bases (take (c .ce - (c .cs - 1)) (drop (c .cs - 1) s))
+      (all-take isBase (c .ce - (c .cs - 1)) (drop (c .cs - 1) s) (all-drop isBase (c .cs - 1) s (sym is ∙ h)))
+
   pub part-room : (room : ℕ) → codons (bare s c) ≤ room → residueCount (length (take (c .ce - (c .cs - 1)) (drop (c .cs - 1) s))) ≤ room
   unfolding codons cdsSize residueCount
   part-room room h =
@@ -345,10 +358,10 @@ module _ (s : List ℕ) (c : Cds) (e : Exceptions) (x : Readable s c e) where
       rw (cds-part, length-cds (referenceOf s c e) reference-bounds) (omega arith)
 
   -- R is written
-  module _ (old out : List ℕ) (written : out ≡ over (translated (c .table) (exceptionList e) (take (c .ce - (c .cs - 1)) (drop (c .cs - 1) s))) old) where
+  module _ (old out : List ℕ) (written : out ≡ over (plainTranslated (c .table) (exceptionList e) (take (c .ce - (c .cs - 1)) (drop (c .cs - 1) s))) old) where
     pub holds-protein : out ≡ over (referenceProtein (referenceOf s c e)) old
     unfolding referenceProtein
-    holds-protein = written ∙ rw cds-part
+    holds-protein = written ∙ rw (plainly-translated (take (c .ce - (c .cs - 1)) (drop (c .cs - 1) s)) part-letters (c .table) (exceptionList e), cds-part)
 
     pub residues-fit : codons (bare s c) ≤ length old → (c .ce - (c .cs - 1)) / 3 ≤ length out
     unfolding codons cdsSize

@@ -15,7 +15,7 @@ use Rattle.rules.specs.declared.Record.{Record}
 use Rattle.rules.specs.declared.Answer.the-variants.{Reported}
 use Rattle.rules.specs.Bytes.{all, over}
 use Rattle.rules.specs.Letters.{isLetter}
-use Rattle.rules.specs.Translation.{exceptionList, translated, throughStop, residueCount}
+use Rattle.rules.specs.Translation.{throughStop, residueCount, areLetters, plainTranslated}
 use Rattle.rules.specs.Trims.{commonPrefix}
 use Rattle.rules.specs.Reference.{Reference, size, cdsSize, referenceProtein}
 use Rattle.rules.specs.Edit.{Asked, kindOf}
@@ -37,11 +37,11 @@ use Rattle.codons.specs.Tables.{isBase}
 use Rattle.edits.specs.Moving.{Moves, Given}
 use Rattle.edits.proofs.Tests.{fitting}
 use Rattle.edits.proofs.Moving.{moves-of, given-of, moved-is}
-use Rattle.altseq.specs.Stub.{planOf, goesIn, silentWithin}
+use Rattle.altseq.specs.Stub.{areBases, planOf, goesIn, silentWithin}
 use Rattle.altseq.specs.declared.stub.Plan.{Plan}
 use Rattle.altseq.specs.Decisions.{Clear}
 use Rattle.altseq.proofs.StubLaws.{transcript-is, silent-is}
-use Rattle.altseq.proofs.Plain.{bases-stay}
+use Rattle.altseq.proofs.Plain.{plainly-letters, plainly-translated, plainly-bases, bases-stay}
 
 module _ (r : Reference) (a : Asked) (room : Room) (x : Clear r a room) where
   accepts : Accepted (x .limits .longest) r
@@ -99,15 +99,18 @@ module _ (r : Reference) (a : Asked) (room : Room) (x : Clear r a room) where
       pub exceptions-move : Moves (r .cs - 1) (r .letters) (take (plan .length) tx′)
       exceptions-move = rw transcript-back (moves-of (x .limits) r a (x .allowed) (x .small))
 
-      pub coding-letters : all isLetter (take (plan .length - (r .cs - 1)) (drop (r .cs - 1) tx′)) ≡ true
+      coding-letters : all isLetter (take (plan .length - (r .cs - 1)) (drop (r .cs - 1) tx′)) ≡ true
       coding-letters = rw coding-back (all-drop isLetter (r .cs - 1) (alteredTranscript r a) (altered-letters (x .limits) r a (x .allowed)))
 
+      pub coding-readable : areLetters (take (plan .length - (r .cs - 1)) (drop (r .cs - 1) tx′)) ≡ true
+      coding-readable = plainly-letters (take (plan .length - (r .cs - 1)) (drop (r .cs - 1) tx′)) coding-letters
+
       pub coding-bases : (plain bases : Bool) → plain ≡ all isBase (r .letters) → bases ≡ all isBase (a .new) → (plain && bases) ≡ true
-          → all isBase (take (plan .length - (r .cs - 1)) (drop (r .cs - 1) tx′)) ≡ true
+          → areBases (take (plan .length - (r .cs - 1)) (drop (r .cs - 1) tx′)) ≡ true
       coding-bases plain bases p b h =
           let new = fitting (x .limits .most) (kindOf a) (a .new) (edit-allowed (x .limits) r a (x .allowed) .bases) in
           let stay = bases-stay r a (accepts .letters) (new .letters) (sym p ∙ and-left plain bases h) (sym b ∙ and-right plain bases h) in
-          rw coding-back (all-drop isBase (r .cs - 1) (alteredTranscript r a) stay)
+          plainly-bases (take (plan .length - (r .cs - 1)) (drop (r .cs - 1) tx′)) (rw coding-back (all-drop isBase (r .cs - 1) (alteredTranscript r a) stay))
 
       pub coding-room : residueCount (length (take (plan .length - (r .cs - 1)) (drop (r .cs - 1) tx′))) ≤ room .altered
       unfolding residueCount
@@ -115,15 +118,15 @@ module _ (r : Reference) (a : Asked) (room : Room) (x : Clear r a room) where
 
       -- the exceptions are moved, and A is written
       module _ (es : List Exception) (moved : es ≡ movedAll (commonPrefix (r .letters) (take (plan .length) tx′)) (r .cs - 1) (r .letters) (take (plan .length) tx′) (r .exceptions)) where
-        protein-is : throughStop (translated (r .table) es (take (plan .length - (r .cs - 1)) (drop (r .cs - 1) tx′))) ≡ alteredProtein r a
+        protein-is : throughStop (plainTranslated (r .table) es (take (plan .length - (r .cs - 1)) (drop (r .cs - 1) tx′))) ≡ alteredProtein r a
         unfolding alteredProtein proteinOf
         protein-is =
             let is = moved-is r (alteredTranscript r a) (r .cs - 1) (r .exceptions) es refl refl (rw transcript-back at moved) in
-            rw (coding-back, is)
+            rw (plainly-translated (take (plan .length - (r .cs - 1)) (drop (r .cs - 1) tx′)) coding-letters (r .table) es, coding-back, is)
 
         module _ (k : ℕ) (alt alt′ : List ℕ)
-            (counted : k ≡ length (throughStop (translated (r .table) es (take (plan .length - (r .cs - 1)) (drop (r .cs - 1) tx′)))))
-            (held : alt′ ≡ over (throughStop (translated (r .table) es (take (plan .length - (r .cs - 1)) (drop (r .cs - 1) tx′)))) alt) where
+            (counted : k ≡ length (throughStop (plainTranslated (r .table) es (take (plan .length - (r .cs - 1)) (drop (r .cs - 1) tx′)))))
+            (held : alt′ ≡ over (throughStop (plainTranslated (r .table) es (take (plan .length - (r .cs - 1)) (drop (r .cs - 1) tx′)))) alt) where
           altered-length-is : k ≡ length (alteredProtein r a)
           altered-length-is = rw protein-is at counted
 

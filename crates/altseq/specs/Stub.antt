@@ -9,7 +9,8 @@ use Rattle.rules.specs.declared.Kind.the-variants.{Substitution, Deletion, Deli
 use Rattle.rules.specs.declared.Edit.{Edit}
 use Rattle.rules.specs.Bytes.{if_then_else_, all, _↯_, firstOf}
 use Rattle.rules.specs.Letters.{isLetter}
-use Rattle.rules.specs.Translation.{residueCount}
+use Rattle.rules.specs.Translation.{residueCount, wholeCodons}
+use Rattle.codons.specs.Tables.{isBase}
 use Rattle.rules.specs.Refusal.{Room}
 use Rattle.edits.specs.declared.Cds.{Cds}
 use Rattle.rules.specs.Complement.{reverseComplement}
@@ -78,3 +79,6 @@ roomBy c n room =
     (ltb (room .transcript) n ↯ 11
     ∷ (ltb (room .reference) (residueCount (c .ce + 1 - c .cs)) || ltb (room .altered) (residueCount (n + 1 - c .cs))) ↯ 12
     ∷ [])
+
+unfoldable pub areBases : List ℕ → Bool
+areBases s = all isBase (wholeCodons s)

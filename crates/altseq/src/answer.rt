@@ -12,7 +12,7 @@ use crate::stub::silent_number;
 use crate::stub::write_through_stop;
 use crate::stub::write_transcript;
 use codons::complement::complements;
-use codons::letters::strict_sets;
+use codons::letters::plain_sets;
 use codons::tables::plain_code;
 use codons::tables::residues_of;
 use edits::Cds;
@@ -25,11 +25,10 @@ use rules::Limits;
 use rules::Record;
 use rules::Report;
 ghost use mathlib.Core.Path.{_≡_};
-ghost use Rattle.rules.specs.Letters.{letterSet};
 ghost use Rattle.rules.specs.Reference.{referenceProtein};
 ghost use Rattle.rules.specs.Refusal.{limits};
 ghost use Rattle.rules.specs.Answer.{unknownReport, writesAll, outcome, Answers};
-ghost use Rattle.codons.specs.Tables.{HoldsSets, HoldsCode, HoldsPlain, HoldsComplements};
+ghost use Rattle.codons.specs.Tables.{plainSet, HoldsSets, HoldsCode, HoldsPlain, HoldsComplements};
 ghost use Rattle.edits.specs.Views.{asked};
 ghost use Rattle.altseq.specs.Stub.{planOf};
 ghost use Rattle.altseq.specs.Known.{cdsOf, referenceOf, roomOf, knownOf, Knows};
@@ -69,7 +68,7 @@ fn write(
     requires { ⌜ known ≡ knownOf (now letters) (known .cds) e ⌝ }
     requires { ⌜ now protein ≡ referenceProtein (referenceOf (now letters) (known .cds) e) ⌝ }
     requires { ⌜ plan ≡ planOf (referenceOf (now letters) (known .cds) e) (asked edit (now new)) ⌝ }
-    requires { ⌜ HoldsSets letterSet (now sets) ⌝ }
+    requires { ⌜ HoldsSets plainSet (now sets) ⌝ }
     requires { ⌜ HoldsCode (known .cds .table) (now lut) ⌝ }
     requires { ⌜ HoldsPlain (known .cds .table) (now code) ⌝ }
     requires { ⌜ HoldsComplements (now pairs) ⌝ }
@@ -113,7 +112,7 @@ pub fn build_altseq_in(
     ap: &mut [u8],
 ) -> Answer
     requires { ⌜ Knows limits (now letters) known e (now protein) ⌝ }
-    requires { ⌜ HoldsSets letterSet (now sets) ⌝ }
+    requires { ⌜ HoldsSets plainSet (now sets) ⌝ }
     requires { ⌜ HoldsCode (known .cds .table) (now lut) ⌝ }
     requires { ⌜ HoldsPlain (known .cds .table) (now code) ⌝ }
     requires { ⌜ HoldsComplements (now pairs) ⌝ }
@@ -130,7 +129,22 @@ pub fn build_altseq_in(
             if room != 0 {
                 return Answer::Refused(room);
             }
-            Answer::Reported(write(letters, known, e, protein, edit, plan, new, sets, lut, code, pairs, tx, rp, ap))
+            Answer::Reported(write(
+                letters,
+                known,
+                e,
+                protein,
+                edit,
+                plan,
+                new,
+                sets,
+                lut,
+                code,
+                pairs,
+                tx,
+                rp,
+                ap,
+            ))
         }
     }
 }
@@ -161,7 +175,7 @@ pub fn build_altseq(
     if refused != 0 {
         return Answer::Refused(refused);
     }
-    let sets = strict_sets();
+    let sets = plain_sets();
     let lut = residues_of(table);
     let code = plain_code(table);
     let pairs = complements();
@@ -170,7 +184,22 @@ pub fn build_altseq(
         Checked::Refused(n) => Answer::Refused(n),
         Checked::Known(known) => {
             let residues = known.residues;
-            build_altseq_in(letters, known, e, &protein[..residues], most, edit, new, &sets, &lut, &code, &pairs, tx, rp, ap)
+            build_altseq_in(
+                letters,
+                known,
+                e,
+                &protein[..residues],
+                most,
+                edit,
+                new,
+                &sets,
+                &lut,
+                &code,
+                &pairs,
+                tx,
+                rp,
+                ap,
+            )
         }
     }
 }

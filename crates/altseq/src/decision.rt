@@ -7,8 +7,7 @@ use edits::refusals::ends_after_transcript;
 use rules::Edit;
 ghost use mathlib.Core.Path.{_≡_};
 ghost use Prim.Native.Nat.{_<_};
-ghost use Rattle.rules.specs.Letters.{letterSet};
-ghost use Rattle.codons.specs.Tables.{HoldsSets, HoldsCode};
+ghost use Rattle.codons.specs.Tables.{plainSet, HoldsSets, HoldsCode};
 ghost use Rattle.edits.specs.Views.{bare, asked, Sound};
 ghost use Rattle.altseq.specs.Decisions.{decisionOf};
 
@@ -31,7 +30,7 @@ pub fn decide(
 ) -> Decision
     requires { ⌜ Sound (now letters) c ⌝ }
     requires { ⌜ most < 4294967296 ⌝ }
-    requires { ⌜ HoldsSets letterSet (now sets) ⌝ }
+    requires { ⌜ HoldsSets plainSet (now sets) ⌝ }
     requires { ⌜ HoldsCode (c .table) (now lut) ⌝ }
     ensures { λ r. ⌜ r ≡ decisionOf most several (bare (now (letters .entry)) c) (asked edit (now (new .entry))) ⌝ }
 {

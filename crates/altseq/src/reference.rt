@@ -2,7 +2,7 @@
 use crate::stub::all_bases;
 use crate::stub::is_residue;
 use crate::stub::write_translated;
-use codons::letters::strict_sets;
+use codons::letters::plain_sets;
 use codons::tables::plain_code;
 use codons::tables::residues_of;
 use edits::Cds;
@@ -16,10 +16,9 @@ ghost use Prim.Native.Nat.{_≤_, _<_, min};
 ghost use lib.Dec.{leb, ltb};
 ghost use lib.ListN.{length};
 ghost use Rattle.rules.specs.Bytes.{byte, count, over};
-ghost use Rattle.rules.specs.Letters.{letterSet};
 ghost use Rattle.rules.specs.Translation.{exceptionList, residueCount};
 ghost use Rattle.rules.specs.Reference.{areBounds, codons, areRising, referenceProtein};
-ghost use Rattle.codons.specs.Tables.{HoldsSets, HoldsCode, HoldsPlain};
+ghost use Rattle.codons.specs.Tables.{plainSet, HoldsSets, HoldsCode, HoldsPlain};
 ghost use Rattle.edits.specs.Views.{bare, Sound};
 ghost use Rattle.altseq.specs.Known.{cdsOf, referenceOf, isException, earlyRefusal, proteinUnless, knownOf, readOf, checkedOf, Readable};
 
@@ -160,7 +159,7 @@ pub fn read_reference(
 ) -> Checked
     requires { ⌜ Readable (now letters) c e ⌝ }
     requires { ⌜ codons (bare (now letters) c) ≤ length (now protein) ⌝ }
-    requires { ⌜ HoldsSets letterSet (now sets) ⌝ }
+    requires { ⌜ HoldsSets plainSet (now sets) ⌝ }
     requires { ⌜ HoldsCode (c .table) (now lut) ⌝ }
     requires { ⌜ HoldsPlain (c .table) (now code) ⌝ }
     ensures { λ r. ⌜ r ≡ readOf (now (letters .entry)) c e ⌝ }
@@ -170,7 +169,16 @@ pub fn read_reference(
     let end = c.ce;
     let residues = (end - first) / 3;
     let plain = all_bases(letters);
-    write_translated(&letters[first..end], c.table, plain, sets, lut, code, e, protein);
+    write_translated(
+        &letters[first..end],
+        c.table,
+        plain,
+        sets,
+        lut,
+        code,
+        e,
+        protein,
+    );
     if protein[residues - 1] != b'*' {
         return Checked::Refused(6);
     }
@@ -203,7 +211,7 @@ pub fn check_reference(
     if refused != 0 {
         return Checked::Refused(refused);
     }
-    let sets = strict_sets();
+    let sets = plain_sets();
     let lut = residues_of(table);
     let code = plain_code(table);
     read_reference(letters, c, e, &sets, &lut, &code, protein)

@@ -1,6 +1,6 @@
+use edits::Cds;
 use rules::Edit;
 use rules::Exceptions;
-use edits::Cds;
 ghost use Prim.Native.Nat.{ℕ, _+_, _-_, _≤_, _<_};
 ghost use mathlib.Core.Path.{_≡_};
 ghost use mathlib.Core.Bool.{true};
@@ -8,13 +8,13 @@ ghost use mathlib.Core.List.{List, _++_};
 ghost use lib.ListN.{length, take, drop};
 ghost use Rattle.rules.specs.Bytes.{all, over};
 ghost use Rattle.rules.specs.Letters.{letterSet, isLetter};
-ghost use Rattle.rules.specs.Translation.{exceptionList, translated, throughStop, residueCount, isResidue};
-ghost use Rattle.codons.specs.Tables.{isBase, HoldsSets, HoldsCode, HoldsPlain, HoldsComplements};
+ghost use Rattle.rules.specs.Translation.{exceptionList, plainTranslated, areLetters, throughStop, residueCount, isResidue};
+ghost use Rattle.codons.specs.Tables.{plainSet, isBase, HoldsSets, HoldsCode, HoldsPlain, HoldsComplements};
 ghost use Rattle.rules.specs.Edit.{Asked};
 ghost use Rattle.rules.specs.Altered.{alteredLength};
 ghost use Rattle.rules.specs.Refusal.{Room, roomRefusal};
 ghost use Rattle.edits.specs.Views.{bare, asked, Sound, Bounded};
-ghost use Rattle.altseq.specs.Stub.{planOf, Planned, silentWithin, goesIn, roomBy};
+ghost use Rattle.altseq.specs.Stub.{areBases, planOf, Planned, silentWithin, goesIn, roomBy};
 
 pub enum Source {
     New,
@@ -43,7 +43,7 @@ pub fn plan_of(
 ) -> Plan
     requires { ⌜ Sound (now letters) c ⌝ }
     requires { ⌜ Planned (bare (now letters) c) (asked edit (now new)) ⌝ }
-    requires { ⌜ HoldsSets letterSet (now sets) ⌝ }
+    requires { ⌜ HoldsSets plainSet (now sets) ⌝ }
     requires { ⌜ HoldsCode (c .table) (now lut) ⌝ }
     ensures { λ r. ⌜ r ≡ planOf (bare (now (letters .entry)) c) (asked edit (now (new .entry))) ⌝ }
 {
@@ -81,13 +81,18 @@ pub fn silent_number(residues: usize, edit: Edit) -> usize
     1
 }
 
-pub fn write_transcript(letters: &[u8], plan: Plan, new: &[u8], complements: &[u8; 32], tx: &mut [u8])
+pub fn write_transcript(
+    letters: &[u8],
+    plan: Plan,
+    new: &[u8],
+    complements: &[u8; 32],
+    tx: &mut [u8],
+)
     requires { ⌜ (plan .from ≤ plan .to) × (plan .to ≤ length (now letters)) ⌝ }
     requires { ⌜ HoldsComplements (now complements) ⌝ }
     requires { ⌜ length (take (plan .from) (now letters) ++ (goesIn plan (now letters) (now new) ++ drop (plan .to) (now letters))) ≤ length (now tx) ⌝ }
     ensures { λ _. ⌜ now (tx .exit) ≡ over (take (plan .from) (now (letters .entry)) ++ (goesIn plan (now (letters .entry)) (now (new .entry)) ++ drop (plan .to) (now (letters .entry)))) (now (tx .entry)) ⌝ }
-{
-}
+{}
 
 pub fn all_bases(s: &[u8]) -> bool
     ensures { λ r. ⌜ r ≡ all isBase (now (s .entry)) ⌝ }
@@ -111,16 +116,15 @@ pub fn write_translated(
     e: Exceptions,
     out: &mut [u8],
 )
-    requires { ⌜ HoldsSets letterSet (now sets) ⌝ }
+    requires { ⌜ HoldsSets plainSet (now sets) ⌝ }
     requires { ⌜ HoldsCode table (now lut) ⌝ }
     requires { ⌜ HoldsPlain table (now code) ⌝ }
-    requires { ⌜ all isLetter (now seq) ≡ true ⌝ }
-    requires { ⌜ (plain ≡ true → all isBase (now seq) ≡ true) ⌝ }
+    requires { ⌜ areLetters (now seq) ≡ true ⌝ }
+    requires { ⌜ (plain ≡ true → areBases (now seq) ≡ true) ⌝ }
     requires { ⌜ e .count ≤ 16 ⌝ }
     requires { ⌜ residueCount (length (now seq)) ≤ length (now out) ⌝ }
-    ensures { λ _. ⌜ now (out .exit) ≡ over (translated table (exceptionList e) (now (seq .entry))) (now (out .entry)) ⌝ }
-{
-}
+    ensures { λ _. ⌜ now (out .exit) ≡ over (plainTranslated table (exceptionList e) (now (seq .entry))) (now (out .entry)) ⌝ }
+{}
 
 pub fn write_through_stop(
     seq: &[u8],
@@ -132,15 +136,15 @@ pub fn write_through_stop(
     e: Exceptions,
     out: &mut [u8],
 ) -> usize
-    requires { ⌜ HoldsSets letterSet (now sets) ⌝ }
+    requires { ⌜ HoldsSets plainSet (now sets) ⌝ }
     requires { ⌜ HoldsCode table (now lut) ⌝ }
     requires { ⌜ HoldsPlain table (now code) ⌝ }
-    requires { ⌜ all isLetter (now seq) ≡ true ⌝ }
-    requires { ⌜ (plain ≡ true → all isBase (now seq) ≡ true) ⌝ }
+    requires { ⌜ areLetters (now seq) ≡ true ⌝ }
+    requires { ⌜ (plain ≡ true → areBases (now seq) ≡ true) ⌝ }
     requires { ⌜ e .count ≤ 16 ⌝ }
     requires { ⌜ residueCount (length (now seq)) ≤ length (now out) ⌝ }
-    ensures { λ r. ⌜ r ≡ length (throughStop (translated table (exceptionList e) (now (seq .entry)))) ⌝ }
-    ensures { λ _. ⌜ now (out .exit) ≡ over (throughStop (translated table (exceptionList e) (now (seq .entry)))) (now (out .entry)) ⌝ }
+    ensures { λ r. ⌜ r ≡ length (throughStop (plainTranslated table (exceptionList e) (now (seq .entry)))) ⌝ }
+    ensures { λ _. ⌜ now (out .exit) ≡ over (throughStop (plainTranslated table (exceptionList e) (now (seq .entry)))) (now (out .entry)) ⌝ }
 {
     0
 }

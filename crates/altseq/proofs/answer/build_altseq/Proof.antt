@@ -43,8 +43,7 @@ unfolding residueCount
 read-reference-requires c κs =
     let a = c .before .before .before .before .before .before .before .before .before .before .before .before .before .before .before .args in
     let k = cdsOf (a .cs) (a .ce) (a .table) in
-    let none = sym (c .before .before .before .before .before .before .before .before .before .early-refusal .ensures) ∙ c .before .before .before .before .before .before .before .before .if1 .left in
-    (
+    let none = sym (c .before .before .before .before .before .before .before .before .before .early-refusal .ensures) ∙ c .before .before .before .before .before .before .before .before .if1 .left in (
       readable 16384 (a .letters .now) k (a .e) none (omega arith),
       (protein-room 16384 (a .letters .now) k (a .e) 5462 none (omega arith) (omega arith), (search needs, (search needs, search needs))),
     )
@@ -74,11 +73,10 @@ build-altseq-in-requires c κs =
     let none = sym (c .before .before .before .before .before .before .before .before .before .before .before .before .before .before .before .before .before .before .before .before .before .before .early-refusal .ensures) ∙ c .before .before .before .before .before .before .before .before .before .before .before .before .before .before .before .before .before .before .before .before .before .if1 .left in
     let read = c .before .before .before .before .before .before .before .before .before .before .before .before .read-reference in
     let known = read-accepted 16384 (a .letters .now) k (a .e) none (read .result) (read .ensures .0) (c .before .before .before .before .before .before .before .before .before .known .given .0 .0) (c .before .before .before .before .before .before .before .before .before .known .given .1) in
-    let cds = sym (cds-known limits (a .letters .now) k (a .e) (c .before .before .before .before .before .before .before .before .before .known .given .0 .0) (known .0) (known .1)) in
-    (
+    let cds = sym (cds-known limits (a .letters .now) k (a .e) (c .before .before .before .before .before .before .before .before .before .known .given .0 .0) (known .0) (known .1)) in (
       knows limits (a .letters .now) k (a .e) (c .before .before .before .before .before .before .before .before .before .known .given .0 .0) (known .0) (known .1) _ _ (read .ensures .1) (omega arith),
       (
-        c .before .before .before .before .before .before .before .before .before .before .before .before .before .before .before .before .before .before .before .before .strict-sets .ensures,
+        c .before .before .before .before .before .before .before .before .before .before .before .before .before .before .before .before .before .before .before .before .plain-sets .ensures,
         (
           subst (λ (d : Cds). HoldsCode (d .table) (c .before .before .before .before .before .before .before .before .before .before .before .before .before .before .before .before .before .before .before .residues-of .result)) cds (c .before .before .before .before .before .before .before .before .before .before .before .before .before .before .before .before .before .before .before .residues-of .ensures),
           (subst (λ (d : Cds). HoldsPlain (d .table) (c .before .before .before .before .before .before .before .before .before .before .before .before .before .before .before .before .before .before .plain-code .result)) cds (c .before .before .before .before .before .before .before .before .before .before .before .before .before .before .before .before .before .before .plain-code .ensures), c .before .before .before .before .before .before .before .before .before .before .before .before .before .before .before .before .before .complements .ensures),

@@ -36,8 +36,7 @@ write-requires c κs =
     let e = asked (a .edit) (a .new .now) in
     let d = c .before .before .before .before .before .before .before .before .decide in
     let plan = c .before .before .before .before .before .before .plan in
-    let enough = sym (c .before .before .before .if1 .left) ∙ c .before .before .before .before .room-refusal .ensures in
-    (
+    let enough = sym (c .before .before .before .if1 .left) ∙ c .before .before .before .before .room-refusal .ensures in (
       clear (a .limits) (a .letters .now) (a .known) (a .e) (a .protein .now) (pre .0) e (d .result) (d .ensures) (a .tx .now) (a .rp .now) (a .ap .now) (plan .given .0 .0) (plan .given .1) enough,
       (
         pre .0 .is,

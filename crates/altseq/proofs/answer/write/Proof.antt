@@ -10,7 +10,7 @@ use Rattle.edits.specs.Views.{asked}
 use Rattle.edits.proofs.Moving.{given-of}
 use Rattle.altseq.specs.declared.reference.Known.{Known}
 use Rattle.altseq.specs.Known.{referenceOf, roomOf, knownOf}
-use Rattle.altseq.proofs.Writing.{first-base, all-fit, plan-front, plan-spans, plan-transcript, transcript-fits, exceptions-move, coding-letters, coding-bases, coding-room, altered-fits, reports}
+use Rattle.altseq.proofs.Writing.{first-base, all-fit, plan-front, plan-spans, plan-transcript, transcript-fits, exceptions-move, coding-readable, coding-bases, coding-room, altered-fits, reports}
 use Rattle.altseq.proofs.answer.write.Statement.{statement}
 use Rattle.altseq.proofs.answer.write.Tie as tie
 
@@ -29,8 +29,7 @@ write-transcript-requires c κs =
     let pre = c .before .before .before .before .before .before .before .before .before .pre in
     let r = referenceOf (a .letters .now) (a .known .cds) (a .e) in
     let e = asked (a .edit) (a .new .now) in
-    let room = roomOf (a .tx .now) (a .rp .now) (a .ap .now) in
-    (
+    let room = roomOf (a .tx .now) (a .rp .now) (a .ap .now) in (
       plan-spans r e room (pre .0) (a .plan) (pre .1 .1 .1 .0),
       (search needs, rw (plan-transcript r e room (pre .0) (a .plan) (pre .1 .1 .1 .0)) (all-fit r e room (pre .0) .transcript)),
     )
@@ -69,8 +68,7 @@ alt-translation-exceptions-requires c κs =
     let pre = c .before .before .before .before .before .before .before .before .before .before .before .before .before .before .before .before .before .pre in
     let r = referenceOf (a .letters .now) (a .known .cds) (a .e) in
     let e = asked (a .edit) (a .new .now) in
-    let room = roomOf (a .tx .now) (a .rp .now) (a .ap .now) in
-    (
+    let room = roomOf (a .tx .now) (a .rp .now) (a .ap .now) in (
       exceptions-move r e room (pre .0) (a .plan) (pre .1 .1 .1 .0) (a .tx .now) _ (c .before .before .before .before .before .before .before .write-transcript .ensures),
       given-of (pre .0 .limits) r e (pre .0 .allowed) (a .e) refl,
     )
@@ -111,15 +109,14 @@ write-through-stop-requires c κs =
     let e = asked (a .edit) (a .new .now) in
     let room = roomOf (a .tx .now) (a .rp .now) (a .ap .now) in
     let written = c .before .before .before .before .before .before .before .before .before .before .before .before .before .write-transcript .ensures in
-    let plain = ap (λ (k : Known). k .plain) (pre .1 .0) in
-    (
+    let plain = ap (λ (k : Known). k .plain) (pre .1 .0) in (
       search needs,
       (
         search needs,
         (
           search needs,
           (
-            coding-letters r e room (pre .0) (a .plan) (pre .1 .1 .1 .0) (a .tx .now) _ written,
+            coding-readable r e room (pre .0) (a .plan) (pre .1 .1 .1 .0) (a .tx .now) _ written,
             (
               coding-bases r e room (pre .0) (a .plan) (pre .1 .1 .1 .0) (a .tx .now) _ written (a .known .plain) (c .before .before .before .before .all-bases .result) plain (c .before .before .before .before .all-bases .ensures),
               (c .before .before .before .before .before .alt-translation-exceptions .ensures .1, coding-room r e room (pre .0) (a .plan) (pre .1 .1 .1 .0) (a .tx .now) _ written),

@@ -12,8 +12,7 @@ returns : tie.Need-returns
 returns c =
     let a = c .before .before .before .before .args in
     let k = cdsOf (a .cs) (a .ce) (a .table) in
-    let early = c .before .early-refusal in
-    (
+    let early = c .before .early-refusal in (
       checked-early (a .longest) (a .letters .now) k (a .e) (early .result) (early .ensures) (c .if1 .taken),
       nothing-read (a .longest) (a .letters .now) k (a .e) (early .result) (early .ensures) (c .if1 .taken) (a .protein .now),
     )
@@ -34,8 +33,7 @@ read-reference-requires : tie.Need-read-reference-requires
 read-reference-requires c κs =
     let a = c .before .before .before .before .before .before .before .before .before .before .before .args in
     let k = cdsOf (a .cs) (a .ce) (a .table) in
-    let none = sym (c .before .before .before .before .before .before .before .before .early-refusal .ensures) ∙ c .before .before .before .before .before .before .before .if1 .left in
-    (
+    let none = sym (c .before .before .before .before .before .before .before .before .early-refusal .ensures) ∙ c .before .before .before .before .before .before .before .if1 .left in (
       readable (a .longest) (a .letters .now) k (a .e) none (c .before .before .before .before .before .before .before .before .before .before .before .pre .0),
       (protein-room (a .longest) (a .letters .now) k (a .e) (length (a .protein .now)) none (c .before .before .before .before .before .before .before .before .before .before .before .pre .0) (c .before .before .before .before .before .before .before .before .before .before .before .pre .1), (search needs, (search needs, search needs))),
     )
@@ -45,8 +43,7 @@ returns-2 c =
     let a = c .before .before .before .before .before .before .before .before .before .before .before .before .before .before .args in
     let k = cdsOf (a .cs) (a .ce) (a .table) in
     let none = sym (c .before .before .before .before .before .before .before .before .before .before .before .early-refusal .ensures) ∙ c .before .before .before .before .before .before .before .before .before .before .if1 .left in
-    let read = c .before .before .read-reference in
-    (
+    let read = c .before .before .read-reference in (
       read .ensures .0 ∙ checked-read (a .longest) (a .letters .now) k (a .e) none,
       read .ensures .1 ∙ all-read (a .longest) (a .letters .now) k (a .e) none (a .protein .now),
     )

@@ -3,13 +3,10 @@ use mathlib.Core.Path.{_≡_, sym, _∙_}
 use Prim.Native.Nat.{_-_, _/_, _≤_}
 use native.Mathlib.Omega.{arith}
 use borrow.Author.Needs.{needs}
-use lib.ListN.{length, drop}
+use lib.ListN.{length}
 use lib.Seq.{length-take-le}
-use Rattle.rules.specs.Letters.{isLetter}
 use Rattle.rules.specs.Reference.{codons, cdsSize}
-use Rattle.rules.proofs.Tests.{all-take, all-drop}
-use Rattle.codons.specs.Tables.{isBase}
-use Rattle.altseq.proofs.References.{few-exceptions, part-room, holds-protein, residues-fit, read-stopless, read-known}
+use Rattle.altseq.proofs.References.{few-exceptions, part-readable, part-plain, part-room, holds-protein, residues-fit, read-stopless, read-known}
 use Rattle.altseq.proofs.reference.read_reference.Statement.{statement}
 use Rattle.altseq.proofs.reference.read_reference.Tie as tie
 
@@ -17,19 +14,16 @@ write-translated-requires : tie.Need-write-translated-requires
 write-translated-requires c κs =
     let a = c .before .before .before .before .before .before .args in
     let pre = c .before .before .before .before .before .before .pre in
-    let s = a .letters .now in
-    let first = a .c .cs - 1 in
-    let n = a .c .ce - first in
-    (
+    let s = a .letters .now in (
       search needs,
       (
         search needs,
         (
           search needs,
           (
-            all-take isLetter n (drop first s) (all-drop isLetter first s (pre .0 .sound .letters)),
+            part-readable s (a .c) (a .e) (pre .0),
             (
-              (λ plain. all-take isBase n (drop first s) (all-drop isBase first s (sym (c .before .before .all-bases .ensures) ∙ plain))),
+              part-plain s (a .c) (a .e) (pre .0) (c .before .before .all-bases .result) (c .before .before .all-bases .ensures),
               (few-exceptions s (a .c) (a .e) (pre .0), part-room s (a .c) (a .e) (pre .0) (length (a .protein .now)) (pre .1 .0)),
             ),
           ),
@@ -53,8 +47,7 @@ returns : tie.Need-returns
 returns c =
     let a = c .before .before .before .before .before .before .before .before .before .before .before .args in
     let pre = c .before .before .before .before .before .before .before .before .before .before .before .pre in
-    let written = c .before .before .before .before .write-translated .ensures in
-    (
+    let written = c .before .before .before .before .write-translated .ensures in (
       read-stopless (a .letters .now) (a .c) (a .e) (pre .0) (a .protein .now) _ written (c .if1 .taken),
       holds-protein (a .letters .now) (a .c) (a .e) (pre .0) (a .protein .now) _ written,
     )
@@ -75,8 +68,7 @@ returns-2 : tie.Need-returns-2
 returns-2 c =
     let a = c .before .before .before .before .before .before .before .before .before .before .before .before .before .args in
     let pre = c .before .before .before .before .before .before .before .before .before .before .before .before .before .pre in
-    let written = c .before .before .before .before .before .before .write-translated .ensures in
-    (
+    let written = c .before .before .before .before .before .before .write-translated .ensures in (
       read-known (a .letters .now) (a .c) (a .e) (pre .0) (a .protein .now) _ written (c .before .before .before .before .before .before .before .before .before .all-bases .result) (c .several-stops .result) (c .before .before .if1 .left) (c .before .before .before .before .before .before .before .before .before .all-bases .ensures) (c .several-stops .ensures),
       holds-protein (a .letters .now) (a .c) (a .e) (pre .0) (a .protein .now) _ written,
     )
