@@ -5,6 +5,7 @@ pub mod Fills
 pub mod Trims
 pub mod Tests
 pub mod Translation
+pub mod Reading
 pub mod Complement
 pub mod Parts
 pub mod Reference

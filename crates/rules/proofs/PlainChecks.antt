@@ -1,8 +1,9 @@
 -- The functions that stand alone: plain translation, names, the reverse complement, trims, and what is left in a buffer.
 use mathlib.Core.Path.{_≡_, refl}
 use mathlib.Core.Bool.{Bool, true, false}
-use mathlib.Core.List.{List, [], _∷_, _++_}
+use mathlib.Core.List.{List, [], _∷_, _++_, map}
 use Prim.Native.Nat.{ℕ}
+use Prim.Native.String.{String}
 use Rattle.rules.specs.declared.Exception.{Exception}
 use Rattle.rules.specs.declared.Exceptions.{Exceptions}
 use Rattle.rules.specs.declared.Written.{Written}
@@ -216,54 +217,30 @@ pub complements-hold : AllGive complement-checks
 unfolding opened
 complements-hold = refl
 
-abbrev pub count-checks : List (Check ℕ)
+-- equal first bytes, and equal last bytes
+abbrev pub trims : String → String → List ℕ
+trims a b = commonPrefix (bytes a) (bytes b) ∷ commonSuffix (bytes a) (bytes b) ∷ []
+
+abbrev pub count-checks : List (Check (List ℕ))
 count-checks =
-    commonPrefix (bytes "") (bytes "") gives 0
-    ∷ commonSuffix (bytes "") (bytes "") gives 0
-    ∷ commonPrefix (bytes "A") (bytes "") gives 0
-    ∷ commonSuffix (bytes "A") (bytes "") gives 0
-    ∷ commonPrefix (bytes "") (bytes "A") gives 0
-    ∷ commonSuffix (bytes "") (bytes "A") gives 0
-    ∷ commonPrefix (bytes "A") (bytes "A") gives 1
-    ∷ commonSuffix (bytes "A") (bytes "A") gives 1
-    ∷ commonPrefix (bytes "A") (bytes "B") gives 0
-    ∷ commonSuffix (bytes "A") (bytes "B") gives 0
-    ∷ commonPrefix (bytes "ABC") (bytes "ABD") gives 2
-    ∷ commonSuffix (bytes "ABC") (bytes "ABD") gives 0
-    ∷ commonPrefix (bytes "ABC") (bytes "AB") gives 2
-    ∷ commonSuffix (bytes "ABC") (bytes "AB") gives 0
-    ∷ commonPrefix (bytes "AB") (bytes "ABC") gives 2
-    ∷ commonSuffix (bytes "AB") (bytes "ABC") gives 0
-    ∷ commonPrefix (bytes "ABC") (bytes "XBC") gives 0
-    ∷ commonSuffix (bytes "ABC") (bytes "XBC") gives 2
-    ∷ commonPrefix (bytes "ABAB") (bytes "AB") gives 2
-    ∷ commonSuffix (bytes "ABAB") (bytes "AB") gives 2
-    ∷ commonPrefix (bytes "AB") (bytes "ABAB") gives 2
-    ∷ commonSuffix (bytes "AB") (bytes "ABAB") gives 2
-    ∷ commonPrefix (bytes "ABCD") (bytes "ABXD") gives 2
-    ∷ commonSuffix (bytes "ABCD") (bytes "ABXD") gives 1
-    ∷ commonPrefix (bytes "AXCD") (bytes "ABCD") gives 1
-    ∷ commonSuffix (bytes "AXCD") (bytes "ABCD") gives 2
-    ∷ commonPrefix (bytes "aB") (bytes "AB") gives 0
-    ∷ commonSuffix (bytes "aB") (bytes "AB") gives 1
-    ∷ commonPrefix (bytes "AAAA") (bytes "AAA") gives 3
-    ∷ commonSuffix (bytes "AAAA") (bytes "AAA") gives 3
+    trims "" "" gives (0 ∷ 0 ∷ [])
+    ∷ trims "A" "" gives (0 ∷ 0 ∷ [])
+    ∷ trims "" "A" gives (0 ∷ 0 ∷ [])
+    ∷ trims "A" "A" gives (1 ∷ 1 ∷ [])
+    ∷ trims "A" "B" gives (0 ∷ 0 ∷ [])
+    ∷ trims "ABC" "ABD" gives (2 ∷ 0 ∷ [])
+    ∷ trims "ABC" "AB" gives (2 ∷ 0 ∷ [])
+    ∷ trims "AB" "ABC" gives (2 ∷ 0 ∷ [])
+    ∷ trims "ABC" "XBC" gives (0 ∷ 2 ∷ [])
+    ∷ trims "ABAB" "AB" gives (2 ∷ 2 ∷ [])
+    ∷ trims "AB" "ABAB" gives (2 ∷ 2 ∷ [])
+    ∷ trims "ABCD" "ABXD" gives (2 ∷ 1 ∷ [])
+    ∷ trims "AXCD" "ABCD" gives (1 ∷ 2 ∷ [])
+    ∷ trims "aB" "AB" gives (0 ∷ 1 ∷ [])
+    ∷ trims "AAAA" "AAA" gives (3 ∷ 3 ∷ [])
     -- residues of so many bases; residues before the first `*`
-    ∷ residueCount 0 gives 0
-    ∷ residueCount 1 gives 1
-    ∷ residueCount 2 gives 1
-    ∷ residueCount 3 gives 1
-    ∷ residueCount 4 gives 2
-    ∷ residueCount 5 gives 2
-    ∷ residueCount 6 gives 2
-    ∷ residueCount 7 gives 3
-    ∷ beforeStop (bytes "") gives 0
-    ∷ beforeStop (bytes "*") gives 0
-    ∷ beforeStop (bytes "M*") gives 1
-    ∷ beforeStop (bytes "MAK*A*") gives 3
-    ∷ beforeStop (bytes "MAK") gives 3
-    ∷ beforeStop (bytes "X") gives 1
-    ∷ beforeStop (bytes ")*") gives 1
+    ∷ map residueCount (0 ∷ 1 ∷ 2 ∷ 3 ∷ 4 ∷ 5 ∷ 6 ∷ 7 ∷ []) gives (0 ∷ 1 ∷ 1 ∷ 1 ∷ 2 ∷ 2 ∷ 2 ∷ 3 ∷ [])
+    ∷ map (λ (s : String). beforeStop (bytes s)) ("" ∷ "*" ∷ "M*" ∷ "MAK*A*" ∷ "MAK" ∷ "X" ∷ ")*" ∷ []) gives (0 ∷ 0 ∷ 1 ∷ 3 ∷ 3 ∷ 1 ∷ 1 ∷ [])
     ∷ []
 
 pub counts-hold : AllGive count-checks
