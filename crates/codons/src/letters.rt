@@ -59,25 +59,23 @@ pub fn plain_set_of(b: u8) -> usize
 
 // The tests below have no table and no branch, so that a loop of one goes many bytes at a time.
 
-// Whether plain translation takes a byte: A to D, G, H, K, M, N, R to W, Y, of either case.
+// Whether plain translation takes a byte: A to Y of either case, but for E, F, I, J, L, O, P, Q, X.
 pub fn is_letter(b: u8) -> bool
     ensures { λ r. ⌜ r ≡ isLetter (plainLetter b) ⌝ }
 {
-    let u = b % 32;
-    let a = (1 <= u) & (u <= 4);
-    let g = (7 <= u) & (u <= 8);
-    let m = (13 <= u) & (u <= 14);
-    let r = (18 <= u) & (u <= 23);
-    (b / 64 == 1) & (a | g | m | r | (u == 11) | (u == 25))
+    let u = b & 223;
+    let within = (b'A' <= u) & (u <= b'Y');
+    let efij = ((u + 3) & 250) == b'H';
+    let opq = (b'O' <= u) & (u <= b'Q');
+    within & !efij & !opq & (u != b'L') & (u != b'X')
 }
 
 // Whether plain translation takes a byte for one base: A, C, G, T, U, of either case.
 pub fn is_base(b: u8) -> bool
     ensures { λ r. ⌜ r ≡ isBase b ⌝ }
 {
-    let u = b % 32;
-    let t = (20 <= u) & (u <= 21);
-    (b / 64 == 1) & ((u == 1) | (u == 3) | (u == 7) | t)
+    let u = b & 223;
+    (u == b'A') | (u == b'C') | (u == b'G') | (u == b'T') | (u == b'U')
 }
 
 // Whether transcripts and edits take a byte: an upper-case letter of plain translation, but not U.

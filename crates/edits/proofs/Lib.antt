@@ -1,5 +1,6 @@
--- What several of this crate's proofs cite.
-pub mod Cuts
-pub mod Numbers
-pub mod Plans
+-- Laws that this crate's proofs and the crates above cite.
 pub mod Tests
+pub mod Cuts
+pub mod Plans
+pub mod Numbers
+pub mod Moving

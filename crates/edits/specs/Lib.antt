@@ -2,3 +2,4 @@
 pub mod Views
 pub mod Cuts
 pub mod Plans
+pub mod Moving

@@ -22,16 +22,13 @@ use Rattle.rules.specs.declared.Limits.{Limits}
 use Rattle.rules.specs.Refusal.{refusal}
 use Rattle.rules.proofs.Tests.{and-left, and-right, all-take, all-drop, all-both}
 use Rattle.rules.proofs.Complement.{length-complement, letters-complement}
+use Rattle.rules.proofs.Parts.{letters-part}
 use Rattle.rules.proofs.Refusal.{reference-accepted, edit-allowed}
 use Rattle.rules.proofs.Span.{Span, span}
 
 length-part : (from to : ℕ) (s : List ℕ) → length (part from to s) ≤ length s
 unfolding part
 length-part from to s = simp (length-take, length-drop) (omega arith)
-
-letters-part : (from to : ℕ) (s : List ℕ) → all isLetter s ≡ true → all isLetter (part from to s) ≡ true
-unfolding part
-letters-part from to s h = all-take isLetter (to - from) (drop from s) (all-drop isLetter from s h)
 
 -- what goes in is no longer than the new bases may be or than the transcript, and has letters only
 pub record Puts (most : ℕ) (s put : List ℕ) : Type 0 where

@@ -62,3 +62,7 @@ letters-complement s h = all-reverse isLetter (map complement s) (all-map isLett
 pub complement-last : (s : List ℕ) (m : ℕ) → m < length s → reverseComplement (take (suc m) s) ≡ complement (getD s m 0) ∷ reverseComplement (take m s)
 unfolding reverseComplement
 complement-last s m h = rw (take-suc s m 0 h, map-append, reverse-append)
+
+pub complement-append : (a b : List ℕ) → reverseComplement (a ++ b) ≡ reverseComplement b ++ reverseComplement a
+unfolding reverseComplement
+complement-append a b = rw (map-append, reverse-append)

@@ -1,10 +1,9 @@
 -- Laws of an answer that fills one lent buffer: what a refusal says and leaves, and what is said and left where bytes are given.
 -- Assumes nothing.
-use mathlib.Core.Path.{_≡_, refl, sym, ap, _∙_}
-use mathlib.Core.List.{List, []}
+use mathlib.Core.Path.{_≡_, refl, ap}
+use mathlib.Core.List.{List}
 use Prim.Native.Nat.{ℕ}
 use lib.ListN.{length}
-use Rattle.rules.specs.declared.Written.{Written}
 use Rattle.rules.specs.declared.Written.the-variants.{Refused, Bytes}
 use Rattle.rules.specs.Bytes.{Result, given, refused, over}
 use Rattle.rules.specs.Answer.{writtenOf, bytesOf}

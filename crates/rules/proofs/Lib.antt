@@ -5,7 +5,9 @@ pub mod Fills
 pub mod Trims
 pub mod Tests
 pub mod Translation
+pub mod Reading
 pub mod Complement
+pub mod Parts
 pub mod Reference
 pub mod Refusal
 pub mod Span
@@ -16,3 +18,10 @@ pub mod Demand
 pub mod Protein
 pub mod Answers
 pub mod Thirteen
+pub mod Checks
+pub mod CodonChecks
+pub mod PlainChecks
+pub mod CallChecks
+pub mod EdgeChecks
+pub mod StoredChecks
+pub mod LineChecks

@@ -2,7 +2,7 @@
 -- Assumes nothing.
 use mathlib.Core.Path.{_≡_, refl, sym, ap, _∙_}
 use mathlib.Core.Bool.{Bool, true, false, _&&_, and-true, and-eq-true-iff}
-use mathlib.Core.List.{List, [], _∷_, _++_}
+use mathlib.Core.List.{List, [], _∷_, _++_, map}
 use Prim.Native.Nat.{ℕ, zero, suc, _+_, _*_, _≤_, _<_}
 use native.Mathlib.Numerals.{add-one}
 use native.Mathlib.Omega.{arith}
@@ -43,6 +43,16 @@ module _ (f : ℕ → List ℕ) (s : List ℕ) (i : ℕ) where
   pub each-end : length s ≤ i → each f (drop i s) ≡ []
   unfolding each
   each-end h = rw (drop-of-length-le s {i = i} h)
+
+pub all-append : {A : Type 0} (p : A → Bool) (s u : List A) → all p (s ++ u) ≡ all p s && all p u
+unfolding all
+all-append p [] u = refl
+all-append p (x ∷ s) u = rw (all-append p s u) (sym (and-and (p x) (all p s) (all p u)))
+
+pub all-map : {A B : Type 0} (p : B → Bool) (f : A → B) (s : List A) → all p (map f s) ≡ all (λ x. p (f x)) s
+unfolding all
+all-map p f [] = refl
+all-map p f (x ∷ s) = rw (all-map p f s)
 
 -- what all pass, each one passes
 pub all-at : (p : ℕ → Bool) (s : List ℕ) (i : ℕ) → all p s ≡ true → i < length s → p (getD s i 0) ≡ true

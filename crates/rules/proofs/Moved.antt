@@ -79,7 +79,8 @@ module _ (p s O N first last low c most : ℕ) (b : Below p O N first last low) 
   drops : Below p O N first c low
   drops = record { early = λ k. omega (arith, b .early (omega arith)); late = omega (arith, b .late) }
 
-suffix-fits : (old new : List ℕ) → let p = commonPrefix old new in (p + suffixBehind p old new ≤ length old) × (p + suffixBehind p old new ≤ length new)
+-- the prefix and the suffix behind it are both within either transcript
+pub suffix-fits : (old new : List ℕ) → let p = commonPrefix old new in (p + suffixBehind p old new ≤ length old) × (p + suffixBehind p old new ≤ length new)
 unfolding suffixBehind
 suffix-fits old new =
     let p = commonPrefix old new in (
@@ -110,7 +111,7 @@ module _ (first most : ℕ) (old new : List ℕ) (front : first ≤ commonPrefix
       (rising-all c low es (this .1) (drops p s (length old) (length new) first last low c most b (edge .0) (edge .1) (x .above) (x .inside) fits))
 
 -- what stands before an edit is shared
-shared-front : (w : Swap) (s : List ℕ) → w .from ≤ length s → w .from ≤ commonPrefix s (carried w s)
+pub shared-front : (w : Swap) (s : List ℕ) → w .from ≤ length s → w .from ≤ commonPrefix s (carried w s)
 unfolding carried
 shared-front w s h =
     let behind = w .put ++ drop (w .to) s in
@@ -119,17 +120,23 @@ shared-front w s h =
     ∙ rw (length-take-le (w .from) s h) in
     omega arith
 
-cds-fits : (cs ce L : ℕ) → 1 ≤ cs → cs ≤ ce → ce ≤ L → cs - 1 + 3 * ((ce + 1 - cs) / 3) ≤ L
+-- so is what stands before the CDS
+pub before-cds-shared : (m : Limits) (r : Reference) (e : Asked) → refusal m r e ≡ 0 → r .cs - 1 ≤ commonPrefix (r .letters) (alteredTranscript r e)
+unfolding alteredTranscript cutSwap size
+before-cds-shared m r e h =
+    let w = span m r e h in
+    omega (arith, w .front, shared-front (cutSwap r e) (r .letters) (omega (arith, w .rising, w .ends)))
+
+-- the CDS's codons are within the transcript
+pub cds-fits : (cs ce L : ℕ) → 1 ≤ cs → cs ≤ ce → ce ≤ L → cs - 1 + 3 * ((ce + 1 - cs) / 3) ≤ L
 cds-fits cs ce L h k l = omega arith
 
 pub moved-rising : (m : Limits) (r : Reference) (e : Asked) → refusal m r e ≡ 0
     → areRising 0 ((length (alteredTranscript r e) - (r .cs - 1)) / 3) (movedExceptions r (alteredTranscript r e)) ≡ true
-unfolding movedExceptions alteredTranscript cutSwap codons cdsSize size
+unfolding movedExceptions codons cdsSize size
 moved-rising m r e h =
     let a = reference-accepted m r e h in
-    let w = span m r e h in
-    let front : r .cs - 1 ≤ commonPrefix (r .letters) (alteredTranscript r e) =
-    omega (arith, w .front, shared-front (cutSwap r e) (r .letters) (omega (arith, w .rising, w .ends))) in
+    let front = before-cds-shared m r e h in
     rising-all (r .cs - 1) (codons r) (r .letters) (alteredTranscript r e) front
     (cds-fits (r .cs) (r .ce) (length (r .letters)) (a .bounds .first) (a .bounds .rising) (a .bounds .inside))
     0 0 (r .exceptions) (a .exceptions) (record { early = λ k. zero-le; late = omega arith })

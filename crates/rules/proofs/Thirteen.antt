@@ -42,3 +42,7 @@ thirteen =
 pub whole-run : answers (inputs thirteen) ≡ outputs thirteen
 unfolding opened
 whole-run = refl
+
+pub whole-input : run (bytes "ref 3 17 0 GGATGGCCAAATGGTAACCTGAC\n8A>G\n5del\n4_6dup\n12G>A\n13T>C\n6C>T\n4_6inv\n1A>G\n9_10insTAGC\n1_*6del\n1_*7del\n16del") ≡ bytes "reference MAKW*\nsubstitution 3 K R\nframeshift 3 KW* NGNLX\nduplication 3 - A 2\nstop-gained 4 W -\nextension 5 * QPD\nsilent 2 A A\nsubstitution 2 A G\nstart-lost 1 M V\nstop-gained 4 W -\nno-protein\nunknown\nrefused 7\n"
+unfolding opened
+whole-input = refl

@@ -26,7 +26,7 @@ unfolding exceptionList
 first-exceptions e n h = take-append-le (e .count) (e .all) (replicate (e .count) noException) (omega arith)
 
 -- one residue a whole codon, one for a rest
-length-residues : (t : ℕ) (es : List Exception) (n : ℕ) (s : List ℕ) → length (residuesFrom t es n s) ≡ residueCount (length s)
+pub length-residues : (t : ℕ) (es : List Exception) (n : ℕ) (s : List ℕ) → length (residuesFrom t es n s) ≡ residueCount (length s)
 unfolding residuesFrom residueCount
 length-residues t es n [] = refl
 length-residues t es n (a ∷ []) = refl

@@ -1,2 +1,3 @@
 -- Definitions that the contracts of the crate's inner functions cite.
 pub mod Names
+pub mod Residues

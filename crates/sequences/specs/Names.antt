@@ -4,7 +4,7 @@ use mathlib.Core.List.{List, _∷_}
 use mathlib.Core.Bool.{Bool, not}
 use lib.ListN.{take, drop}
 use Rattle.rules.specs.Bytes.{isNone, each}
-use Rattle.rules.specs.Names.{Name, names, threeOf, oneOf}
+use Rattle.rules.specs.Names.{names, threeOf, oneOf}
 
 unfoldable pub table : List ℕ
 table = each (λ n. n .one ∷ n .three) names

@@ -10,7 +10,7 @@ ghost use Rattle.rules.specs.Names.{threeOf, oneOf, threes, threeLetters, oneLe
 ghost use Rattle.rules.specs.Answer.{writtenOf, bytesOf};
 ghost use Rattle.sequences.specs.Names.{table, threeAt, oneAt, isOne, isThree};
 
-// 25 rows: a residue's letter, and its three.
+// The names of IUPAC in 25 rows: the letter of a residue, and its three.
 const NAMES: [u8; 100] = *b"\
 AAlaRArgNAsnDAspCCys\
 QGlnEGluGGlyHHisIIle\

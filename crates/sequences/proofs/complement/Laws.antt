@@ -1,15 +1,14 @@
 -- Laws of the reverse complement: a turn of the loop that writes it, and the answer by the tests.
 -- Assumes nothing.
-use mathlib.Core.Path.{_≡_, refl, sym, ap, _∙_}
-use mathlib.Core.Bool.{true, false, not}
-use mathlib.Core.List.{List, [], _∷_}
+use mathlib.Core.Path.{_≡_, sym, _∙_}
+use mathlib.Core.Bool.{true, false}
+use mathlib.Core.List.{List, _∷_}
 use Prim.Native.Nat.{ℕ, suc, _+_, _-_, _≤_, _<_}
 use native.Mathlib.Omega.{arith}
-use lib.Dec.{ltb}
 use lib.ListN.{length, take, getD, set}
 use lib.Seq.{take-length}
 use borrow.Author.Tests.{lt-ltb, le-ltb}
-use Rattle.rules.specs.Bytes.{if_then_else_, all, over, firstOf, Result, given, refused, unless}
+use Rattle.rules.specs.Bytes.{all, over, firstOf, given, refused, unless}
 use Rattle.rules.specs.Letters.{isLetter}
 use Rattle.rules.specs.Complement.{complement, reverseComplement, complemented}
 use Rattle.rules.proofs.Complement.{complement-last}

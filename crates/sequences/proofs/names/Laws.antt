@@ -3,16 +3,16 @@
 use mathlib.Core.Path.{_≡_, refl, sym, ap, _∙_}
 use mathlib.Core.Bool.{Bool, true, false, _&&_, not, and-true, and-eq-true-iff, false≢true}
 use mathlib.Core.List.{List, [], _∷_, _++_}
-use Prim.Native.Nat.{ℕ, zero, suc, _+_, _*_, _/_, _%_, _≤_, _<_}
+use Prim.Native.Nat.{ℕ, suc, _+_, _*_, _/_, _%_, _≤_, _<_}
 use native.Mathlib.Omega.{arith}
 use lib.Dec.{eqb, ltb}
-use lib.ListN.{length, take, drop, getD, set, drop-of-length-le, length-set}
+use lib.ListN.{length, drop, getD, set, drop-of-length-le, length-set}
 use lib.Seq.{drop-cons, drop-drop}
 use borrow.Author.Tests.{eq-eqb, ne-eqb, lt-ltb, le-ltb, ltb-true, ltb-false}
-use Rattle.rules.specs.Bytes.{if_then_else_, same, isNone, all, each, firstOf, Result, given, refused, unless}
+use Rattle.rules.specs.Bytes.{if_then_else_, same, isNone, all, each, firstOf, given, refused, unless}
 use Rattle.rules.specs.Names.{names, threeIn, oneIn, threeOf, oneOf, threes, threeLetters, oneLetters}
-use Rattle.rules.proofs.Lists.{all-more, all-stop, all-at, each-more, length-each}
-use Rattle.rules.proofs.Over.{overFrom, from-turn}
+use Rattle.rules.proofs.Lists.{all-more, all-stop, all-at, each-more, each-end, length-each}
+use Rattle.rules.proofs.Over.{overFrom, from-end, from-turn}
 use Rattle.sequences.specs.Names.{table, threeAt, oneAt, isOne, isThree}
 
 -- the names, read off a table four bytes at a time
@@ -222,6 +222,14 @@ module _ (s : List ℕ) (i k : ℕ) (h : i < length s / 3) (e : oneOf (nameAt s 
       let b : (isThree (nameAt s i) && all isThree (threes (drop ((i + 1) * 3) s))) ≡ true = rw (threes-cons s i h) at a in
       let p = and-eq-true-iff (isThree (nameAt s i)) (all isThree (threes (drop ((i + 1) * 3) s))) .0 b in
       (ltb-true k 25 (sym (is-three (nameAt s i) k e) ∙ p .0), p .1)
+
+module _ (s out : List ℕ) (i : ℕ) (whole : List ℕ) where
+  pub written-end : length s ≤ i → overFrom (i * 3) (each threeOf (drop i s)) out ≡ whole → out ≡ whole
+  written-end h inv = sym (from-end (i * 3) out) ∙ (rw (each-end threeOf s i h) at inv)
+
+  pub residues-end : length s % 3 ≡ 0 → length s / 3 ≤ i → overFrom i (each oneOf (threes (drop (i * 3) s))) out ≡ whole → out ≡ whole
+  unfolding each
+  residues-end e h inv = sym (from-end i out) ∙ (rw (threes-end s i e h) at inv)
 
 module _ (t : List ℕ) (holds : t ≡ table) (s : List ℕ) (i k : ℕ) (r : k < 25) (out whole : List ℕ) where
   pub put-three : i < length s → threeOf (getD s i 0) ≡ threeAt k → length s * 3 ≤ length out → overFrom (i * 3) (each threeOf (drop i s)) out ≡ whole → overFrom ((i + 1) * 3) (each threeOf (drop (i + 1) s)) (set (set (set out (i * 3) (getD t (k * 4 + 1) 0)) (i * 3 + 1) (getD t (k * 4 + 2) 0)) (i * 3 + 2) (getD t (k * 4 + 3) 0)) ≡ whole

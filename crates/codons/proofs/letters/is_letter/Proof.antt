@@ -1,8 +1,10 @@
 -- `codons::letters::is_letter` meets its contract: antt computes the two tests alike for all bytes. Assumes nothing.
-use mathlib.Core.Bool.{false, _&&_, _||_}
+use mathlib.Core.Bool.{false, _&&_, not}
 use mathlib.Core.Path.{refl}
-use Prim.Native.Nat.{ℕ, _/_, _%_}
+use Prim.Native.Nat.{ℕ, _+_}
+use native.Mathlib.Omega.{arith}
 use borrow.Author.Needs.{needs}
+use lib.Bits.{bitAnd, and-le-r}
 use lib.Dec.{eqb, leb}
 use Rattle.rules.specs.Letters.{letterSet, isLetter, upper, plainLetter}
 use Rattle.codons.proofs.Listed.{at-byte}
@@ -13,10 +15,9 @@ returns : tie.Need-returns
 unfolding letterSet isLetter upper plainLetter
 returns c =
     at-byte false (λ (b : ℕ).
-    let u : ℕ = b % 32 in
-    eqb (b / 64) 1
-    && ((leb 1 u && leb u 4) || (leb 7 u && leb u 8) || (leb 13 u && leb u 14) || (leb 18 u && leb u 23) || eqb u 11 || eqb u 25))
+    let u : ℕ = bitAnd b 223 in
+    (leb 65 u && leb u 89) && not (eqb (bitAnd (u + 3) 250) 72) && not (leb 79 u && leb u 81) && not (eqb u 76) && not (eqb u 88))
     (λ (b : ℕ). isLetter (plainLetter b)) refl (c .args .b) (search needs)
 
 pub is-letter-spec : {M : Type 1} → statement M
-is-letter-spec = tie.close (tie.spec returns)
+is-letter-spec = tie.close (tie.spec (λ c. omega (arith, and-le-r (c .args .b) 223)) returns)

@@ -18,11 +18,10 @@ abbrev μ-loop : tie.MeasureT-loop
 μ-loop seq good₀ i₀ good i = length seq - i
 
 loop-again : tie.Need-loop-again Inv-loop μ-loop
-loop-again c =
-    (search needs, all-and isLetter (c .before .before .before .before .before .args .seq .now) (c .before .before .before .loop .i) (c .before .before .before .loop .good) (c .is-strict .result) (c .before .before .loop-test .taken) (c .is-strict .ensures) ∙ c .before .before .before .loop .inv .1)
+loop-again c = (search needs, all-and isLetter (c .before .before .before .before .before .args .seq .now) _ (c .before .before .before .loop .good) _ (c .before .before .loop-test .taken) (c .is-strict .ensures) ∙ c .before .before .before .loop .inv .1)
 
 returns : tie.Need-returns Inv-loop μ-loop
-returns c = sym (all-and-end isLetter (c .before .before .before .args .seq .now) (c .before .loop .i) (c .before .loop .good) (c .loop-test .left)) ∙ c .before .loop .inv .1
+returns c = sym (all-and-end isLetter (c .before .before .before .args .seq .now) _ (c .before .loop .good) (c .loop-test .left)) ∙ c .before .loop .inv .1
 
 pub all-strict-spec : {M : Type 1} → statement M
 all-strict-spec =

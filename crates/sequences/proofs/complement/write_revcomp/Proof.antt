@@ -24,24 +24,23 @@ abbrev μ-loop : tie.MeasureT-loop
 μ-loop seq letters out₀ n i₀ out i = n - i
 
 loop-holds : tie.Need-loop-holds Inv-loop μ-loop
-loop-holds c = (search needs, refl, refl, put-start (c .before .before .args .seq .now) (c .before .before .args .out .now))
+loop-holds c = (search needs, refl, refl, put-start _ _)
 
 complement-of-requires : tie.Need-complement-of-requires Inv-loop μ-loop
-complement-of-requires c κs = (c .before .before .before .before .before .pre .0, all-at isLetter (c .before .before .before .before .before .args .seq .now) (length (c .before .before .before .before .before .args .seq .now) - 1 - c .before .before .loop .i) (c .before .before .before .before .before .pre .1 .0) (search needs))
+complement-of-requires c κs = (search needs, all-at isLetter (c .before .before .before .before .before .args .seq .now) _ (c .before .before .before .before .before .pre .1 .0) (search needs))
 
 loop-again : tie.Need-loop-again Inv-loop μ-loop
 loop-again c =
-    let args = c .before .before .before .before .before .before .args in
-    let loop = c .before .before .before .loop in
-    let put = c .complement-of in (
+    let turn = c .before .before .before in
+    let start = turn .before .before .before in (
       search needs,
       search needs,
-      simp length-set (loop .inv .2),
-      put-letter (args .seq .now) (loop .out) (loop .i) (over (reverseComplement (args .seq .now)) (args .out .now)) (put .result) (search needs) (search needs) (put .ensures) (loop .inv .3),
+      simp length-set (turn .loop .inv .2),
+      put-letter (start .args .seq .now) (turn .loop .out) (turn .loop .i) _ _ (search needs) (search needs) (c .complement-of .ensures) (turn .loop .inv .3),
     )
 
 returns : tie.Need-returns Inv-loop μ-loop
-returns c = put-last (c .before .before .before .before .args .seq .now) (c .before .loop .out) (c .before .loop .i) (over (reverseComplement (c .before .before .before .before .args .seq .now)) (c .before .before .before .before .args .out .now)) (search needs) (c .before .loop .inv .3)
+returns c = put-last (c .before .before .before .before .args .seq .now) _ _ _ (search needs) (c .before .loop .inv .3)
 
 pub write-revcomp-spec : {M : Type 1} → statement M
 write-revcomp-spec =

@@ -18,16 +18,14 @@ abbrev μ-loop : tie.MeasureT-loop
 μ-loop one names i₀ i = length one - i
 
 returns : tie.Need-returns Inv-loop μ-loop
-returns c = sym (ones-stop (c .before .before .before .before .before .before .args .one .now) (c .before .before .before .before .loop .i) (c .before .row-of-one .result) (c .before .before .before .loop-test .taken) (c .before .row-of-one .ensures .1) (c .if1 .taken)) ∙ c .before .before .before .before .loop .inv .1
+returns c = sym (ones-stop (c .before .before .before .before .before .before .args .one .now) _ _ (c .before .before .before .loop-test .taken) (c .before .row-of-one .ensures .1) (c .if1 .taken)) ∙ c .before .before .before .before .loop .inv .1
 
 loop-again : tie.Need-loop-again Inv-loop μ-loop
-loop-again c = (
-  search needs,
-  sym (ones-more (c .before .before .before .before .before .before .args .one .now) (c .before .before .before .before .loop .i) (c .before .row-of-one .result) (c .before .before .before .loop-test .taken) (c .before .row-of-one .ensures .1) (c .before .row-of-one .ensures .0) (c .if1 .left)) ∙ c .before .before .before .before .loop .inv .1,
-)
+loop-again c =
+    (search needs, sym (ones-more (c .before .before .before .before .before .before .args .one .now) _ _ (c .before .before .before .loop-test .taken) (c .before .row-of-one .ensures .1) (c .before .row-of-one .ensures .0) (c .if1 .left)) ∙ c .before .before .before .before .loop .inv .1)
 
 returns-2 : tie.Need-returns-2 Inv-loop μ-loop
-returns-2 c = sym (all-end isOne (c .before .before .before .args .one .now) (c .before .loop .i) (c .loop-test .left)) ∙ c .before .loop .inv .1
+returns-2 c = sym (all-end _ (c .before .before .before .args .one .now) _ (c .loop-test .left)) ∙ c .before .loop .inv .1
 
 pub are-ones-spec : {M : Type 1} → statement M
 are-ones-spec =

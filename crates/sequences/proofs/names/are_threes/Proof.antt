@@ -18,13 +18,13 @@ abbrev μ-loop : tie.MeasureT-loop
 μ-loop three names n i₀ i = n - i
 
 returns : tie.Need-returns Inv-loop μ-loop
-returns c = sym (threes-stop (c .before .before .before .before .before .before .before .before .args .three .now) (c .before .before .before .before .before .before .loop .i) (c .before .row-of-three .result) (search needs) (c .before .row-of-three .ensures .1) (c .if1 .taken)) ∙ c .before .before .before .before .before .before .loop .inv .2
+returns c = sym (threes-stop (c .before .before .before .before .before .before .before .before .args .three .now) _ _ (search needs) (c .before .row-of-three .ensures .1) (c .if1 .taken)) ∙ c .before .before .before .before .before .before .loop .inv .2
 
 loop-again : tie.Need-loop-again Inv-loop μ-loop
 loop-again c = (
   search needs,
   search needs,
-  sym (threes-more (c .before .before .before .before .before .before .before .before .args .three .now) (c .before .before .before .before .before .before .loop .i) (c .before .row-of-three .result) (search needs) (c .before .row-of-three .ensures .1) (c .before .row-of-three .ensures .0) (c .if1 .left)) ∙ c .before .before .before .before .before .before .loop .inv .2,
+  sym (threes-more (c .before .before .before .before .before .before .before .before .args .three .now) _ _ (search needs) (c .before .row-of-three .ensures .1) (c .before .row-of-three .ensures .0) (c .if1 .left)) ∙ c .before .before .before .before .before .before .loop .inv .2,
 )
 
 returns-2 : tie.Need-returns-2 Inv-loop μ-loop

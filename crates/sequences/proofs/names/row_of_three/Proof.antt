@@ -17,16 +17,16 @@ abbrev μ-loop : tie.MeasureT-loop
 μ-loop names a b c k₀ k = 25 - k
 
 loop-holds : tie.Need-loop-holds Inv-loop μ-loop
-loop-holds c = (search needs, one-start (c .args .names .now) (c .pre) (c .args .a ∷ c .args .b ∷ c .args .c ∷ []))
+loop-holds c = (search needs, one-start _ (c .pre) _)
 
 returns : tie.Need-returns Inv-loop μ-loop
-returns c = (search needs, sym (c .before .before .before .before .before .loop .inv .1) ∙ one-found (c .before .before .before .before .before .before .args .names .now) (c .before .before .before .before .before .before .pre) (c .before .before .before .before .before .loop .k) (c .before .before .before .before .loop-test .taken) (c .before .before .before .before .before .before .args .a) (c .before .before .before .before .before .before .args .b) (c .before .before .before .before .before .before .args .c) (c .if1 .taken))
+returns c = (search needs, sym (c .before .before .before .before .before .loop .inv .1) ∙ one-found _ (c .before .before .before .before .before .before .pre) _ (c .before .before .before .before .loop-test .taken) _ _ _ (c .if1 .taken))
 
 loop-again : tie.Need-loop-again Inv-loop μ-loop
-loop-again c = (search needs, sym (one-more (c .before .before .before .before .before .before .args .names .now) (c .before .before .before .before .before .before .pre) (c .before .before .before .before .before .loop .k) (c .before .before .before .before .loop-test .taken) (c .before .before .before .before .before .before .args .a) (c .before .before .before .before .before .before .args .b) (c .before .before .before .before .before .before .args .c) (c .if1 .left)) ∙ c .before .before .before .before .before .loop .inv .1)
+loop-again c = (search needs, sym (one-more _ (c .before .before .before .before .before .before .pre) _ (c .before .before .before .before .loop-test .taken) _ _ _ (c .if1 .left)) ∙ c .before .before .before .before .before .loop .inv .1)
 
 returns-2 : tie.Need-returns-2 Inv-loop μ-loop
-returns-2 c = (search needs, sym (c .before .loop .inv .1) ∙ one-none (c .before .before .args .names .now) (c .before .before .pre) (c .before .before .args .a ∷ c .before .before .args .b ∷ c .before .before .args .c ∷ []) (c .before .loop .k) (c .loop-test .left))
+returns-2 c = (search needs, sym (c .before .loop .inv .1) ∙ one-none _ (c .before .before .pre) _ _ (c .loop-test .left))
 
 pub row-of-three-spec : {M : Type 1} → statement M
 row-of-three-spec =

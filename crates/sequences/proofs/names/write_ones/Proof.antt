@@ -1,16 +1,16 @@
 -- `sequences::names::write_ones` meets its contract. The invariant: writing the residues that are left gives the whole, and each has its name.
 -- Assumes nothing.
-use mathlib.Core.Path.{_≡_, refl, sym, ap, _∙_}
+use mathlib.Core.Path.{_≡_, refl}
 use mathlib.Core.Bool.{true}
-use Prim.Native.Nat.{_*_, _/_, _-_, _≤_, _<_}
+use Prim.Native.Nat.{_+_, _*_, _/_, _-_, _≤_, _<_}
 use native.Mathlib.Omega.{arith}
 use borrow.Author.Needs.{needs}
 use lib.ListN.{length, drop, length-set}
 use Rattle.rules.specs.Bytes.{all, each, over}
 use Rattle.rules.specs.Names.{oneOf, threes}
-use Rattle.rules.proofs.Over.{overFrom, from-start, from-end}
+use Rattle.rules.proofs.Over.{overFrom, from-start}
 use Rattle.sequences.specs.Names.{isThree}
-use Rattle.sequences.proofs.names.Laws.{threes-end, threes-row, put-one}
+use Rattle.sequences.proofs.names.Laws.{threes-row, put-one, residues-end}
 use Rattle.sequences.proofs.names.write_ones.Statement.{statement}
 use Rattle.sequences.proofs.names.write_ones.Tie as tie
 
@@ -26,28 +26,29 @@ abbrev μ-loop : tie.MeasureT-loop
 μ-loop three names out₀ n i₀ out i = n - i
 
 loop-holds : tie.Need-loop-holds Inv-loop μ-loop
-loop-holds c = (search needs, refl, refl, c .before .before .pre .1 .1 .0, from-start (each oneOf (threes (c .before .before .args .three .now))) (c .before .before .args .out .now))
+loop-holds c = (search needs, refl, refl, c .before .before .pre .1 .1 .0, from-start _ _)
 
-element-copy-out-out : tie.Need-element-copy-out-out Inv-loop μ-loop
-element-copy-out-out c = omega (arith, threes-row (c .before .before .before .before .before .before .before .before .args .three .now) (c .before .before .before .before .before .loop .i) (c .row-of-three .result) (search needs) (c .row-of-three .ensures .1) (c .before .before .before .before .before .loop .inv .3) .0)
+-- the row that was found is in the table, and the names behind have theirs
+there : (c : tie.After-row-of-three Inv-loop μ-loop) → (c .row-of-three .result < 25) × (all isThree (threes (drop ((c .before .before .before .before .before .loop .i + 1) * 3) (c .before .before .before .before .before .before .before .before .args .three .now))) ≡ true)
+there c =
+    threes-row (c .before .before .before .before .before .before .before .before .args .three .now) _ _ (search needs) (c .row-of-three .ensures .1)
+    (c .before .before .before .before .before .loop .inv .3)
 
 loop-again : tie.Need-loop-again Inv-loop μ-loop
 loop-again c =
-    let args = c .before .before .before .before .before .before .before .before .before .args in
-    let loop = c .before .before .before .before .before .before .loop in
-    let row = c .before .row-of-three in
-    let h : loop .i < length (args .three .now) / 3 = search needs in
-    let r = threes-row (args .three .now) (loop .i) (row .result) h (row .ensures .1) (loop .inv .3) in (
+    let found = c .before in
+    let turn = found .before .before .before .before .before in
+    let start = turn .before .before .before in (
       search needs,
       search needs,
-      simp length-set (loop .inv .2),
-      r .1,
-      put-one (args .names .now) (c .before .before .before .before .before .before .before .before .before .pre .0) (args .three .now) (loop .i) (row .result) (r .0) (loop .out) (over (each oneOf (threes (args .three .now))) (args .out .now)) h (row .ensures .1) (search needs) (loop .inv .4),
+      simp length-set (turn .loop .inv .2),
+      there found .1,
+      put-one (start .args .names .now) (start .pre .0) (start .args .three .now) (turn .loop .i) (found .row-of-three .result) (there found .0) (turn .loop .out) _
+          (search needs) (found .row-of-three .ensures .1) (search needs) (turn .loop .inv .4),
     )
 
 returns : tie.Need-returns Inv-loop μ-loop
-unfolding each
-returns c = sym (from-end (c .before .loop .i) (c .before .loop .out)) ∙ ap (λ l. overFrom (c .before .loop .i) (each oneOf l) (c .before .loop .out)) (sym (threes-end (c .before .before .before .before .args .three .now) (c .before .loop .i) (c .before .before .before .before .pre .1 .0) (search needs))) ∙ c .before .loop .inv .4
+returns c = residues-end (c .before .before .before .before .args .three .now) _ _ _ (c .before .before .before .before .pre .1 .0) (search needs) (c .before .loop .inv .4)
 
 pub write-ones-spec : {M : Type 1} → statement M
 write-ones-spec =
@@ -64,7 +65,7 @@ write-ones-spec =
     (λ c. search needs)
     (λ c κs. search needs)
     (λ c. search needs)
-    element-copy-out-out
+    (λ c. omega (arith, there c .0))
     (λ c. search needs)
     (λ c. search needs)
     (λ c. search needs)

@@ -1,0 +1,404 @@
+/* Times the module (with -DOURS), the Rust and plain C in one process, by turns, and prints the best of many rounds. All is timed in several passes, so that
+ * no row has its whole time while something else runs. Before anything is timed the answers are held to each other. */
+#include "baseline.h"
+#include "ours.h"
+#include "oracle.h"
+#include <stdio.h>
+#include <stdlib.h>
+#include <string.h>
+#include <time.h>
+
+enum { PASSES = 10, ROUNDS = 100, SAMPLE_NS = 20000, MOST = 20000, CALLS = 5, ROWS = 32 };
+
+static double now(void)
+{
+    struct timespec t;
+    clock_gettime(CLOCK_MONOTONIC, &t);
+    return t.tv_sec * 1e9 + t.tv_nsec;
+}
+
+static void fail(const char *what)
+{
+    printf("the answers differ: %s\n", what);
+    exit(1);
+}
+
+static uint64_t seed;
+
+static uint64_t next(void)
+{
+    seed = seed * 6364136223846793005u + 1442695040888963407u;
+    return seed >> 33;
+}
+
+/* ---- what is timed: each call works on these ---- */
+
+static uint8_t letters[MOST], other[MOST], out[MOST], tx[2 * MOST], rp[MOST], ap[MOST];
+static struct base_reference ref;
+static struct base_known known;
+static struct base_edit edit;
+static const struct base_buffers buffers = {tx, rp, ap, sizeof tx, sizeof rp, sizeof ap};
+static struct oracle_reference *rust_ref;
+static struct oracle_edit *rust_edit;
+static volatile uint64_t sink;
+
+static void rust_translate(void)
+{
+    sink += oracle_timed_translate(letters, ref.len, 0);
+}
+
+static void c_translate(void)
+{
+    sink += base_translate(letters, ref.len, 0, 0, NULL, 0, out, sizeof out).len;
+}
+
+static void rust_prefix(void)
+{
+    sink += oracle_prefix(letters, ref.len, other, ref.len);
+}
+
+static void c_prefix(void)
+{
+    sink += base_prefix(letters, ref.len, other, ref.len);
+}
+
+static void rust_anew(void)
+{
+    sink += oracle_timed_edit(rust_ref, rust_edit, 0);
+}
+
+static void rust_anew_until(void)
+{
+    sink += oracle_timed_edit(rust_ref, rust_edit, 1);
+}
+
+static void rust_known(void)
+{
+    sink += oracle_timed_edit_known(rust_ref, rust_edit, 0);
+}
+
+static void rust_known_until(void)
+{
+    sink += oracle_timed_edit_known(rust_ref, rust_edit, 1);
+}
+
+static void c_anew(void)
+{
+    sink += base_record(&ref, &edit, &buffers).number;
+}
+
+static void c_known(void)
+{
+    sink += base_record_known(&known, &edit, &buffers).number;
+}
+
+#ifdef OURS
+enum { TIMES = 16 };
+
+static uint64_t ours_edit(uint64_t times)
+{
+    if (times == 0)
+        return bench_edit(letters, ref.len, ref.cs, ref.ce, 0, edit.kind, edit.start, edit.end, edit.bases, edit.bases_len, tx, sizeof tx, rp, sizeof rp, ap,
+                          sizeof ap);
+    return bench_edit_known(letters, ref.len, ref.cs, ref.ce, 0, edit.kind, edit.start, edit.end, edit.bases, edit.bases_len, times, tx, sizeof tx, rp,
+                            sizeof rp, ap, sizeof ap);
+}
+
+static void ours_translate(void)
+{
+    sink += bench_translate(letters, ref.len, 0, out, sizeof out);
+}
+
+static void ours_inner_once(void)
+{
+    sink += bench_inner(letters, ref.len, 0, 1, out, sizeof out);
+}
+
+static void ours_inner_more(void)
+{
+    sink += bench_inner(letters, ref.len, 0, 1 + TIMES, out, sizeof out);
+}
+
+static void ours_prefix(void)
+{
+    sink += bench_prefix(letters, ref.len, other, ref.len);
+}
+
+static void ours_anew(void)
+{
+    sink += ours_edit(0);
+}
+
+static void ours_known_once(void)
+{
+    sink += ours_edit(1);
+}
+
+static void ours_known_more(void)
+{
+    sink += ours_edit(1 + TIMES);
+}
+#else
+enum { TIMES = 1 };
+#define ours_translate NULL
+#define ours_inner_once NULL
+#define ours_inner_more NULL
+#define ours_prefix NULL
+#define ours_anew NULL
+#define ours_known_once NULL
+#define ours_known_more NULL
+#endif
+
+/* ---- timing ---- */
+
+typedef void (*call)(void);
+
+static double kept[ROWS][CALLS];
+static int pass, at;
+
+/* The best time of each call so far, taken by turns; 0 for a call that isn't there. */
+static const double *best_of(const call *calls, int count)
+{
+    double *best = kept[at++];
+    int often[CALLS];
+    for (int k = 0; k < count; k++) {
+        if (!calls[k])
+            continue;
+        calls[k]();
+        double a = now();
+        calls[k]();
+        double t = now() - a;
+        often[k] = t < 1 ? SAMPLE_NS : t > SAMPLE_NS ? 1 : (int)(SAMPLE_NS / t) + 1;
+    }
+    for (int round = 0; round < ROUNDS; round++)
+        for (int k = 0; k < count; k++) {
+            if (!calls[k])
+                continue;
+            double a = now();
+            for (int i = 0; i < often[k]; i++)
+                calls[k]();
+            double t = (now() - a) / often[k];
+            if (best[k] == 0 || t < best[k])
+                best[k] = t;
+        }
+    return best;
+}
+
+static void cell(double ns)
+{
+    if (ns > 0)
+        printf("%10.0f", ns);
+    else
+        printf("%10s", "-");
+}
+
+static void ratio(double a, double b)
+{
+    if (a > 0 && b > 0)
+        printf("%10.2f", a / b);
+    else
+        printf("%10s", "-");
+}
+
+static void head(const char *what)
+{
+    if (pass < PASSES)
+        return;
+    printf("\n%-38s%10s%10s%10s%10s%10s%10s%10s\n", what, "ours", "Rust", "Rust u.s.", "C", "Rust/ours", "C/ours", "Rust/C");
+}
+
+/* The Rust's faster way counts in the ratios. */
+static void row(const char *what, double ours, double rust, double until, double c)
+{
+    double faster = until > 0 && until < rust ? until : rust;
+    if (pass < PASSES)
+        return;
+    printf("%-38s", what);
+    cell(ours);
+    cell(rust);
+    cell(until);
+    cell(c);
+    ratio(faster, ours);
+    ratio(c, ours);
+    ratio(faster, c);
+    printf("\n");
+    fflush(stdout);
+}
+
+/* ---- inputs ---- */
+
+static void make_letters(uint64_t len)
+{
+    seed = 1;
+    ref = (struct base_reference){letters, len, 1, len, 0, NULL, 0};
+    for (uint64_t i = 0; i < len; i++)
+        letters[i] = "ACGT"[next() & 3];
+}
+
+/* One in a hundred, and at least one. */
+static void strew(uint64_t len)
+{
+    int some = 0;
+    seed = 2;
+    for (uint64_t i = 0; i < len; i++)
+        if (next() % 100 == 0) {
+            letters[i] = "RYSWKMBDHVN"[next() % 11];
+            some = 1;
+        }
+    if (!some)
+        letters[len / 2] = 'N';
+}
+
+/* A transcript whose CDS runs from base 101 to some 200 before the end, with a stop at its end only. */
+static void make_reference(uint64_t len)
+{
+    make_letters(len);
+    ref.cs = 101;
+    ref.ce = 100 + (len - 300) / 3 * 3;
+    for (uint64_t i = ref.cs - 1; i < ref.ce - 3; i += 3)
+        if (letters[i] == 'T' && (!memcmp(letters + i + 1, "AA", 2) || !memcmp(letters + i + 1, "AG", 2) || !memcmp(letters + i + 1, "GA", 2)))
+            letters[i] = 'C';
+    memcpy(letters + ref.ce - 3, "TAA", 3);
+    if (base_check(&ref, &known))
+        fail("a reference that C refuses");
+    rust_ref = oracle_reference_new(letters, len, ref.cs, ref.ce, 0, NULL, 0);
+    if (!rust_ref)
+        fail("a reference that the Rust refuses");
+}
+
+static void make_edit(uint64_t kind, int64_t start, int64_t end, const char *bases)
+{
+    edit = (struct base_edit){kind, 0, 0, start, end, (const uint8_t *)bases, strlen(bases)};
+    rust_edit = oracle_edit_new(kind, 0, start, 0, end, edit.bases, edit.bases_len);
+    if (!rust_edit)
+        fail("an edit that the Rust refuses");
+}
+
+/* ---- the answers are equal ---- */
+
+static void check_translation(void)
+{
+    static uint8_t theirs[MOST];
+    uint64_t n = base_translate(letters, ref.len, 0, 0, NULL, 0, out, sizeof out).len;
+    if (n != (ref.len + 2) / 3 || oracle_translate(letters, ref.len, 0, 0, theirs, sizeof theirs) != (int64_t)n || memcmp(out, theirs, n))
+        fail("translation, the Rust");
+#ifdef OURS
+    memset(theirs, 0, sizeof theirs);
+    if (bench_translate(letters, ref.len, 0, theirs, sizeof theirs) != n || memcmp(out, theirs, n) || theirs[n])
+        fail("translation, ours");
+    memset(theirs, 0, sizeof theirs);
+    if (bench_inner(letters, ref.len, 0, 2, theirs, sizeof theirs) != n || memcmp(out, theirs, n) || theirs[n])
+        fail("inner translation, ours");
+#endif
+}
+
+static void check_edit(void)
+{
+    static uint8_t tx2[2 * MOST], ap2[MOST], moved[64];
+    struct base_answer mine = base_record(&ref, &edit, &buffers), again = base_record_known(&known, &edit, &buffers);
+    if (mine.answer != BASE_CHANGED || memcmp(&mine, &again, sizeof mine))
+        fail("C with itself");
+    for (int until = 0; until < 2; until++) {
+        struct oracle_answer theirs = oracle_edit(rust_ref, rust_edit, until, 1, tx2, sizeof tx2, ap2, sizeof ap2, moved, sizeof moved);
+        if (!theirs.answered || theirs.unknown || theirs.frameshift != mine.frameshift || theirs.transcript_len != (int64_t)mine.transcript_len
+            || memcmp(tx, tx2, mine.transcript_len) || theirs.altered_len != (int64_t)mine.altered_len || memcmp(ap, ap2, mine.altered_len)
+            || theirs.number != (int64_t)mine.number || theirs.deleted_len != (int64_t)mine.deleted_len
+            || theirs.inserted_len != (int64_t)mine.inserted_len)
+            fail("edit, the Rust");
+    }
+#ifdef OURS
+    static uint8_t tx3[2 * MOST], rp3[MOST], ap3[MOST];
+    memcpy(tx3, tx, sizeof tx);
+    memcpy(rp3, rp, sizeof rp);
+    memcpy(ap3, ap, sizeof ap);
+    for (uint64_t times = 0; times < 3; times++) {
+        memset(tx, 0, sizeof tx);
+        memset(rp, 0, sizeof rp);
+        memset(ap, 0, sizeof ap);
+        if (ours_edit(times) != mine.number || memcmp(tx, tx3, mine.transcript_len) || tx[mine.transcript_len] || memcmp(rp, rp3, mine.reference_len)
+            || rp[mine.reference_len] || memcmp(ap, ap3, mine.altered_len) || ap[mine.altered_len])
+            fail("edit, ours");
+    }
+#endif
+}
+
+/* ---- the tables ---- */
+
+/* What one of the inner times took. */
+static double inner(double once, double more)
+{
+    return once > 0 ? (more - once) / TIMES : 0;
+}
+
+static void translations(uint64_t len, int strewn)
+{
+    char what[64];
+    make_letters(len);
+    if (strewn)
+        strew(len);
+    check_translation();
+    const double *best = best_of((call[]){ours_translate, rust_translate, c_translate, ours_inner_once, ours_inner_more}, 5);
+    snprintf(what, sizeof what, "%lu %s", (unsigned long)len, strewn ? "with ambiguous letters" : "plain");
+    row(what, best[0], best[1], 0, best[2]);
+#ifdef OURS
+    row("  letters and room known", inner(best[3], best[4]), best[1], 0, best[2]);
+#endif
+}
+
+static void prefixes(uint64_t len)
+{
+    make_letters(len);
+    memcpy(other, letters, len);
+    if (oracle_prefix(letters, len, other, len) != len || base_prefix(letters, len, other, len) != len)
+        fail("prefix");
+#ifdef OURS
+    if (bench_prefix(letters, len, other, len) != len)
+        fail("prefix, ours");
+#endif
+    const double *best = best_of((call[]){ours_prefix, rust_prefix, c_prefix}, 3);
+    row("prefix of two equal strings, 16384", best[0], best[1], 0, best[2]);
+}
+
+static void edits(uint64_t len)
+{
+    static const struct {
+        const char *name;
+        uint64_t kind;
+        int64_t more;
+    } kinds[] = {{"substitution", 1, 0}, {"deletion of one", 2, 0}, {"duplication of three", 5, 2}};
+    for (unsigned k = 0; k < 3; k++) {
+        char what[64];
+        make_reference(len);
+        int64_t middle = (int64_t)(ref.ce - ref.cs + 1) / 6 * 3 + 2;   /* the second base of a codon */
+        const char *base = letters[ref.cs - 1 + middle - 1] == 'C' ? "G" : "C";
+        make_edit(kinds[k].kind, middle, middle + kinds[k].more, kinds[k].kind == 1 ? base : "");
+        check_edit();
+        const double *best = best_of((call[]){ours_anew, rust_anew, rust_anew_until, c_anew}, 4);
+        snprintf(what, sizeof what, "%lu %s", (unsigned long)len, kinds[k].name);
+        row(what, best[0], best[1], best[2], best[3]);
+        best = best_of((call[]){ours_known_once, rust_known, rust_known_until, c_known, ours_known_more}, 5);
+        row("  reference known", inner(best[0], best[4]), best[1], best[2], best[3]);
+        oracle_edit_free(rust_edit);
+        oracle_reference_free(rust_ref);
+    }
+}
+
+int main(void)
+{
+    static const uint64_t lengths[] = {16384, 3000, 30};
+    base_init();
+    printf("nanoseconds a call, the best of %d rounds; u.s. is until_stop; a ratio above 1 says that the first is slower\n", PASSES * ROUNDS);
+    for (pass = 1; pass <= PASSES; pass++) {
+        at = 0;
+        head("translation");
+        for (int strewn = 0; strewn < 2; strewn++)
+            for (int k = 0; k < 3; k++)
+                translations(lengths[k], strewn);
+        head("common prefix");
+        prefixes(16384);
+        head("edits with their record");
+        edits(3000);
+        edits(16384);
+    }
+    return 0;
+}

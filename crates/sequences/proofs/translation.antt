@@ -1,0 +1,6 @@
+-- Laws of translation by loops.
+pub mod Blocks
+pub mod Residues
+pub mod Places
+pub mod Excepted
+pub mod Answers

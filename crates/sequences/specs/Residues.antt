@@ -1,0 +1,46 @@
+-- Codons by index, exceptions put over residues, plain codons by the numbers of their letters, and what a walk to the first stop leaves.
+use Prim.Native.Nat.{ℕ, zero, suc, _+_, _*_, _/_, _%_, _<_, _≤_}
+use mathlib.Core.Path.{_≡_}
+use mathlib.Core.Bool.{Bool}
+use mathlib.Core.List.{List, [], _∷_}
+use lib.ListN.{length, getD}
+use Rattle.rules.specs.declared.Exception.{Exception}
+use Rattle.rules.specs.Bytes.{all, over}
+use Rattle.rules.specs.Codons.{codon}
+use Rattle.rules.specs.Translation.{excepted, wholeCodons}
+use Rattle.rules.proofs.Over.{overFrom}
+use Rattle.rules.proofs.Reading.{restOf}
+use Rattle.codons.specs.Tables.{isBase}
+
+-- the residue of codon i, counted from 0, of a list of letters
+unfoldable pub codonAt : ℕ → List ℕ → ℕ → ℕ
+codonAt t s i = codon t (getD s (i * 3) 0) (getD s (i * 3 + 1) 0) (getD s (i * 3 + 2) 0)
+
+-- residues with the exceptions, the first of them codon n's
+unfoldable pub exceptedFrom : List Exception → ℕ → List ℕ → List ℕ
+exceptedFrom es n [] = []
+exceptedFrom es n (r ∷ rs) = excepted es n r ∷ exceptedFrom es (suc n) rs
+
+-- the number of a base's letter: A 0, C 1, T and U 2, G 3
+abbrev pub numberOf : ℕ → ℕ
+numberOf b = b / 2 % 4
+
+-- where the residue of plain codon i stands among the 64
+unfoldable pub placeAt : List ℕ → ℕ → ℕ
+placeAt s i = numberOf (getD s (i * 3) 0) * 16 + numberOf (getD s (i * 3 + 1) 0) * 4 + numberOf (getD s (i * 3 + 2) 0)
+
+-- each byte of the whole codons is a base of plain translation
+unfoldable pub areBases : List ℕ → Bool
+areBases s = all isBase (wholeCodons s)
+
+-- four bytes from place k on as one number, the first lowest, and eight
+abbrev pub fourAt : List ℕ → ℕ → ℕ
+fourAt s k = getD s k 0 + getD s (k + 1) 0 * 256 + getD s (k + 2) 0 * 65536 + getD s (k + 3) 0 * 16777216
+
+abbrev pub eightAt : List ℕ → ℕ → ℕ
+eightAt s k = fourAt s k + fourAt s (k + 4) * 4294967296
+
+-- a walk over n bases that ended at the stop codon r has written the protein A; one that met none has still to write the X for a rest
+pub record WalkedTo (A : List ℕ) (n : ℕ) (old out : List ℕ) (r : ℕ) : Type 0 where
+  pub stopped : r < n / 3 → (r + 1 ≡ length A) × (out ≡ over A old)
+  pub ended : n / 3 ≤ r → ((n + 2) / 3 ≡ length A) × (overFrom (n / 3) (restOf (n % 3)) out ≡ over A old)
