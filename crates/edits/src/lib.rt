@@ -3,6 +3,8 @@
 pub mod exceptions;
 pub mod positions;
 pub mod refusals;
+pub mod stops;
+pub mod swaps;
 
 // The bounds and the table of a reference; its letters are lent beside them.
 pub struct Cds {

@@ -14,3 +14,4 @@ pub use translation::translate;
 pub use translation::write_translated;
 pub use trims::common_prefix_len;
 pub use trims::common_suffix_len;
+pub use trims::equals;

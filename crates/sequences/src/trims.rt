@@ -1,6 +1,7 @@
-// The number of equal first, or equal last, bytes of two byte strings.
+// The number of equal first, or equal last, bytes of two byte strings, and whether they are the same.
 ghost use mathlib.Core.Path.{_≡_};
 ghost use Prim.Native.Nat.{min};
+ghost use Rattle.rules.specs.Bytes.{same};
 ghost use Rattle.rules.specs.Trims.{commonPrefix, commonSuffix};
 
 pub(crate) fn least(a: usize, b: usize) -> usize
@@ -35,4 +36,13 @@ pub fn common_suffix_len(a: &[u8], b: &[u8]) -> usize
         i += 1;
     }
     n
+}
+
+pub fn equals(a: &[u8], b: &[u8]) -> bool
+    ensures { λ r. ⌜ r ≡ same (now (a .entry)) (now (b .entry)) ⌝ }
+{
+    if a.len() != b.len() {
+        return false;
+    }
+    common_prefix_len(a, b) == a.len()
 }

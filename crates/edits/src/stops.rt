@@ -1,0 +1,132 @@
+// The stop cut: what goes in ends with its first stop codon.
+use codons::letters::plain_set;
+use codons::tables::residue_in;
+ghost use Prim.Native.Nat.{_+_, _*_, _/_, _<_, _≤_, min};
+ghost use mathlib.Core.Path.{_≡_};
+ghost use mathlib.Core.Bool.{true};
+ghost use mathlib.Core.List.{[]};
+ghost use lib.ListN.{length, getD};
+ghost use Rattle.rules.specs.Bytes.{all};
+ghost use Rattle.rules.specs.Letters.{isLetter};
+ghost use Rattle.rules.specs.Codons.{codon};
+ghost use Rattle.rules.specs.Translation.{translated, beforeStop};
+ghost use Rattle.codons.specs.Tables.{plainSet, HoldsSets, HoldsCode};
+ghost use Rattle.edits.specs.Cuts.{framedBy, cutOf};
+
+// Whether a `*` appears, and how many of the bases stay.
+pub struct Cut {
+    pub found: bool,
+    pub kept: usize,
+}
+
+// The set of N.
+const ANY: usize = 15;
+
+// The residue of the first codon, of `frame` letters N and the first bases.
+fn framed_codon(put: &[u8], frame: usize, table: usize, sets: &[u8; 256], lut: &[u8; 4096]) -> u8
+    requires { ⌜ (1 ≤ frame) × (frame < 3) ⌝ }
+    requires { ⌜ 3 ≤ frame + length (now put) ⌝ }
+    requires { ⌜ all isLetter (now put) ≡ true ⌝ }
+    requires { ⌜ HoldsSets plainSet (now sets) ⌝ }
+    requires { ⌜ HoldsCode table (now lut) ⌝ }
+    ensures { λ r. ⌜ r ≡ getD (framedBy table frame (now (put .entry))) 0 0 ⌝ }
+{
+    let a = plain_set(sets, put[0]);
+    if frame == 2 {
+        return residue_in(table, lut, ANY, ANY, a);
+    }
+    let b = plain_set(sets, put[1]);
+    residue_in(table, lut, ANY, a, b)
+}
+
+// The residue of codon i, counted from 0.
+fn codon_at(put: &[u8], i: usize, table: usize, sets: &[u8; 256], lut: &[u8; 4096]) -> u8
+    requires { ⌜ i < length (now put) / 3 ⌝ }
+    requires { ⌜ all isLetter (now put) ≡ true ⌝ }
+    requires { ⌜ HoldsSets plainSet (now sets) ⌝ }
+    requires { ⌜ HoldsCode table (now lut) ⌝ }
+    ensures { λ r. ⌜ r ≡ codon table (getD (now (put .entry)) (i * 3) 0) (getD (now (put .entry)) (i * 3 + 1) 0) (getD (now (put .entry)) (i * 3 + 2) 0) ⌝ }
+{
+    let a = plain_set(sets, put[i * 3]);
+    let b = plain_set(sets, put[i * 3 + 1]);
+    let c = plain_set(sets, put[i * 3 + 2]);
+    residue_in(table, lut, a, b, c)
+}
+
+// The index of the first stop codon, or the codon count.
+fn first_stop(put: &[u8], table: usize, sets: &[u8; 256], lut: &[u8; 4096]) -> usize
+    requires { ⌜ all isLetter (now put) ≡ true ⌝ }
+    requires { ⌜ HoldsSets plainSet (now sets) ⌝ }
+    requires { ⌜ HoldsCode table (now lut) ⌝ }
+    ensures { λ r. ⌜ r ≡ min (beforeStop (translated table [] (now (put .entry)))) (length (now (put .entry)) / 3) ⌝ }
+{
+    let count = put.len() / 3;
+    let mut i = 0;
+    let stop = loop {
+        if i == count {
+            break count;
+        }
+        if codon_at(put, i, table, sets, lut) == b'*' {
+            break i;
+        }
+        i += 1;
+    };
+    stop
+}
+
+// The cut of bases that begin with a codon.
+fn cut_in_frame(put: &[u8], table: usize, sets: &[u8; 256], lut: &[u8; 4096]) -> Cut
+    requires { ⌜ all isLetter (now put) ≡ true ⌝ }
+    requires { ⌜ HoldsSets plainSet (now sets) ⌝ }
+    requires { ⌜ HoldsCode table (now lut) ⌝ }
+    ensures { λ r. ⌜ r ≡ cutOf table 0 (now (put .entry)) ⌝ }
+{
+    let stop = first_stop(put, table, sets, lut);
+    if stop < put.len() / 3 {
+        return Cut {
+            found: true,
+            kept: (stop + 1) * 3,
+        };
+    }
+    Cut {
+        found: false,
+        kept: put.len(),
+    }
+}
+
+// The cut of bases that go in behind `frame` bases of a codon, which count as letters N.
+pub fn insert_stop_seq_end(
+    put: &[u8],
+    frame: usize,
+    table: usize,
+    sets: &[u8; 256],
+    lut: &[u8; 4096],
+) -> Cut
+    requires { ⌜ frame < 3 ⌝ }
+    requires { ⌜ all isLetter (now put) ≡ true ⌝ }
+    requires { ⌜ HoldsSets plainSet (now sets) ⌝ }
+    requires { ⌜ HoldsCode table (now lut) ⌝ }
+    ensures { λ r. ⌜ r ≡ cutOf table frame (now (put .entry)) ⌝ }
+{
+    if frame == 0 {
+        return cut_in_frame(put, table, sets, lut);
+    }
+    let first = 3 - frame;
+    if put.len() < first {
+        return Cut {
+            found: false,
+            kept: put.len(),
+        };
+    }
+    if framed_codon(put, frame, table, sets, lut) == b'*' {
+        return Cut {
+            found: true,
+            kept: first,
+        };
+    }
+    let cut = cut_in_frame(&put[first..], table, sets, lut);
+    Cut {
+        found: cut.found,
+        kept: first + cut.kept,
+    }
+}
