@@ -1,4 +1,4 @@
 -- What only this crate's contracts want said.
-pub mod Stub
 pub mod Known
 pub mod Decisions
+pub mod Transcript

@@ -3,10 +3,12 @@
 pub mod answer;
 pub mod decision;
 pub mod reference;
-pub mod stub;
+mod stub;
+mod transcript;
 
 pub use answer::build_altseq;
 pub use answer::build_altseq_in;
 pub use reference::Checked;
 pub use reference::Known;
 pub use reference::check_reference;
+pub use transcript::write_transcript;
