@@ -24,14 +24,14 @@ use Rattle.rules.proofs.Altered.{longestAltered, altered-length}
 use Rattle.rules.proofs.Answers.{refused-by, unknown-by, room-by, all-by}
 use Rattle.edits.specs.declared.Cds.{Cds}
 use Rattle.edits.specs.Views.{bare, Sound}
-use Rattle.altseq.specs.Stub.{planOf, roomBy}
-use Rattle.altseq.specs.declared.stub.Plan.{Plan}
+use Rattle.edits.specs.Plans.{planOf, roomBy}
+use Rattle.edits.specs.declared.swaps.Plan.{Plan}
 use Rattle.altseq.specs.declared.reference.Known.{Known}
 use Rattle.altseq.specs.declared.decision.Decision.{Decision}
 use Rattle.altseq.specs.declared.decision.Decision.the-variants as decision
 use Rattle.altseq.specs.Known.{referenceOf, roomOf, knownOf, Knows}
 use Rattle.altseq.specs.Decisions.{decisionOf, Clear}
-use Rattle.altseq.proofs.StubLaws.{bare-plan, room-is}
+use Rattle.edits.proofs.Plans.{bare-plan}
 use Rattle.altseq.proofs.Deciding.{decided-refusal, decided-unknown, decided-plan}
 
 pub writes-nothing : (o : Outcome) (x : Answer) (t p q : List ℕ) → o ≡ writesNothing x → Answers o x t t p p q q

@@ -7,8 +7,8 @@ use native.Mathlib.Omega.{arith}
 use Rattle.rules.specs.Bytes.{firstOf}
 use Rattle.rules.specs.Reference.{Reference}
 use Rattle.rules.specs.Edit.{Asked, endsPast, editTests}
-use Rattle.altseq.specs.Stub.{planOf}
-use Rattle.altseq.specs.declared.stub.Plan.{Plan}
+use Rattle.edits.specs.Plans.{planOf}
+use Rattle.edits.specs.declared.swaps.Plan.{Plan}
 use Rattle.altseq.specs.declared.decision.Decision.{Decision}
 use Rattle.altseq.specs.declared.decision.Decision.the-variants.{Refused, Unknown, Goes}
 use Rattle.altseq.specs.Decisions.{decisionBy, decisionOf}

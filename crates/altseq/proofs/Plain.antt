@@ -21,7 +21,7 @@ use Rattle.rules.proofs.Tests.{and-left, and-right, and-both, all-take, all-dro
 use Rattle.rules.proofs.Complement.{of-letters}
 use Rattle.rules.proofs.Altered.{kept-is}
 use Rattle.codons.specs.Tables.{isBase}
-use Rattle.altseq.specs.Stub.{areBases}
+use Rattle.sequences.specs.Residues.{areBases}
 
 same-letter : (b : ℕ) → isLetter b ≡ true → plainLetter b ≡ b
 unfolding all upper plainLetter

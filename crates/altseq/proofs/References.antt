@@ -30,7 +30,7 @@ use Rattle.edits.specs.Views.{bare, Sound}
 use Rattle.altseq.specs.declared.reference.Known.{Known}
 use Rattle.altseq.specs.declared.reference.Checked.{Checked}
 use Rattle.altseq.specs.declared.reference.Checked.the-variants as checked
-use Rattle.altseq.specs.Stub.{areBases}
+use Rattle.sequences.specs.Residues.{areBases}
 use Rattle.altseq.proofs.Plain.{plainly-letters, plainly-translated, plainly-bases}
 use Rattle.altseq.specs.Known.{referenceOf, isException, earlyRefusal, proteinUnless, knownOf, checkedBy, readOf, checkedOf, Readable, Knows}
 

@@ -29,7 +29,6 @@ use Rattle.rules.proofs.Tests.{and-left, and-right, or-right, first-clear, all-
 use Rattle.rules.proofs.Over.{copied-as, fits-over, read-back, read-behind}
 use Rattle.rules.proofs.Reference.{Accepted}
 use Rattle.rules.proofs.Refusal.{reference-accepted, edit-allowed}
-use Rattle.rules.proofs.Span.{span}
 use Rattle.rules.proofs.Altered.{AlteredLength, altered-length, altered-letters}
 use Rattle.rules.proofs.Records.{record-known}
 use Rattle.rules.proofs.Answers.{Fits, fits}
@@ -37,10 +36,14 @@ use Rattle.codons.specs.Tables.{isBase}
 use Rattle.edits.specs.Moving.{Moves, Given}
 use Rattle.edits.proofs.Tests.{fitting}
 use Rattle.edits.proofs.Moving.{moves-of, given-of, moved-is}
-use Rattle.altseq.specs.Stub.{areBases, planOf, goesIn, silentWithin}
-use Rattle.altseq.specs.declared.stub.Plan.{Plan}
+use Rattle.sequences.specs.Residues.{areBases}
+use Rattle.edits.specs.Plans.{planOf, silentWithin}
+use Rattle.altseq.specs.Transcript.{carriedBy}
+use Rattle.altseq.specs.Transcript as transcript
+use Rattle.altseq.proofs.Transcripts.{fits-of, carried-by-is}
+use Rattle.edits.specs.declared.swaps.Plan.{Plan}
 use Rattle.altseq.specs.Decisions.{Clear}
-use Rattle.altseq.proofs.StubLaws.{transcript-is, silent-is}
+use Rattle.edits.proofs.Numbers.{silent-is}
 use Rattle.altseq.proofs.Plain.{plainly-letters, plainly-translated, plainly-bases, bases-stay}
 
 module _ (r : Reference) (a : Asked) (room : Room) (x : Clear r a room) where
@@ -67,68 +70,65 @@ module _ (r : Reference) (a : Asked) (room : Room) (x : Clear r a room) where
       ltb-false (room .altered) (residueCount (alteredLength r a + 1 - r .cs)) (or-right short cut (twelve .0))
 
   module _ (plan : Plan) (is : plan ≡ planOf r a) where
-    pub plan-length : plan .length ≡ length (alteredTranscript r a)
-    unfolding planOf
-    plan-length = ap (λ (p : Plan). p .length) is ∙ sym (lengths .is)
+    pub plan-fits : transcript.Fits plan (r .letters) (a .new) (room .transcript)
+    plan-fits = rw is (fits-of (x .limits) r a (x .allowed) (room .transcript) (omega (arith, lengths .is, all-fit .transcript)))
 
-    pub plan-front : r .cs - 1 ≤ plan .length
-    plan-front = omega (arith, plan-length, lengths .is, lengths .front)
-
-    pub plan-spans : (plan .from ≤ plan .to) × (plan .to ≤ length (r .letters))
-    unfolding planOf size
-    plan-spans = let w = span (x .limits) r a (x .allowed) in rw is (w .rising, w .ends)
-
-    pub plan-transcript : take (plan .from) (r .letters) ++ (goesIn plan (r .letters) (a .new) ++ drop (plan .to) (r .letters)) ≡ alteredTranscript r a
-    plan-transcript = rw is (sym (transcript-is r a))
+    carried-is : carriedBy plan (r .letters) (a .new) ≡ alteredTranscript r a
+    carried-is = rw is (carried-by-is r a)
 
     -- the transcript is written
-    module _ (tx tx′ : List ℕ)
-        (written : tx′ ≡ over (take (plan .from) (r .letters) ++ (goesIn plan (r .letters) (a .new) ++ drop (plan .to) (r .letters))) tx) where
-      pub holds-transcript : tx′ ≡ over (alteredTranscript r a) tx
-      holds-transcript = written ∙ ap (λ (t : List ℕ). over t tx) plan-transcript
+    module _ (n : ℕ) (tx tx′ : List ℕ) (counted : n ≡ length (carriedBy plan (r .letters) (a .new))) (written : tx′ ≡ over (carriedBy plan (r .letters) (a .new)) tx) where
+      holds-transcript : tx′ ≡ over (alteredTranscript r a) tx
+      holds-transcript = written ∙ ap (λ (t : List ℕ). over t tx) carried-is
 
-      pub transcript-fits : plan .length ≤ length tx′
-      transcript-fits = fits-over (alteredTranscript r a) tx tx′ (plan .length) plan-length holds-transcript
+      transcript-length : n ≡ length (alteredTranscript r a)
+      transcript-length = counted ∙ ap length carried-is
 
-      transcript-back : take (plan .length) tx′ ≡ alteredTranscript r a
-      transcript-back = read-back (alteredTranscript r a) tx tx′ (plan .length) plan-length holds-transcript
+      pub transcript-front : r .cs - 1 ≤ n
+      transcript-front = omega (arith, transcript-length, lengths .is, lengths .front)
 
-      coding-back : take (plan .length - (r .cs - 1)) (drop (r .cs - 1) tx′) ≡ drop (r .cs - 1) (alteredTranscript r a)
-      coding-back = read-behind (alteredTranscript r a) tx tx′ (plan .length) (r .cs - 1) plan-length plan-front holds-transcript
+      pub transcript-fits : n ≤ length tx′
+      transcript-fits = fits-over (alteredTranscript r a) tx tx′ (n) transcript-length holds-transcript
 
-      pub exceptions-move : Moves (r .cs - 1) (r .letters) (take (plan .length) tx′)
+      transcript-back : take (n) tx′ ≡ alteredTranscript r a
+      transcript-back = read-back (alteredTranscript r a) tx tx′ (n) transcript-length holds-transcript
+
+      coding-back : take (n - (r .cs - 1)) (drop (r .cs - 1) tx′) ≡ drop (r .cs - 1) (alteredTranscript r a)
+      coding-back = read-behind (alteredTranscript r a) tx tx′ (n) (r .cs - 1) transcript-length transcript-front holds-transcript
+
+      pub exceptions-move : Moves (r .cs - 1) (r .letters) (take n tx′)
       exceptions-move = rw transcript-back (moves-of (x .limits) r a (x .allowed) (x .small))
 
-      coding-letters : all isLetter (take (plan .length - (r .cs - 1)) (drop (r .cs - 1) tx′)) ≡ true
+      coding-letters : all isLetter (take (n - (r .cs - 1)) (drop (r .cs - 1) tx′)) ≡ true
       coding-letters = rw coding-back (all-drop isLetter (r .cs - 1) (alteredTranscript r a) (altered-letters (x .limits) r a (x .allowed)))
 
-      pub coding-readable : areLetters (take (plan .length - (r .cs - 1)) (drop (r .cs - 1) tx′)) ≡ true
-      coding-readable = plainly-letters (take (plan .length - (r .cs - 1)) (drop (r .cs - 1) tx′)) coding-letters
+      pub coding-readable : areLetters (take (n - (r .cs - 1)) (drop (r .cs - 1) tx′)) ≡ true
+      coding-readable = plainly-letters (take (n - (r .cs - 1)) (drop (r .cs - 1) tx′)) coding-letters
 
       pub coding-bases : (plain bases : Bool) → plain ≡ all isBase (r .letters) → bases ≡ all isBase (a .new) → (plain && bases) ≡ true
-          → areBases (take (plan .length - (r .cs - 1)) (drop (r .cs - 1) tx′)) ≡ true
+          → areBases (take (n - (r .cs - 1)) (drop (r .cs - 1) tx′)) ≡ true
       coding-bases plain bases p b h =
           let new = fitting (x .limits .most) (kindOf a) (a .new) (edit-allowed (x .limits) r a (x .allowed) .bases) in
           let stay = bases-stay r a (accepts .letters) (new .letters) (sym p ∙ and-left plain bases h) (sym b ∙ and-right plain bases h) in
-          plainly-bases (take (plan .length - (r .cs - 1)) (drop (r .cs - 1) tx′)) (rw coding-back (all-drop isBase (r .cs - 1) (alteredTranscript r a) stay))
+          plainly-bases (take (n - (r .cs - 1)) (drop (r .cs - 1) tx′)) (rw coding-back (all-drop isBase (r .cs - 1) (alteredTranscript r a) stay))
 
-      pub coding-room : residueCount (length (take (plan .length - (r .cs - 1)) (drop (r .cs - 1) tx′))) ≤ room .altered
+      pub coding-room : residueCount (length (take (n - (r .cs - 1)) (drop (r .cs - 1) tx′))) ≤ room .altered
       unfolding residueCount
       coding-room = rw (coding-back, length-drop (r .cs - 1) (alteredTranscript r a)) (omega (arith, altered-room, lengths .is, first-base))
 
       -- the exceptions are moved, and A is written
-      module _ (es : List Exception) (moved : es ≡ movedAll (commonPrefix (r .letters) (take (plan .length) tx′)) (r .cs - 1) (r .letters) (take (plan .length) tx′) (r .exceptions)) where
-        protein-is : throughStop (plainTranslated (r .table) es (take (plan .length - (r .cs - 1)) (drop (r .cs - 1) tx′))) ≡ alteredProtein r a
+      module _ (es : List Exception) (moved : es ≡ movedAll (commonPrefix (r .letters) (take n tx′)) (r .cs - 1) (r .letters) (take n tx′) (r .exceptions)) where
+        protein-is : throughStop (plainTranslated (r .table) es (take (n - (r .cs - 1)) (drop (r .cs - 1) tx′))) ≡ alteredProtein r a
         unfolding alteredProtein proteinOf
         protein-is =
             let is = moved-is r (alteredTranscript r a) (r .cs - 1) (r .exceptions) es refl refl (rw transcript-back at moved) in
-            rw (plainly-translated (take (plan .length - (r .cs - 1)) (drop (r .cs - 1) tx′)) coding-letters (r .table) es, coding-back, is)
+            rw (plainly-translated (take (n - (r .cs - 1)) (drop (r .cs - 1) tx′)) coding-letters (r .table) es, coding-back, is)
 
         module _ (k : ℕ) (alt alt′ : List ℕ)
-            (counted : k ≡ length (throughStop (plainTranslated (r .table) es (take (plan .length - (r .cs - 1)) (drop (r .cs - 1) tx′)))))
-            (held : alt′ ≡ over (throughStop (plainTranslated (r .table) es (take (plan .length - (r .cs - 1)) (drop (r .cs - 1) tx′)))) alt) where
+            (read : k ≡ length (throughStop (plainTranslated (r .table) es (take (n - (r .cs - 1)) (drop (r .cs - 1) tx′)))))
+            (held : alt′ ≡ over (throughStop (plainTranslated (r .table) es (take (n - (r .cs - 1)) (drop (r .cs - 1) tx′)))) alt) where
           altered-length-is : k ≡ length (alteredProtein r a)
-          altered-length-is = rw protein-is at counted
+          altered-length-is = rw protein-is at read
 
           holds-altered : alt′ ≡ over (alteredProtein r a) alt
           holds-altered = rw protein-is at held
@@ -140,17 +140,17 @@ module _ (r : Reference) (a : Asked) (room : Room) (x : Clear r a room) where
           pub reports : (protein rp rp′ : List ℕ) (m number : ℕ) (found : Record) → protein ≡ referenceProtein r
               → m ≡ length protein → rp′ ≡ take (length protein) protein ++ drop (length protein) rp
               → number ≡ silentWithin m (a .edit) → found ≡ recordFrom (plan .shift) number protein (take k alt′)
-              → Answers (writesAll r a) (Reported (record { found = found; frameshift = plan .shift; transcript = plan .length; reference = m; altered = k })) tx tx′ rp rp′ alt alt′
+              → Answers (writesAll r a) (Reported (record { found = found; frameshift = plan .shift; transcript = n; reference = m; altered = k })) tx tx′ rp rp′ alt alt′
           unfolding writesAll fullReport planOf
-          reports protein rp rp′ m number found read long copied silent made =
+          reports protein rp rp′ m number found known long copied silent made =
               let flag : plan .shift ≡ frameshift r a = ap (λ (p : Plan). p .shift) is in
-              let many : m ≡ length (referenceProtein r) = long ∙ ap length read in
+              let many : m ≡ length (referenceProtein r) = long ∙ ap length known in
               let numbered : number ≡ silentNumber r a = silent ∙ ap (λ (n : ℕ). silentWithin n (a .edit)) many ∙ sym (silent-is r a) in
               let back : take k alt′ ≡ alteredProtein r a = read-back (alteredProtein r a) alt alt′ k altered-length-is holds-altered in
-              let known : found ≡ recordOf r a = rw (flag, numbered, read, back) at made ∙ sym (record-known r a (x .known)) in
+              let told : found ≡ recordOf r a = rw (flag, numbered, known, back) at made ∙ sym (record-known r a (x .known)) in
               record {
-                says = rw (known, flag, plan-length, many, altered-length-is);
+                says = rw (told, flag, transcript-length, many, altered-length-is);
                 holds-transcript = holds-transcript;
-                holds-reference = copied-as protein (referenceProtein r) rp rp′ read copied;
+                holds-reference = copied-as protein (referenceProtein r) rp rp′ known copied;
                 holds-altered = holds-altered;
               }

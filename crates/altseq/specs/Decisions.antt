@@ -9,8 +9,8 @@ use Rattle.rules.specs.Edit.{Asked, endsPast, editTests}
 use Rattle.rules.specs.Record.{isUnknown}
 use Rattle.rules.specs.Refusal.{refusal, Room, roomRefusal}
 use Rattle.rules.proofs.Altered.{longestAltered}
-use Rattle.altseq.specs.Stub.{planOf}
-use Rattle.altseq.specs.declared.stub.Plan.{Plan}
+use Rattle.edits.specs.declared.swaps.Plan.{Plan}
+use Rattle.edits.specs.Plans.{planOf}
 use Rattle.altseq.specs.declared.decision.Decision.{Decision}
 use Rattle.altseq.specs.declared.decision.Decision.the-variants.{Refused, Unknown, Goes}
 

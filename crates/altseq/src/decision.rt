@@ -1,9 +1,9 @@
 // What is decided of an edit of a checked reference: 7 to 10, Unknown, or what the edit does. Nothing is written here.
-use crate::stub::Plan;
-use crate::stub::plan_of;
 use edits::Cds;
 use edits::refusals::edit_refusal;
 use edits::refusals::ends_after_transcript;
+use edits::swaps::Plan;
+use edits::swaps::plan_of;
 use rules::Edit;
 ghost use mathlib.Core.Path.{_≡_};
 ghost use Prim.Native.Nat.{_<_};

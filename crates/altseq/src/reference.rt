@@ -1,7 +1,4 @@
 // "Reference": refusals 1 to 6, and the reference protein R, read once.
-use crate::stub::all_bases;
-use crate::stub::is_residue;
-use crate::stub::write_translated;
 use codons::letters::plain_sets;
 use codons::tables::plain_code;
 use codons::tables::residues_of;
@@ -9,6 +6,8 @@ use edits::Cds;
 use edits::refusals::all_strict;
 use rules::Exception;
 use rules::Exceptions;
+use sequences::all_bases;
+use sequences::write_translated;
 ghost use mathlib.Core.Path.{_≡_};
 ghost use mathlib.Core.Bool.{_&&_};
 ghost use mathlib.Core.List.{[], _∷_};
@@ -51,7 +50,8 @@ fn are_bounds(letters: &[u8], c: Cds) -> bool
 fn is_exception(x: Exception, last: usize, most: usize) -> bool
     ensures { λ r. ⌜ r ≡ isException last most x ⌝ }
 {
-    (last < x.codon) & (x.codon <= most) & is_residue(x.residue)
+    let r = x.residue;
+    (last < x.codon) & (x.codon <= most) & (((b'A' <= r) & (r <= b'Z')) | (r == b'*'))
 }
 
 // At most 16, strictly rising, of `most` codons.

@@ -4,7 +4,7 @@ use borrow.Author.Needs.{needs}
 use lib.ListN.{length}
 use Rattle.edits.specs.Views.{bare, asked}
 use Rattle.edits.proofs.Tests.{bounded, edit-allowed}
-use Rattle.altseq.proofs.StubLaws.{planned}
+use Rattle.edits.proofs.Plans.{planned}
 use Rattle.altseq.proofs.Deciding.{decides-refusal, decides-unknown, decides-plan}
 use Rattle.altseq.proofs.decision.decide.Statement.{statement}
 use Rattle.altseq.proofs.decision.decide.Tie as tie

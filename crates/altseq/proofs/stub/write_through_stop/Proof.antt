@@ -3,7 +3,7 @@ use Rattle.altseq.proofs.stub.write_through_stop.Tie as tie
 use Rattle.altseq.proofs.stub.write_through_stop.Reads as reads
 use Rattle.altseq.proofs.stub.write_through_stop.Lts as lts
 
--- src/stub.rt:120:1
+-- src/stub.rt:11:1
 returns : tie.Need-returns
 returns c = ?
 
