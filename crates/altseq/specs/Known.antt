@@ -1,5 +1,5 @@
 -- The code's parameters as the definitions' reference and room, and what the check of a reference answers and leaves.
-use Prim.Native.Nat.{ℕ, zero, suc, _<_}
+use Prim.Native.Nat.{ℕ, zero, suc, _+_, _<_, max}
 use mathlib.Core.Path.{_≡_}
 use mathlib.Core.List.{List, []}
 use mathlib.Core.Bool.{Bool, true, _&&_}
@@ -12,7 +12,6 @@ use Rattle.rules.specs.Bytes.{byte, if_then_else_, all, count, firstOf}
 use Rattle.rules.specs.Translation.{exceptionList, isResidue}
 use Rattle.rules.specs.Reference.{Reference, codons, fitExceptions, referenceProtein, endsInStop, referenceTests}
 use Rattle.rules.specs.Refusal.{referenceRefusal, Room}
-use Rattle.rules.proofs.Altered.{longestAltered}
 use Rattle.codons.specs.Tables.{isBase}
 use Rattle.edits.specs.declared.Cds.{Cds}
 use Rattle.edits.specs.Views.{Sound}
@@ -38,12 +37,13 @@ isException last most x = ltb last (x .codon) && leb (x .codon) most && isResidu
 unfoldable pub earlyRefusal : ℕ → Reference → ℕ
 earlyRefusal longest r = firstOf (take 5 (referenceTests longest r))
 
--- what is written of R where a reference is checked: all of it, unless 1 to 5 applies
+-- what the check writes: R, unless one of 1 to 5 applies
 unfoldable pub proteinUnless : ℕ → Reference → List ℕ
 proteinUnless zero r = referenceProtein r
 proteinUnless (suc n) r = []
 
--- what is known of a reference that isn't refused
+-- what is known of a reference that isn't refused: its CDS, how many residues R has, whether each letter is one base, and whether R has more
+-- than one stop
 unfoldable pub knownOf : List ℕ → Cds → Exceptions → Known
 knownOf s c e =
     record {
@@ -70,9 +70,9 @@ pub record Readable (s : List ℕ) (c : Cds) (e : Exceptions) : Type 0 where
 unfoldable pub checkedOf : ℕ → List ℕ → Cds → Exceptions → Checked
 checkedOf longest s c e = checkedBy (referenceRefusal longest (referenceOf s c e)) (knownOf s c e)
 
--- a checked reference: its letters, its exceptions and R, lent beside what is known of it; and limits under which sums of lengths fit
+-- a checked reference: its letters, its exceptions and R, lent beside what is known of it; the limits keep every altered length small
 pub record Knows (m : Limits) (s : List ℕ) (k : Known) (e : Exceptions) (protein : List ℕ) : Type 0 where
   pub accepted : referenceRefusal (m .longest) (referenceOf s (k .cds) e) ≡ 0
   pub is : k ≡ knownOf s (k .cds) e
   pub read : protein ≡ referenceProtein (referenceOf s (k .cds) e)
-  pub small : longestAltered m < 4294967296
+  pub small : m .longest + max (m .most) (m .longest) < 4294967296

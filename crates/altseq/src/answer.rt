@@ -166,11 +166,11 @@ pub fn build_altseq(
         r (now (tx .entry)) (now (tx .exit)) (now (rp .entry)) (now (rp .exit)) (now (ap .entry)) (now (ap .exit)) ⌝ }
 {
     let c = Cds { cs, ce, table };
-    let most = Limits {
+    let limits = Limits {
         longest: 16384,
         most: 4096,
     };
-    let refused = early_refusal(letters, c, e, 16384);
+    let refused = early_refusal(letters, c, e, limits.longest);
     if refused != 0 {
         return Answer::Refused(refused);
     }
@@ -188,7 +188,7 @@ pub fn build_altseq(
                 known,
                 e,
                 &protein[..residues],
-                most,
+                limits,
                 edit,
                 new,
                 &sets,

@@ -3,26 +3,27 @@ use codons::letters::plain_sets;
 use codons::tables::plain_code;
 use codons::tables::residues_of;
 use edits::Cds;
-use edits::refusals::all_strict;
+use edits::positions::least;
 use rules::Exception;
 use rules::Exceptions;
 use sequences::all_bases;
+use sequences::all_strict;
 use sequences::write_translated;
 ghost use mathlib.Core.Path.{_≡_};
 ghost use mathlib.Core.Bool.{_&&_};
 ghost use mathlib.Core.List.{[], _∷_};
-ghost use Prim.Native.Nat.{_≤_, _<_, min};
+ghost use Prim.Native.Nat.{_≤_, _<_};
 ghost use lib.Dec.{leb, ltb};
 ghost use lib.ListN.{length};
 ghost use Rattle.rules.specs.Bytes.{byte, count, over};
 ghost use Rattle.rules.specs.Translation.{exceptionList, residueCount};
 ghost use Rattle.rules.specs.Reference.{areBounds, codons, areRising, referenceProtein};
 ghost use Rattle.codons.specs.Tables.{plainSet, HoldsSets, HoldsCode, HoldsPlain};
-ghost use Rattle.edits.specs.Views.{bare, Sound};
-ghost use Rattle.altseq.specs.Known.{cdsOf, referenceOf, isException, earlyRefusal, proteinUnless, knownOf, readOf, checkedOf, Readable};
+ghost use Rattle.edits.specs.Views.{bare};
+ghost use Rattle.altseq.specs.Known.{cdsOf, referenceOf, isException, earlyRefusal, proteinUnless, readOf, checkedOf, Readable};
 
-// What is known of a reference that isn't refused; its letters, its exceptions and R are lent beside it. R has so many residues, and several
-// stops or one; the letters are plain if each is one base.
+// What is known of a reference that isn't refused; its letters, its exceptions and R are lent beside it. `residues` is R's length. The letters
+// are plain if each is one base. `several` is whether R has more than one stop.
 pub struct Known {
     pub cds: Cds,
     pub residues: usize,
@@ -96,12 +97,6 @@ pub fn early_refusal(letters: &[u8], c: Cds, e: Exceptions, longest: usize) -> u
         return 5;
     }
     0
-}
-
-fn least(a: usize, b: usize) -> usize
-    ensures { λ r. ⌜ r ≡ min a b ⌝ }
-{
-    if a < b { a } else { b }
 }
 
 fn wide(b: u8) -> usize
