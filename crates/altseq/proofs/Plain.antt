@@ -1,18 +1,14 @@
--- Letters of transcripts in plain translation, which takes them for themselves; and a transcript of bases stays one where bases go in.
+-- A transcript of bases stays one where bases go in.
 -- Assumes nothing.
-use mathlib.Core.Path.{_≡_, refl, sym, ap, ap₂, _∙_}
+use mathlib.Core.Path.{_≡_, refl, ap, _∙_}
 use mathlib.Core.Bool.{Bool, true, false, _&&_, _||_, not}
 use mathlib.Core.List.{List, [], _∷_, _++_, map}
-use Prim.Native.Nat.{ℕ, _-_, _%_}
-use lib.Dec.{eqb}
+use Prim.Native.Nat.{ℕ, _-_}
 use lib.ListN.{length, take, drop}
-use borrow.Author.Tests.{eqb-true}
-use Rattle.rules.specs.declared.Exception.{Exception}
 use Rattle.rules.specs.declared.Kind.{Kind}
 use Rattle.rules.specs.declared.Kind.the-variants.{Substitution, Deletion, Delins, Insertion, Duplication, Inversion, Identity, Other}
 use Rattle.rules.specs.Bytes.{all}
 use Rattle.rules.specs.Letters.{letterSet, isLetter, upper, plainLetter}
-use Rattle.rules.specs.Translation.{translated, wholeCodons, areLetters, plainTranslated}
 use Rattle.rules.specs.Complement.{partnerIn, complement, reverseComplement}
 use Rattle.rules.specs.Reference.{Reference}
 use Rattle.rules.specs.Edit.{Asked, kindOf, startIndex, endIndex}
@@ -21,33 +17,6 @@ use Rattle.rules.proofs.Tests.{and-left, and-right, and-both, all-take, all-dro
 use Rattle.rules.proofs.Complement.{of-letters}
 use Rattle.rules.proofs.Altered.{kept-is}
 use Rattle.codons.specs.Tables.{isBase}
-use Rattle.sequences.specs.Residues.{areBases}
-
-same-letter : (b : ℕ) → isLetter b ≡ true → plainLetter b ≡ b
-unfolding all upper plainLetter
-same-letter b h = eqb-true (plainLetter b) b (of-letters (λ x. eqb (plainLetter x) x) b refl h)
-
-same-letters : (s : List ℕ) → all isLetter s ≡ true → map plainLetter s ≡ s
-unfolding all
-same-letters [] h = refl
-same-letters (x ∷ s) h =
-    ap₂ _∷_ (same-letter x (and-left (isLetter x) (all isLetter s) h)) (same-letters s (and-right (isLetter x) (all isLetter s) h))
-
-module _ (s : List ℕ) (letters : all isLetter s ≡ true) where
-  pub plainly-letters : areLetters s ≡ true
-  unfolding areLetters wholeCodons
-  plainly-letters =
-      let n = length s - length s % 3 in
-      let whole = all-take isLetter n s letters in
-      rw (same-letters (take n s) whole) whole
-
-  pub plainly-translated : (t : ℕ) (es : List Exception) → plainTranslated t es s ≡ translated t es s
-  unfolding plainTranslated
-  plainly-translated t es = ap (translated t es) (same-letters s letters)
-
-pub plainly-bases : (s : List ℕ) → all isBase s ≡ true → areBases s ≡ true
-unfolding areBases wholeCodons
-plainly-bases s h = all-take isBase (length s - length s % 3) s h
 
 -- A, C, G and T
 abbrev isPlain : ℕ → Bool

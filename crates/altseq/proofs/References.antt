@@ -31,7 +31,7 @@ use Rattle.altseq.specs.declared.reference.Known.{Known}
 use Rattle.altseq.specs.declared.reference.Checked.{Checked}
 use Rattle.altseq.specs.declared.reference.Checked.the-variants as checked
 use Rattle.sequences.specs.Residues.{areBases}
-use Rattle.altseq.proofs.Plain.{plainly-letters, plainly-translated, plainly-bases}
+use Rattle.sequences.proofs.Strict.{strict-letters, strict-translated, whole-bases}
 use Rattle.altseq.specs.Known.{referenceOf, isException, earlyRefusal, proteinUnless, knownOf, checkedBy, readOf, checkedOf, Readable, Knows}
 
 -- one test by the other
@@ -344,11 +344,11 @@ module _ (s : List ℕ) (c : Cds) (e : Exceptions) (x : Readable s c e) where
   part-letters = all-take isLetter (c .ce - (c .cs - 1)) (drop (c .cs - 1) s) (all-drop isLetter (c .cs - 1) s (x .sound .letters))
 
   pub part-readable : areLetters (take (c .ce - (c .cs - 1)) (drop (c .cs - 1) s)) ≡ true
-  part-readable = plainly-letters (take (c .ce - (c .cs - 1)) (drop (c .cs - 1) s)) part-letters
+  part-readable = strict-letters (take (c .ce - (c .cs - 1)) (drop (c .cs - 1) s)) part-letters
 
   pub part-plain : (plain : Bool) → plain ≡ all isBase s → plain ≡ true → areBases (take (c .ce - (c .cs - 1)) (drop (c .cs - 1) s)) ≡ true
   part-plain plain is h =
-      plainly-bases (take (c .ce - (c .cs - 1)) (drop (c .cs - 1) s))
+      whole-bases (take (c .ce - (c .cs - 1)) (drop (c .cs - 1) s))
       (all-take isBase (c .ce - (c .cs - 1)) (drop (c .cs - 1) s) (all-drop isBase (c .cs - 1) s (sym is ∙ h)))
 
   pub part-room : (room : ℕ) → codons (bare s c) ≤ room → residueCount (length (take (c .ce - (c .cs - 1)) (drop (c .cs - 1) s))) ≤ room
@@ -361,7 +361,7 @@ module _ (s : List ℕ) (c : Cds) (e : Exceptions) (x : Readable s c e) where
   module _ (old out : List ℕ) (written : out ≡ over (plainTranslated (c .table) (exceptionList e) (take (c .ce - (c .cs - 1)) (drop (c .cs - 1) s))) old) where
     pub holds-protein : out ≡ over (referenceProtein (referenceOf s c e)) old
     unfolding referenceProtein
-    holds-protein = written ∙ rw (plainly-translated (take (c .ce - (c .cs - 1)) (drop (c .cs - 1) s)) part-letters (c .table) (exceptionList e), cds-part)
+    holds-protein = written ∙ rw (strict-translated (take (c .ce - (c .cs - 1)) (drop (c .cs - 1) s)) part-letters (c .table) (exceptionList e), cds-part)
 
     pub residues-fit : codons (bare s c) ≤ length old → (c .ce - (c .cs - 1)) / 3 ≤ length out
     unfolding codons cdsSize

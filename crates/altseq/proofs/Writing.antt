@@ -44,7 +44,8 @@ use Rattle.altseq.proofs.Transcripts.{fits-of, carried-by-is}
 use Rattle.edits.specs.declared.swaps.Plan.{Plan}
 use Rattle.altseq.specs.Decisions.{Clear}
 use Rattle.edits.proofs.Numbers.{silent-is}
-use Rattle.altseq.proofs.Plain.{plainly-letters, plainly-translated, plainly-bases, bases-stay}
+use Rattle.sequences.proofs.Strict.{strict-letters, strict-translated, whole-bases}
+use Rattle.altseq.proofs.Plain.{bases-stay}
 
 module _ (r : Reference) (a : Asked) (room : Room) (x : Clear r a room) where
   accepts : Accepted (x .limits .longest) r
@@ -103,14 +104,14 @@ module _ (r : Reference) (a : Asked) (room : Room) (x : Clear r a room) where
       coding-letters = rw coding-back (all-drop isLetter (r .cs - 1) (alteredTranscript r a) (altered-letters (x .limits) r a (x .allowed)))
 
       pub coding-readable : areLetters (take (n - (r .cs - 1)) (drop (r .cs - 1) tx′)) ≡ true
-      coding-readable = plainly-letters (take (n - (r .cs - 1)) (drop (r .cs - 1) tx′)) coding-letters
+      coding-readable = strict-letters (take (n - (r .cs - 1)) (drop (r .cs - 1) tx′)) coding-letters
 
       pub coding-bases : (plain bases : Bool) → plain ≡ all isBase (r .letters) → bases ≡ all isBase (a .new) → (plain && bases) ≡ true
           → areBases (take (n - (r .cs - 1)) (drop (r .cs - 1) tx′)) ≡ true
       coding-bases plain bases p b h =
           let new = fitting (x .limits .most) (kindOf a) (a .new) (edit-allowed (x .limits) r a (x .allowed) .bases) in
           let stay = bases-stay r a (accepts .letters) (new .letters) (sym p ∙ and-left plain bases h) (sym b ∙ and-right plain bases h) in
-          plainly-bases (take (n - (r .cs - 1)) (drop (r .cs - 1) tx′)) (rw coding-back (all-drop isBase (r .cs - 1) (alteredTranscript r a) stay))
+          whole-bases (take (n - (r .cs - 1)) (drop (r .cs - 1) tx′)) (rw coding-back (all-drop isBase (r .cs - 1) (alteredTranscript r a) stay))
 
       pub coding-room : residueCount (length (take (n - (r .cs - 1)) (drop (r .cs - 1) tx′))) ≤ room .altered
       unfolding residueCount
@@ -122,7 +123,7 @@ module _ (r : Reference) (a : Asked) (room : Room) (x : Clear r a room) where
         unfolding alteredProtein proteinOf
         protein-is =
             let is = moved-is r (alteredTranscript r a) (r .cs - 1) (r .exceptions) es refl refl (rw transcript-back at moved) in
-            rw (plainly-translated (take (n - (r .cs - 1)) (drop (r .cs - 1) tx′)) coding-letters (r .table) es, coding-back, is)
+            rw (strict-translated (take (n - (r .cs - 1)) (drop (r .cs - 1) tx′)) coding-letters (r .table) es, coding-back, is)
 
         module _ (k : ℕ) (alt alt′ : List ℕ)
             (read : k ≡ length (throughStop (plainTranslated (r .table) es (take (n - (r .cs - 1)) (drop (r .cs - 1) tx′)))))

@@ -3,7 +3,6 @@
 pub mod answer;
 pub mod decision;
 pub mod reference;
-mod stub;
 mod transcript;
 
 pub use answer::build_altseq;
