@@ -5,7 +5,7 @@ use mathlib.Core.List.{List, [], _∷_, _++_, reverse, append-assoc, append-nil}
 use Prim.Native.Nat.{ℕ, suc, _+_, _-_, _≤_, _<_}
 use native.Mathlib.Numerals.{add-one}
 use native.Mathlib.Omega.{arith}
-use lib.ListN.{length, take, drop, set, length-append, length-take, length-drop, take-append-drop, drop-of-length-le}
+use lib.ListN.{length, take, drop, getD, set, length-append, length-take, length-drop, take-append-drop, List·getD-append, drop-of-length-le}
 use lib.Seq.{length-take-le, take-length, drop-length, take-all, take-at, drop-at, drop-drop, take-append-seam, drop-append-seam, take-append-le, drop-append-le, take-suc-set, drop-set-lt}
 use borrow.Rule.Slice.PartMut.{putMid}
 use Rattle.rules.specs.Bytes.{over}
@@ -17,6 +17,26 @@ copied s d = rw take-length
 pub length-over : (p d : List ℕ) → length p ≤ length d → length (over p d) ≡ length d
 unfolding over
 length-over p d h = simp (length-append, length-drop) (omega arith)
+
+-- a buffer is no shorter than what is written there
+pub fits-over : (p d d′ : List ℕ) (n : ℕ) → n ≡ length p → d′ ≡ over p d → n ≤ length d′
+unfolding over
+fits-over p d d′ n e q = rw (q, length-append) (omega arith)
+
+-- what is written is read back: all of it, all behind its first bytes, or one byte
+pub read-back : (p d d′ : List ℕ) (n : ℕ) → n ≡ length p → d′ ≡ over p d → take n d′ ≡ p
+unfolding over
+read-back p d d′ n e q = rw q (take-at p (drop (length p) d) n (sym e))
+
+pub read-behind : (p d d′ : List ℕ) (n first : ℕ) → n ≡ length p → first ≤ n → d′ ≡ over p d → take (n - first) (drop first d′) ≡ drop first p
+unfolding over
+read-behind p d d′ n first e h q =
+    rw (q, drop-append-le first p (drop (length p) d) (omega arith))
+    (take-at (drop first p) (drop (length p) d) (n - first) (length-drop first p ∙ omega arith))
+
+pub read-at : (p d d′ : List ℕ) (i : ℕ) → i < length p → d′ ≡ over p d → getD d′ i 0 ≡ getD p i 0
+unfolding over
+read-at p d d′ i h q = rw q (List·getD-append p (drop (length p) d) 0 i h)
 
 pub over-append : (p q d : List ℕ) → over (p ++ q) d ≡ p ++ over q (drop (length p) d)
 unfolding over

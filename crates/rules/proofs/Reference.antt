@@ -38,7 +38,7 @@ pub record Accepted (longest : ℕ) (r : Reference) : Type 0 where
   pub exceptions : areRising 0 (codons r) (r .exceptions) ≡ true
   pub stop : getD (referenceProtein r) (codons r - 1) 0 ≡ byte "*"
 
-bounds-of : (r : Reference) → areBounds r ≡ true → Bounds r
+pub bounds-of : (r : Reference) → areBounds r ≡ true → Bounds r
 unfolding areBounds
 bounds-of r h =
     let first = leb 1 (r .cs) in
