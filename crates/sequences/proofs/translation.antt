@@ -3,4 +3,6 @@ pub mod Blocks
 pub mod Residues
 pub mod Places
 pub mod Excepted
+pub mod Stops
+pub mod Strict
 pub mod Answers

@@ -1,11 +1,12 @@
 -- Codons by index, exceptions put over residues, plain codons by the numbers of their letters, and what a walk to the first stop leaves.
 use Prim.Native.Nat.{ℕ, zero, suc, _+_, _*_, _/_, _%_, _<_, _≤_}
 use mathlib.Core.Path.{_≡_}
-use mathlib.Core.Bool.{Bool}
+use mathlib.Core.Bool.{Bool, _&&_}
 use mathlib.Core.List.{List, [], _∷_}
+use lib.Dec.{leb, ltb}
 use lib.ListN.{length, getD}
 use Rattle.rules.specs.declared.Exception.{Exception}
-use Rattle.rules.specs.Bytes.{all, over}
+use Rattle.rules.specs.Bytes.{if_then_else_, all, over}
 use Rattle.rules.specs.Codons.{codon}
 use Rattle.rules.specs.Translation.{excepted, wholeCodons}
 use Rattle.rules.proofs.Over.{overFrom}
@@ -20,6 +21,15 @@ codonAt t s i = codon t (getD s (i * 3) 0) (getD s (i * 3 + 1) 0) (getD s (i * 3
 unfoldable pub exceptedFrom : List Exception → ℕ → List ℕ → List ℕ
 exceptedFrom es n [] = []
 exceptedFrom es n (r ∷ rs) = excepted es n r ∷ exceptedFrom es (suc n) rs
+
+-- the number of an exception's codon, where it is from n on and below the nearest so far
+unfoldable pub nearer : Exception → ℕ → ℕ → ℕ
+nearer x n next = if leb n (x .codon) && ltb (x .codon) next then x .codon else next
+
+-- the least number from n on, and below `past`, of a codon with an exception; with none, `past`
+unfoldable pub nextFrom : List Exception → ℕ → ℕ → ℕ
+nextFrom [] n past = past
+nextFrom (x ∷ es) n past = nextFrom es n (nearer x n past)
 
 -- the number of a base's letter: A 0, C 1, T and U 2, G 3
 abbrev pub numberOf : ℕ → ℕ

@@ -17,10 +17,10 @@ ghost use Prim.Native.Nat.{_+_, _*_, _/_, _%_, _<_, _≤_, min};
 ghost use lib.ListN.{length, take, drop};
 ghost use Rattle.rules.specs.Bytes.{all, over};
 ghost use Rattle.rules.specs.Letters.{isLetter, plainLetter};
-ghost use Rattle.rules.specs.Translation.{exceptionList, isResidue, areExceptions, residueCount, areLetters, plainTranslated, translation};
+ghost use Rattle.rules.specs.Translation.{exceptionList, excepted, residueCount, beforeStop, throughStop, isResidue, areExceptions, wholeCodons, areLetters, plainTranslated, translation};
 ghost use Rattle.rules.specs.Answer.{writtenOf, bytesOf};
 ghost use Rattle.codons.specs.Tables.{HoldsCode, HoldsPlain, HoldsSets, plainSet, isBase};
-ghost use Rattle.sequences.specs.Residues.{codonAt, exceptedFrom, placeAt, areBases, fourAt};
+ghost use Rattle.sequences.specs.Residues.{codonAt, exceptedFrom, nearer, nextFrom, placeAt, areBases, fourAt, WalkedTo};
 
 // Whether each byte is a letter of plain translation.
 fn all_letters(s: &[u8]) -> bool
@@ -306,4 +306,210 @@ pub fn translate(seq: &[u8], table: usize, e: Exceptions, full: bool, out: &mut 
         return Written::Bytes(n);
     }
     Written::Refused(2)
+}
+
+fn excepted_by(x: Exception, n: usize, r: u8) -> u8
+    ensures { λ y. ⌜ y ≡ excepted (x ∷ []) n r ⌝ }
+{
+    if x.codon == n {
+        return x.residue;
+    }
+    r
+}
+
+// The residue of codon n: r, unless an exception replaces it, the last one counting.
+fn excepted_at(e: Exceptions, n: usize, r: u8) -> u8
+    requires { ⌜ e .count ≤ 16 ⌝ }
+    ensures { λ y. ⌜ y ≡ excepted (exceptionList e) n r ⌝ }
+{
+    let count = e.count;
+    let mut y = r;
+    let mut k = 0;
+    while k < count {
+        let x = e.all[k];
+        y = excepted_by(x, n, y);
+        k += 1;
+    }
+    y
+}
+
+fn nearer_by(x: Exception, n: usize, next: usize) -> usize
+    ensures { λ r. ⌜ r ≡ nearer x n next ⌝ }
+{
+    if (n <= x.codon) & (x.codon < next) {
+        return x.codon;
+    }
+    next
+}
+
+// The least number from n on, and below `past`, of a codon with an exception; with none, `past`.
+fn next_exception(e: Exceptions, n: usize, past: usize) -> usize
+    requires { ⌜ e .count ≤ 16 ⌝ }
+    ensures { λ r. ⌜ r ≡ nextFrom (exceptionList e) n past ⌝ }
+{
+    let count = e.count;
+    let mut next = past;
+    let mut k = 0;
+    while k < count {
+        let x = e.all[k];
+        next = nearer_by(x, n, next);
+        k += 1;
+    }
+    next
+}
+
+// The index of the first codon that reads `*`, exceptions applied, or the number of whole codons.
+pub fn first_stop(
+    seq: &[u8],
+    table: usize,
+    sets: &[u8; 256],
+    lut: &[u8; 4096],
+    e: Exceptions,
+) -> usize
+    requires { ⌜ HoldsSets plainSet (now sets) ⌝ }
+    requires { ⌜ HoldsCode table (now lut) ⌝ }
+    requires { ⌜ areLetters (now seq) ≡ true ⌝ }
+    requires { ⌜ e .count ≤ 16 ⌝ }
+    ensures { λ r. ⌜ r ≡ beforeStop (plainTranslated table (exceptionList e) (wholeCodons (now (seq .entry)))) ⌝ }
+{
+    let whole = seq.len() / 3;
+    let mut next = next_exception(e, 1, whole + 1);
+    let mut i = 0;
+    let stop = loop {
+        if whole <= i {
+            break whole;
+        }
+        let mut r = codon_at(seq, table, sets, lut, i);
+        if i + 1 == next {
+            r = excepted_at(e, next, r);
+            next = next_exception(e, next + 1, whole + 1);
+        }
+        if r == b'*' {
+            break i;
+        }
+        i += 1;
+    };
+    stop
+}
+
+// Writes the residues of any letters, exceptions applied, to the buffer's start, through the first `*`, and answers its codon's index, or the
+// number of whole codons.
+fn write_to_stop(
+    seq: &[u8],
+    table: usize,
+    sets: &[u8; 256],
+    lut: &[u8; 4096],
+    e: Exceptions,
+    out: &mut [u8],
+) -> usize
+    requires { ⌜ HoldsSets plainSet (now sets) ⌝ }
+    requires { ⌜ HoldsCode table (now lut) ⌝ }
+    requires { ⌜ areLetters (now seq) ≡ true ⌝ }
+    requires { ⌜ e .count ≤ 16 ⌝ }
+    requires { ⌜ residueCount (length (now seq)) ≤ length (now out) ⌝ }
+    ensures { λ r. ⌜ WalkedTo (throughStop (plainTranslated table (exceptionList e) (now (seq .entry)))) (length (now (seq .entry))) (now (out .entry)) (now (out .exit)) r ⌝ }
+{
+    let whole = seq.len() / 3;
+    let mut next = next_exception(e, 1, whole + 1);
+    let mut i = 0;
+    let stop = loop {
+        if whole <= i {
+            break whole;
+        }
+        let mut r = codon_at(seq, table, sets, lut, i);
+        if i + 1 == next {
+            r = excepted_at(e, next, r);
+            next = next_exception(e, next + 1, whole + 1);
+        }
+        out[i] = r;
+        if r == b'*' {
+            break i;
+        }
+        i += 1;
+    };
+    stop
+}
+
+// The same of bases without exceptions.
+fn write_plain_to_stop(seq: &[u8], table: usize, code: &[u8; 64], out: &mut [u8]) -> usize
+    requires { ⌜ HoldsPlain table (now code) ⌝ }
+    requires { ⌜ areBases (now seq) ≡ true ⌝ }
+    requires { ⌜ residueCount (length (now seq)) ≤ length (now out) ⌝ }
+    ensures { λ r. ⌜ WalkedTo (throughStop (plainTranslated table [] (now (seq .entry)))) (length (now (seq .entry))) (now (out .entry)) (now (out .exit)) r ⌝ }
+{
+    let whole = seq.len() / 3;
+    let mut i = 0;
+    let stop = loop {
+        if whole <= i {
+            break whole;
+        }
+        let place = place_at(seq, i);
+        let r = code[place];
+        out[i] = r;
+        if r == b'*' {
+            break i;
+        }
+        i += 1;
+    };
+    stop
+}
+
+// The walk to the first stop, the faster way where all letters are bases and there are no exceptions.
+fn write_walk(
+    seq: &[u8],
+    table: usize,
+    plain: bool,
+    sets: &[u8; 256],
+    lut: &[u8; 4096],
+    code: &[u8; 64],
+    e: Exceptions,
+    out: &mut [u8],
+) -> usize
+    requires { ⌜ HoldsSets plainSet (now sets) ⌝ }
+    requires { ⌜ HoldsCode table (now lut) ⌝ }
+    requires { ⌜ HoldsPlain table (now code) ⌝ }
+    requires { ⌜ areLetters (now seq) ≡ true ⌝ }
+    requires { ⌜ (plain ≡ true → areBases (now seq) ≡ true) ⌝ }
+    requires { ⌜ e .count ≤ 16 ⌝ }
+    requires { ⌜ residueCount (length (now seq)) ≤ length (now out) ⌝ }
+    ensures { λ r. ⌜ WalkedTo (throughStop (plainTranslated table (exceptionList e) (now (seq .entry)))) (length (now (seq .entry))) (now (out .entry)) (now (out .exit)) r ⌝ }
+{
+    if plain & (e.count == 0) {
+        return write_plain_to_stop(seq, table, code, out);
+    }
+    write_to_stop(seq, table, sets, lut, e, out)
+}
+
+// Writes the residues of letters that were looked at, exceptions applied, to the buffer's start: through the first `*`; with none, to the end,
+// X for a rest. Answers how many they are.
+pub fn write_through_stop(
+    seq: &[u8],
+    table: usize,
+    plain: bool,
+    sets: &[u8; 256],
+    lut: &[u8; 4096],
+    code: &[u8; 64],
+    e: Exceptions,
+    out: &mut [u8],
+) -> usize
+    requires { ⌜ HoldsSets plainSet (now sets) ⌝ }
+    requires { ⌜ HoldsCode table (now lut) ⌝ }
+    requires { ⌜ HoldsPlain table (now code) ⌝ }
+    requires { ⌜ areLetters (now seq) ≡ true ⌝ }
+    requires { ⌜ (plain ≡ true → areBases (now seq) ≡ true) ⌝ }
+    requires { ⌜ e .count ≤ 16 ⌝ }
+    requires { ⌜ residueCount (length (now seq)) ≤ length (now out) ⌝ }
+    ensures { λ r. ⌜ r ≡ length (throughStop (plainTranslated table (exceptionList e) (now (seq .entry)))) ⌝ }
+    ensures written { λ _. ⌜ now (out .exit) ≡ over (throughStop (plainTranslated table (exceptionList e) (now (seq .entry)))) (now (out .entry)) ⌝ }
+{
+    let stop = write_walk(seq, table, plain, sets, lut, code, e, out);
+    let whole = seq.len() / 3;
+    if stop < whole {
+        return stop + 1;
+    }
+    if seq.len() % 3 != 0 {
+        out[whole] = b'X';
+        return whole + 1;
+    }
+    whole
 }

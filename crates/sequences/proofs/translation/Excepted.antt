@@ -6,10 +6,10 @@ use Prim.Native.Nat.{ℕ, zero, suc, _+_, _-_, _*_, _/_, _%_, _≤_, _<_}
 use native.Mathlib.Numerals.{add-one}
 use native.Mathlib.Nat.{zero-add}
 use native.Mathlib.Omega.{arith}
-use lib.Dec.{eqb, leb}
+use lib.Dec.{leb, ltb}
 use lib.ListN.{length, getD, take, drop, set, length-append, length-map, take-append-drop}
 use lib.Seq.{take-suc, take-at, drop-at, take-append-le, drop-append-le, set-append-left, length-take-le, take-take}
-use borrow.Author.Tests.{eq-eqb, ne-eqb, le-leb, lt-leb, leb-true, leb-false}
+use borrow.Author.Tests.{eq-eqb, ne-eqb, le-leb, lt-leb, leb-true, leb-false, ltb-true, ltb-false}
 use Rattle.rules.specs.declared.Exception.{Exception}
 use Rattle.rules.specs.declared.Exceptions.{Exceptions}
 use Rattle.rules.specs.Bytes.{if_then_else_, all, over}
@@ -17,9 +17,9 @@ use Rattle.rules.specs.Letters.{plainLetter}
 use Rattle.rules.specs.Codons.{codon}
 use Rattle.rules.specs.Translation.{exceptionList, excepted, residuesFrom, translated, residueCount, isResidue, areExceptions, wholeCodons, plainTranslated}
 use Rattle.rules.proofs.Lists.{all-append}
-use Rattle.rules.proofs.Translation.{first-exceptions, length-translated, length-exceptions}
+use Rattle.rules.proofs.Translation.{first-exceptions, length-exceptions, length-translated}
 use Rattle.rules.proofs.Reading.{restOf, excepted-append, length-whole, whole-and-rest}
-use Rattle.sequences.specs.Residues.{exceptedFrom}
+use Rattle.sequences.specs.Residues.{exceptedFrom, nearer, nextFrom}
 
 abbrev pub canBe : Exception → Bool
 canBe x = leb 1 (x .codon) && isResidue (x .residue)
@@ -177,3 +177,79 @@ excepted-over t es s out =
 pub all-put : (e : Exceptions) (whole k : ℕ) (out old : List ℕ) → length (e .all) ≡ 16 → e .count ≤ 16 → k ≡ e .count → out ≡ exceptedFrom (take k (e .all)) 1 (take whole old) ++ drop whole old
     → out ≡ exceptedFrom (exceptionList e) 1 (take whole old) ++ drop whole old
 all-put e whole k out old long h is put = put ∙ rw (is, first-exceptions e long h)
+
+-- one exception more is looked at
+pub excepted-more : (s : List Exception) (k n r y y′ : ℕ) (d : Exception) → k < length s → y ≡ excepted (take k s) n r → y′ ≡ excepted (getD s k d ∷ []) n y → y′ ≡ excepted (take (k + 1) s) n r
+excepted-more s k n r y y′ d h e e′ =
+    e′ ∙ rw (e, add-one, take-suc s k d h) (sym (excepted-append (take k s) (getD s k d ∷ []) n r))
+
+next-append : (xs ys : List Exception) (n past : ℕ) → nextFrom (xs ++ ys) n past ≡ nextFrom ys n (nextFrom xs n past)
+unfolding nextFrom
+next-append [] ys n past = refl
+next-append (x ∷ xs) ys n past = next-append xs ys n (nearer x n past)
+
+pub next-more : (s : List Exception) (k n past y y′ : ℕ) (d : Exception) → k < length s → y ≡ nextFrom (take k s) n past → y′ ≡ nearer (getD s k d) n y → y′ ≡ nextFrom (take (k + 1) s) n past
+unfolding nextFrom
+next-more s k n past y y′ d h e e′ =
+    e′ ∙ rw (e, add-one, take-suc s k d h) (sym (next-append (take k s) (getD s k d ∷ []) n past))
+
+-- the nearest is from n on, and at most what it was
+nearer-from : (x : Exception) (n next : ℕ) → n ≤ next → n ≤ nearer x n next
+unfolding nearer
+nearer-from x n next h = at (leb n (x .codon)) (ltb (x .codon) next) refl
+  where
+    at : (a b : Bool) → leb n (x .codon) ≡ a → n ≤ (if a && b then x .codon else next)
+    at true true e = leb-true n (x .codon) e
+    at true false e = h
+    at false b e = h
+
+nearer-le : (x : Exception) (n next : ℕ) → nearer x n next ≤ next
+unfolding nearer
+nearer-le x n next = at (leb n (x .codon)) (ltb (x .codon) next) refl
+  where
+    at : (a b : Bool) → ltb (x .codon) next ≡ b → (if a && b then x .codon else next) ≤ next
+    at true true e = omega (arith, ltb-true (x .codon) next e)
+    at true false e = omega arith
+    at false b e = omega arith
+
+-- no exception stands between n and the nearest
+nearer-not : (x : Exception) (n next m : ℕ) → n ≤ m → m < nearer x n next → x .codon ≡ m → ⊥
+unfolding nearer
+nearer-not x n next m h l e = at (leb n (x .codon)) (ltb (x .codon) next) refl refl l
+  where
+    at : (a b : Bool) → leb n (x .codon) ≡ a → ltb (x .codon) next ≡ b → m < (if a && b then x .codon else next) → ⊥
+    at true true p q k = omega arith
+    at true false p q k = omega (arith, ltb-false (x .codon) next q)
+    at false b p q k = omega (arith, leb-false n (x .codon) p)
+
+next-from : (es : List Exception) (n past : ℕ) → n ≤ past → n ≤ nextFrom es n past
+unfolding nextFrom
+next-from [] n past h = h
+next-from (x ∷ es) n past h = next-from es n (nearer x n past) (nearer-from x n past h)
+
+next-le : (es : List Exception) (n past : ℕ) → nextFrom es n past ≤ past
+unfolding nextFrom
+next-le [] n past = omega arith
+next-le (x ∷ es) n past = omega (arith, next-le es n (nearer x n past), nearer-le x n past)
+
+next-not : (es : List Exception) (n past m r : ℕ) → n ≤ m → m < nextFrom es n past → excepted es m r ≡ r
+unfolding excepted nextFrom
+next-not [] n past m r h l = refl
+next-not (x ∷ es) n past m r h l =
+    let none : x .codon ≡ m → ⊥ = nearer-not x n past m h (omega (arith, next-le es n (nearer x n past))) in
+    rw (ne-eqb (x .codon) m none) (next-not es n (nearer x n past) m r h l)
+
+-- `next` is the next codon behind codon i that has an exception, or behind all
+pub record Clear (es : List Exception) (i next : ℕ) : Type 0 where
+  pub ahead : i < next
+  pub none : (m r : ℕ) → i < m → m < next → excepted es m r ≡ r
+
+pub next-clear : (es : List Exception) (i past next : ℕ) → i < past → next ≡ nextFrom es (i + 1) past → Clear es i next
+next-clear es i past next h e =
+    record { ahead = rw e (omega (arith, next-from es (i + 1) past (omega arith))); none = λ m r l k. next-not es (i + 1) past m r (omega arith) (rw e at k) }
+
+-- a codon that isn't the next with an exception
+pub still-clear : (es : List Exception) (i next r : ℕ) → Clear es i next → (i + 1 ≡ next → ⊥) → (r ≡ excepted es (i + 1) r) × Clear es (i + 1) next
+still-clear es i next r c n =
+    let less : i + 1 < next = omega (arith, c .ahead) in
+    (sym (c .none (i + 1) r (omega arith) less), record { ahead = less; none = λ m y l k. c .none m y (omega arith) k })
