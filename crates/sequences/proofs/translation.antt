@@ -4,5 +4,4 @@ pub mod Residues
 pub mod Places
 pub mod Excepted
 pub mod Stops
-pub mod Strict
 pub mod Answers
