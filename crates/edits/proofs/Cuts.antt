@@ -3,22 +3,24 @@
 use mathlib.Core.Path.{_≡_, refl, sym, ap, _∙_}
 use mathlib.Core.Bool.{Bool, true, false}
 use mathlib.Core.List.{List, [], _∷_, _++_}
-use Prim.Native.Nat.{ℕ, zero, suc, _+_, _-_, _*_, _/_, _≤_, _<_, min, suc-le-suc}
-use native.Mathlib.Nat.{le-refl, zero-add}
+use Prim.Native.Nat.{ℕ, zero, suc, _+_, _-_, _*_, _/_, _≤_, _<_, min}
+use native.Mathlib.Nat.{le-refl}
 use native.Mathlib.Omega.{arith}
 use native.Mathlib.Decide.{decLt}
 use borrow.Author.Tests.{lt-ltb, le-ltb, eq-eqb, ne-eqb, ltb-true}
 use lib.Dec.{eqb, ltb}
 use lib.ListN.{length, take, drop, getD, replicate, length-take, length-drop}
-use lib.Seq.{drop-cons}
+use Rattle.rules.specs.declared.Exceptions.{Exceptions}
 use Rattle.rules.specs.Bytes.{byte, if_then_else_, all}
 use Rattle.rules.specs.Letters.{letterSet, isLetter}
 use Rattle.rules.specs.Codons.{residueX, codonRule, codon}
-use Rattle.rules.specs.Translation.{excepted, residuesFrom, translated, residueCount, beforeStop}
+use Rattle.rules.specs.Translation.{exceptionList, excepted, residuesFrom, translated, residueCount, beforeStop, wholeCodons, plainTranslated}
 use Rattle.rules.proofs.Lists.{all-at}
 use Rattle.rules.proofs.Translation.{length-translated}
+use Rattle.rules.proofs.Reading.{stop-found, no-stop}
 use Rattle.codons.specs.Tables.{plainSet}
 use Rattle.codons.proofs.Sets.{letter-plain}
+use Rattle.sequences.proofs.Strict.{strict-whole}
 use Rattle.edits.specs.declared.stops.Cut.{Cut}
 use Rattle.edits.specs.Cuts.{framedBy, cutOf}
 
@@ -38,10 +40,6 @@ renumbered t n m [] = refl
 renumbered t n m (a ∷ []) = refl
 renumbered t n m (a ∷ b ∷ []) = refl
 renumbered t n m (a ∷ b ∷ c ∷ s) = ap (codon t a b c ∷_) (renumbered t (suc n) (suc m) s)
-
-codon-first-of : (t a b c : ℕ) (s : List ℕ) → residuesFrom t [] 1 (a ∷ b ∷ c ∷ s) ≡ codon t a b c ∷ residuesFrom t [] 1 s
-unfolding residuesFrom excepted
-codon-first-of t a b c s = ap (codon t a b c ∷_) (renumbered t 2 1 s)
 
 -- too few bases for a whole codon behind the letters N: X alone
 framed-short : (t frame : ℕ) (put : List ℕ) → 1 ≤ frame → frame + length put < 3 → framedBy t frame put ≡ residueX ∷ []
@@ -153,56 +151,23 @@ module _ (t frame : ℕ) (put : List ℕ) (some : 1 ≤ frame) where
             let alone : cutOf t 0 rest ≡ record { found = false; kept = length rest } = sym (cut-none t 0 rest (omega arith)) in
             rw (alone, length-drop (3 - frame) put, all-of frame (length put) small enough) (cut-none t frame put (omega (arith, later-length, later-before h)))
 
--- a loop for the first stop: what is passed has none, and what is left tells of the whole
-unfoldable pub stopFrom : ℕ → List ℕ → ℕ → ℕ
-stopFrom t s i = beforeStop (residuesFrom t [] 1 (drop (i * 3) s))
-
-module _ (t : ℕ) (s : List ℕ) where
-  pub stop-from : beforeStop (translated t [] s) ≡ 0 + stopFrom t s 0
-  unfolding stopFrom translated
-  stop-from = sym (zero-add (stopFrom t s 0))
-
-  residues-more : (i : ℕ) → i < length s / 3 → residuesFrom t [] 1 (drop (i * 3) s) ≡ codon t (getD s (i * 3) 0) (getD s (i * 3 + 1) 0) (getD s (i * 3 + 2) 0) ∷ residuesFrom t [] 1 (drop ((i + 1) * 3) s)
-  residues-more i h =
-      let next : (i + 1) * 3 ≡ suc (suc (suc (i * 3))) = omega arith in
-      let one : i * 3 + 1 ≡ suc (i * 3) = omega arith in
-      let two : i * 3 + 2 ≡ suc (suc (i * 3)) = omega arith in
-      rw (
-        next,
-        one,
-        two,
-        drop-cons s (i * 3) 0 (omega arith),
-        drop-cons s (suc (i * 3)) 0 (omega arith),
-        drop-cons s (suc (suc (i * 3))) 0 (omega arith),
-      )
-      (codon-first-of t (getD s (i * 3) 0) (getD s (suc (i * 3)) 0) (getD s (suc (suc (i * 3))) 0) (drop (suc (suc (suc (i * 3)))) s))
-
-  pub stop-here : (i : ℕ) → i < length s / 3 → codon t (getD s (i * 3) 0) (getD s (i * 3 + 1) 0) (getD s (i * 3 + 2) 0) ≡ byte "*" → stopFrom t s i ≡ 0
-  unfolding stopFrom beforeStop
-  stop-here i h e = rw (residues-more i h, eq-eqb (codon t (getD s (i * 3) 0) (getD s (i * 3 + 1) 0) (getD s (i * 3 + 2) 0)) (byte "*") e)
-
-  pub stop-later : (i : ℕ) → i < length s / 3 → (codon t (getD s (i * 3) 0) (getD s (i * 3 + 1) 0) (getD s (i * 3 + 2) 0) ≡ byte "*" → ⊥) → stopFrom t s i ≡ suc (stopFrom t s (i + 1))
-  unfolding stopFrom beforeStop
-  stop-later i h e = rw (residues-more i h, ne-eqb (codon t (getD s (i * 3) 0) (getD s (i * 3 + 1) 0) (getD s (i * 3 + 2) 0)) (byte "*") e)
-
--- the X of a rest is no stop
-none-before : (t n : ℕ) (s : List ℕ) → length s / 3 ≤ beforeStop (residuesFrom t [] n s) → length (residuesFrom t [] n s) ≤ beforeStop (residuesFrom t [] n s)
-unfolding residuesFrom excepted beforeStop
-none-before t n [] h = h
-none-before t n (a ∷ []) h = omega arith
-none-before t n (a ∷ b ∷ []) h = omega arith
-none-before t n (a ∷ b ∷ c ∷ s) h = at (eqb (codon t a b c) (byte "*")) h (none-before t (suc n) s)
-  where
-    at : (x : Bool) → length (a ∷ b ∷ c ∷ s) / 3 ≤ (if x then 0 else suc (beforeStop (residuesFrom t [] (suc n) s))) → (length s / 3 ≤ beforeStop (residuesFrom t [] (suc n) s) → length (residuesFrom t [] (suc n) s) ≤ beforeStop (residuesFrom t [] (suc n) s)) → suc (length (residuesFrom t [] (suc n) s)) ≤ (if x then 0 else suc (beforeStop (residuesFrom t [] (suc n) s)))
-    at true h k = absurd (omega arith)
-    at false h k = suc-le-suc (k (omega arith))
+none-listed : (e : Exceptions) → e .count ≡ 0 → exceptionList e ≡ []
+unfolding exceptionList
+none-listed e h = rw h
 
 -- the cut by the index of the first stop or the codon count
-module _ (t : ℕ) (put : List ℕ) (k : ℕ) (e : k ≡ min (beforeStop (translated t [] put)) (length put / 3)) where
+module _ (t : ℕ) (put : List ℕ) (letters : all isLetter put ≡ true) (x : Exceptions) (none : x .count ≡ 0) (k : ℕ) (e : k ≡ beforeStop (plainTranslated t (exceptionList x) (wholeCodons put))) where
+  whole-before : beforeStop (translated t [] (wholeCodons put)) ≡ k
+  whole-before = sym (e ∙ rw (none-listed x none) (ap beforeStop (strict-whole put letters t [])))
+
   pub cut-found-at : k < length put / 3 → _≡_ {A = Cut} record { found = true; kept = (k + 1) * 3 } (cutOf t 0 put)
   unfolding framedBy residueCount
-  cut-found-at h = cut-found t 0 put k ((k + 1) * 3) (omega arith) (omega (arith, length-translated t [] put)) (omega arith)
+  cut-found-at h =
+      cut-found t 0 put k ((k + 1) * 3)
+      (stop-found t [] put (rw whole-before h) ∙ whole-before)
+      (omega (arith, length-translated t [] put))
+      (omega arith)
 
   pub cut-nowhere : length put / 3 ≤ k → _≡_ {A = Cut} record { found = false; kept = length put } (cutOf t 0 put)
-  unfolding framedBy translated
-  cut-nowhere h = cut-none t 0 put (none-before t 1 put (omega arith))
+  unfolding framedBy
+  cut-nowhere h = cut-none t 0 put (omega (arith, no-stop t [] put (rw whole-before h)))

@@ -1,15 +1,15 @@
 // The stop cut: what goes in ends with its first stop codon.
 use codons::letters::plain_set;
 use codons::tables::residue_in;
-ghost use Prim.Native.Nat.{_+_, _*_, _/_, _<_, _≤_, min};
+use rules::Exception;
+use rules::Exceptions;
+use sequences::first_stop;
+ghost use Prim.Native.Nat.{_+_, _<_, _≤_};
 ghost use mathlib.Core.Path.{_≡_};
 ghost use mathlib.Core.Bool.{true};
-ghost use mathlib.Core.List.{[]};
 ghost use lib.ListN.{length, getD};
 ghost use Rattle.rules.specs.Bytes.{all};
 ghost use Rattle.rules.specs.Letters.{isLetter};
-ghost use Rattle.rules.specs.Codons.{codon};
-ghost use Rattle.rules.specs.Translation.{translated, beforeStop};
 ghost use Rattle.codons.specs.Tables.{plainSet, HoldsSets, HoldsCode};
 ghost use Rattle.edits.specs.Cuts.{framedBy, cutOf};
 
@@ -39,39 +39,16 @@ fn framed_codon(put: &[u8], frame: usize, table: usize, sets: &[u8; 256], lut: &
     residue_in(table, lut, ANY, a, b)
 }
 
-// The residue of codon i, counted from 0.
-fn codon_at(put: &[u8], i: usize, table: usize, sets: &[u8; 256], lut: &[u8; 4096]) -> u8
-    requires { ⌜ i < length (now put) / 3 ⌝ }
-    requires { ⌜ all isLetter (now put) ≡ true ⌝ }
-    requires { ⌜ HoldsSets plainSet (now sets) ⌝ }
-    requires { ⌜ HoldsCode table (now lut) ⌝ }
-    ensures { λ r. ⌜ r ≡ codon table (getD (now (put .entry)) (i * 3) 0) (getD (now (put .entry)) (i * 3 + 1) 0) (getD (now (put .entry)) (i * 3 + 2) 0) ⌝ }
+// Exceptions play no part in the cut.
+fn no_exceptions() -> Exceptions
+    ensures { λ r. ⌜ r .count ≡ 0 ⌝ }
 {
-    let a = plain_set(sets, put[i * 3]);
-    let b = plain_set(sets, put[i * 3 + 1]);
-    let c = plain_set(sets, put[i * 3 + 2]);
-    residue_in(table, lut, a, b, c)
-}
-
-// The index of the first stop codon, or the codon count.
-fn first_stop(put: &[u8], table: usize, sets: &[u8; 256], lut: &[u8; 4096]) -> usize
-    requires { ⌜ all isLetter (now put) ≡ true ⌝ }
-    requires { ⌜ HoldsSets plainSet (now sets) ⌝ }
-    requires { ⌜ HoldsCode table (now lut) ⌝ }
-    ensures { λ r. ⌜ r ≡ min (beforeStop (translated table [] (now (put .entry)))) (length (now (put .entry)) / 3) ⌝ }
-{
-    let count = put.len() / 3;
-    let mut i = 0;
-    let stop = loop {
-        if i == count {
-            break count;
-        }
-        if codon_at(put, i, table, sets, lut) == b'*' {
-            break i;
-        }
-        i += 1;
+    let none = Exception {
+        codon: 0,
+        residue: 0,
     };
-    stop
+    let all = [none; 16];
+    Exceptions { all, count: 0 }
 }
 
 // The cut of bases that begin with a codon.
@@ -81,7 +58,7 @@ fn cut_in_frame(put: &[u8], table: usize, sets: &[u8; 256], lut: &[u8; 4096]) ->
     requires { ⌜ HoldsCode table (now lut) ⌝ }
     ensures { λ r. ⌜ r ≡ cutOf table 0 (now (put .entry)) ⌝ }
 {
-    let stop = first_stop(put, table, sets, lut);
+    let stop = first_stop(put, table, sets, lut, no_exceptions());
     if stop < put.len() / 3 {
         return Cut {
             found: true,
