@@ -1,4 +1,5 @@
--- Laws that this crate's proofs cite, and that a promise admits one answer.
+-- Laws that this crate's proofs and the crates above cite.
+pub mod Answers
 pub mod Numbers
 pub mod Positions
 pub mod Verbs

@@ -3,7 +3,7 @@
 use mathlib.Core.Path.{_≡_, refl, sym, ap, _∙_}
 use mathlib.Core.Bool.{Bool, true, false, _&&_, _||_, not}
 use mathlib.Core.List.{List, [], _∷_}
-use mathlib.Core.Option.{Option, none, some}
+use mathlib.Core.Option.{none}
 use Prim.Native.Nat.{ℕ, zero, suc, _+_, _*_, _-_, _^_, _≤_, _<_}
 use native.Mathlib.Numerals.{add-one}
 use native.Mathlib.Omega.{arith}
@@ -13,12 +13,11 @@ use lib.Dec.{eqb, leb}
 use lib.ListN.{length, take, drop, getD, length-drop, drop-of-length-le}
 use lib.Seq.{drop-cons, drop-drop, length-take-le}
 use Rattle.rules.specs.Bytes.{if_then_else_, all}
-use Rattle.rules.specs.Number.{isDigit, digits, value, valueFrom, isNumber, Numbered, numberOf, number}
+use Rattle.rules.specs.Number.{isDigit, digits, value, valueFrom, isNumber, numberOf, number}
 use Rattle.rules.proofs.Over.{tail-is}
 use Rattle.rules.proofs.Tests.{and-left, and-right}
-use Rattle.forms.specs.declared.number.NumberAt.{NumberAt}
-use Rattle.forms.specs.declared.number.NumberAt.the-variants.{Not, Found}
-use Rattle.forms.specs.Views.{numberIn, numberNext}
+use Rattle.forms.specs.declared.number.NumberAt.the-variants.{Found}
+use Rattle.forms.specs.Views.{numberIn}
 
 -- what a loop meets at the place i: a digit more, another byte, the end
 module _ (s : List ℕ) (i : ℕ) where

@@ -1,9 +1,9 @@
 -- `position` and `range` at a place of a line, from what the parsers below answer there.
 -- Assumes nothing.
-use mathlib.Core.Path.{_≡_, sym, ap, subst, _∙_}
+use mathlib.Core.Path.{_≡_, sym, ap, _∙_}
 use mathlib.Core.Bool.{Bool, true, false}
-use mathlib.Core.List.{List, [], _∷_}
-use mathlib.Core.Option.{Option, none, some}
+use mathlib.Core.List.{List, _∷_}
+use mathlib.Core.Option.{none}
 use Prim.Native.Nat.{ℕ, suc, _+_, _≤_, _<_}
 use native.Mathlib.Numerals.{add-one}
 use native.Mathlib.Omega.{arith}
@@ -21,14 +21,7 @@ use Rattle.forms.specs.declared.number.NumberAt.the-variants as number-a
 use Rattle.forms.specs.declared.position.PositionAt.{PositionAt}
 use Rattle.forms.specs.declared.position.PositionAt.the-variants.{Not, Found}
 use Rattle.forms.specs.declared.position.RangeAt.the-variants as range-at
-use Rattle.forms.specs.Views.{numberIn, numberNext, signs, signed, placedIn, placedNext, rangeIn}
-
--- the place behind a number, and behind a position, that was found
-pub number-within : (n : ℕ) (r : NumberAt) (v next : ℕ) → r ≡ number-at.Found v next → numberNext r ≤ n → next ≤ n
-number-within n r v next e h = subst (λ (x : NumberAt). numberNext x ≤ n) e h
-
-pub position-within : (n : ℕ) (r : PositionAt) (p : Position) (next : ℕ) → r ≡ Found p next → placedNext r ≤ n → next ≤ n
-position-within n r p next e h = subst (λ (x : PositionAt). placedNext x ≤ n) e h
+use Rattle.forms.specs.Views.{numberIn, signs, signed, placedIn, rangeIn}
 
 signs-by : (t u : Bool) → (if t then 1 else if u then 1 else 0) ≤ 1
 signs-by true u = omega arith

@@ -3,13 +3,13 @@
 use mathlib.Core.Path.{_≡_, sym, ap, _∙_}
 use mathlib.Core.Bool.{Bool, true, false}
 use mathlib.Core.List.{List}
-use mathlib.Core.Option.{none, some}
-use Prim.Native.Nat.{ℕ, suc, _+_, _-_, _≤_, _<_}
+use mathlib.Core.Option.{none}
+use Prim.Native.Nat.{ℕ, _+_, _-_, _≤_, _<_}
 use native.Mathlib.Numerals.{add-one}
 use borrow.Author.Tests.{eq-eqb, ne-eqb}
 use lib.ListN.{length, take, drop, getD, drop-of-length-le}
 use lib.Seq.{drop-cons}
-use Rattle.rules.specs.Bytes.{bytes, if_then_else_}
+use Rattle.rules.specs.Bytes.{bytes}
 use Rattle.rules.specs.Number.{number}
 use Rattle.rules.specs.Line.{areCapitals, startsWith, behindSpace, spaced, behindRef, referenceLine}
 use Rattle.rules.proofs.Over.{tail-is}

@@ -1,10 +1,10 @@
 -- Laws of `startsWith`, `areCapitals` and `isArrow`, and `verb` and `editLine` from what the parsers below answer.
 -- Assumes nothing.
-use mathlib.Core.Path.{_≡_, refl, sym, ap, subst, _∙_}
+use mathlib.Core.Path.{_≡_, refl, sym, ap, _∙_}
 use mathlib.Core.Bool.{Bool, true, false, _&&_}
 use mathlib.Core.List.{List, [], _∷_}
-use mathlib.Core.Option.{Option, none, some}
-use Prim.Native.Nat.{ℕ, suc, _+_, _-_, _≤_, _<_}
+use mathlib.Core.Option.{none}
+use Prim.Native.Nat.{ℕ, _+_, _-_, _≤_, _<_}
 use native.Mathlib.Omega.{arith}
 use borrow.Author.Tests.{le-leb, lt-leb}
 use lib.Dec.{eqb}
@@ -13,7 +13,7 @@ use lib.Seq.{take-all, drop-length, drop-drop}
 use Rattle.rules.specs.declared.Position.{Position}
 use Rattle.rules.specs.declared.Kind.{Kind}
 use Rattle.rules.specs.declared.Kind.the-variants.{Substitution, Deletion, Delins, Insertion, Duplication, Inversion, Identity}
-use Rattle.rules.specs.Bytes.{bytes, if_then_else_, same, all, isCapital}
+use Rattle.rules.specs.Bytes.{bytes, same, all, isCapital}
 use Rattle.rules.specs.Line.{areCapitals, startsWith, isArrow, baseVerb, verb, range, editLine}
 use Rattle.rules.proofs.Over.{tail-is}
 use Rattle.rules.proofs.Tests.{and-left, and-right}
@@ -23,7 +23,7 @@ use Rattle.forms.specs.declared.position.RangeAt.the-variants as range-a
 use Rattle.forms.specs.declared.verb.VerbAt.{VerbAt}
 use Rattle.forms.specs.declared.verb.VerbAt.the-variants.{Not, Found}
 use Rattle.forms.specs.declared.line.EditLine.the-variants.{Asked}
-use Rattle.forms.specs.Views.{rangeIn, rangeNext, verbIn, verbNext, askedIn}
+use Rattle.forms.specs.Views.{rangeIn, verbIn, askedIn}
 
 pub capitals-none : (s : List ℕ) → length s < 1 → false ≡ areCapitals s
 unfolding areCapitals
@@ -147,13 +147,6 @@ module _ (line : List ℕ) (at : ℕ) where
           pub verb-based : u₄ ≡ false → (r : VerbAt) → verbIn line r ≡ baseVerb (drop at line) → verbIn line r ≡ verb (drop at line)
           unfolding verb
           verb-based e₄ r z = z ∙ simp (test (word (bytes "del")) u false q e, test (word (bytes "dup")) u₂ false q₂ e₂, test (word (bytes "inv")) u₃ false q₃ e₃, test (word (bytes "=")) u₄ false q₄ e₄)
-
--- the place behind a range, and of a verb's new bases
-pub range-within : (n : ℕ) (r : RangeAt) (p p₂ : Position) (next : ℕ) → r ≡ range-at.Found p p₂ next → rangeNext r ≤ n → next ≤ n
-range-within n r p p₂ next e h = subst (λ (x : RangeAt). rangeNext x ≤ n) e h
-
-pub verb-within : (n : ℕ) (r : VerbAt) (k : Kind) (at : ℕ) → r ≡ Found k at → verbNext r ≤ n → at ≤ n
-verb-within n r k at e h = subst (λ (x : VerbAt). verbNext x ≤ n) e h
 
 -- the edit, from its range and its verb
 module _ (line : List ℕ) (r : RangeAt) (q : rangeIn line r ≡ range line) where

@@ -3,7 +3,8 @@ use mathlib.Core.Path.{sym, _∙_}
 use borrow.Author.Needs.{needs}
 use borrow.Author.Tests.{not-true, not-false}
 use Rattle.rules.specs.Bytes.{bytes}
-use Rattle.forms.proofs.Positions.{number-within}
+use Rattle.forms.specs.Views.{numberNext}
+use Rattle.forms.proofs.Answers.{within}
 use Rattle.forms.proofs.Verbs.{starts-long}
 use Rattle.forms.proofs.References.{reference-not, reference-no-cs, reference-no-ce, reference-no-table, reference-no-letters, reference-is}
 use Rattle.forms.proofs.line.parse_reference.Statement.{statement}
@@ -19,28 +20,28 @@ returns-2 : tie.Need-returns-2
 returns-2 c = (reference-no-cs (c .before .before .before .before .before .before .before .args .line .now) _ (c .before .before .before .before .starts-with .ensures) (not-false _ (c .before .before .before .if1 .left)) _ (c .before .before .parse-spaced .ensures .0) (c .enum-told .given .1), search needs)
 
 parse-spaced-requires-2 : tie.Need-parse-spaced-requires-2
-parse-spaced-requires-2 c κs = number-within _ _ _ _ (c .before .a .given .1) (c .before .before .before .parse-spaced .ensures .1)
+parse-spaced-requires-2 c κs = within numberNext (c .before .a .given .1) (c .before .before .before .parse-spaced .ensures .1)
 
 returns-3 : tie.Need-returns-3
 returns-3 c = (reference-no-ce (c .before .before .before .before .before .before .before .before .before .before .before .args .line .now) _ (c .before .before .before .before .before .before .before .before .starts-with .ensures) (not-false _ (c .before .before .before .before .before .before .before .if1 .left)) _ (c .before .before .before .before .before .before .parse-spaced .ensures .0) _ _ (c .before .before .before .before .a .given .1) _ (c .before .before .parse-spaced2 .ensures .0) (c .enum-told2 .given .1), search needs)
 
 parse-spaced-requires-3 : tie.Need-parse-spaced-requires-3
-parse-spaced-requires-3 c κs = number-within _ _ _ _ (c .before .b .given .1) (c .before .before .before .parse-spaced2 .ensures .1)
+parse-spaced-requires-3 c κs = within numberNext (c .before .b .given .1) (c .before .before .before .parse-spaced2 .ensures .1)
 
 returns-4 : tie.Need-returns-4
 returns-4 c = (reference-no-table (c .before .before .before .before .before .before .before .before .before .before .before .before .before .before .before .args .line .now) _ (c .before .before .before .before .before .before .before .before .before .before .before .before .starts-with .ensures) (not-false _ (c .before .before .before .before .before .before .before .before .before .before .before .if1 .left)) _ (c .before .before .before .before .before .before .before .before .before .before .parse-spaced .ensures .0) _ _ (c .before .before .before .before .before .before .before .before .a .given .1) _ (c .before .before .before .before .before .before .parse-spaced2 .ensures .0) _ _ (c .before .before .before .before .b .given .1) _ (c .before .before .parse-spaced3 .ensures .0) (c .enum-told3 .given .1), search needs)
 
 sub-are-capitals : tie.Need-sub-are-capitals
-sub-are-capitals c = let h = number-within _ _ _ _ (c .before .c .given .1) (c .before .before .before .parse-spaced3 .ensures .1) in search needs
+sub-are-capitals c = let h = within numberNext (c .before .c .given .1) (c .before .before .before .parse-spaced3 .ensures .1) in search needs
 
 part-are-capitals-start : tie.Need-part-are-capitals-start
-part-are-capitals-start c = number-within _ _ _ _ (c .before .c .given .1) (c .before .before .before .parse-spaced3 .ensures .1)
+part-are-capitals-start c = within numberNext (c .before .c .given .1) (c .before .before .before .parse-spaced3 .ensures .1)
 
 returns-5 : tie.Need-returns-5
 returns-5 c = (reference-no-letters (c .before .before .before .before .before .before .before .before .before .before .before .before .before .before .before .before .before .before .before .args .line .now) _ (c .before .before .before .before .before .before .before .before .before .before .before .before .before .before .before .before .starts-with .ensures) (not-false _ (c .before .before .before .before .before .before .before .before .before .before .before .before .before .before .before .if1 .left)) _ (c .before .before .before .before .before .before .before .before .before .before .before .before .before .before .parse-spaced .ensures .0) _ _ (c .before .before .before .before .before .before .before .before .before .before .before .before .a .given .1) _ (c .before .before .before .before .before .before .before .before .before .before .parse-spaced2 .ensures .0) _ _ (c .before .before .before .before .before .before .before .before .b .given .1) _ (c .before .before .before .before .before .before .parse-spaced3 .ensures .0) _ _ (c .before .before .before .before .c .given .1) _ (c .before .are-capitals .ensures) (not-true _ (c .if2 .taken)), search needs)
 
 returns-6 : tie.Need-returns-6
-returns-6 c = (reference-is (c .before .before .before .before .before .before .before .before .before .before .before .before .before .before .before .before .before .before .before .args .line .now) _ (c .before .before .before .before .before .before .before .before .before .before .before .before .before .before .before .before .starts-with .ensures) (not-false _ (c .before .before .before .before .before .before .before .before .before .before .before .before .before .before .before .if1 .left)) _ (c .before .before .before .before .before .before .before .before .before .before .before .before .before .before .parse-spaced .ensures .0) _ _ (c .before .before .before .before .before .before .before .before .before .before .before .before .a .given .1) _ (c .before .before .before .before .before .before .before .before .before .before .parse-spaced2 .ensures .0) _ _ (c .before .before .before .before .before .before .before .before .b .given .1) _ (c .before .before .before .before .before .before .parse-spaced3 .ensures .0) _ _ (c .before .before .before .before .c .given .1) _ (c .before .are-capitals .ensures) (not-false _ (c .if2 .left)), number-within _ _ _ _ (c .before .before .before .before .c .given .1) (c .before .before .before .before .before .before .parse-spaced3 .ensures .1))
+returns-6 c = (reference-is (c .before .before .before .before .before .before .before .before .before .before .before .before .before .before .before .before .before .before .before .args .line .now) _ (c .before .before .before .before .before .before .before .before .before .before .before .before .before .before .before .before .starts-with .ensures) (not-false _ (c .before .before .before .before .before .before .before .before .before .before .before .before .before .before .before .if1 .left)) _ (c .before .before .before .before .before .before .before .before .before .before .before .before .before .before .parse-spaced .ensures .0) _ _ (c .before .before .before .before .before .before .before .before .before .before .before .before .a .given .1) _ (c .before .before .before .before .before .before .before .before .before .before .parse-spaced2 .ensures .0) _ _ (c .before .before .before .before .before .before .before .before .b .given .1) _ (c .before .before .before .before .before .before .parse-spaced3 .ensures .0) _ _ (c .before .before .before .before .c .given .1) _ (c .before .are-capitals .ensures) (not-false _ (c .if2 .left)), within numberNext (c .before .before .before .before .c .given .1) (c .before .before .before .before .before .before .parse-spaced3 .ensures .1))
 
 pub parse-reference-spec : {M : Type 1} → statement M
 parse-reference-spec =

@@ -1,9 +1,7 @@
 -- `forms::number::parse_number` meets its contract. Assumes nothing.
-use mathlib.Core.Path.{sym, _∙_}
-use native.Mathlib.Omega.{arith}
+use mathlib.Core.Path.{sym}
 use borrow.Author.Needs.{needs}
 use borrow.Author.Tests.{not-true, not-false}
-use lib.ListN.{length}
 use lib.Seq.{length-take-le}
 use Rattle.forms.proofs.Numbers.{count-within, not-number, few, are-digits, next-within, is-number}
 use Rattle.forms.proofs.number.parse_number.Statement.{statement}

@@ -2,7 +2,6 @@
 use mathlib.Core.Path.{sym, _∙_}
 use borrow.Author.Needs.{needs}
 use borrow.Author.Tests.{not-true, not-false}
-use lib.ListN.{length}
 use Rattle.forms.proofs.Verbs.{starts-long, based-not, based-by}
 use Rattle.forms.proofs.verb.has_bases.Statement.{statement}
 use Rattle.forms.proofs.verb.has_bases.Tie as tie
