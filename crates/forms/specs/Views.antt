@@ -1,5 +1,5 @@
 -- What a parser's answer says in document 01's terms, by its cases: what was read, with what stands behind it in the line. And the place where
--- that begins, 0 where nothing was read: a line's rest alone doesn't say it where it is empty.
+-- that begins, 0 where nothing was read: where a promise bounds it by the line's length, what stands behind it tells it.
 use Prim.Native.Nat.{ℕ}
 use mathlib.Core.List.{List, []}
 use mathlib.Core.Option.{Option, none, some}

@@ -36,6 +36,7 @@ fn signs_of(b: u8) -> usize
     0
 }
 
+// The position of a number, by the first byte of the position.
 fn signed_by(b: u8, n: usize) -> Position
     ensures { λ r. ⌜ r ≡ signed b n ⌝ }
 {

@@ -74,6 +74,7 @@ fn is_arrow(s: &[u8]) -> bool
     (s[1] == b'>') & is_capital(s[0]) & is_capital(s[2])
 }
 
+// A kind with new bases, from a place of a line to its end.
 fn parse_base_verb(line: &[u8], at: usize) -> VerbAt
     requires { ⌜ at ≤ length (now line) ⌝ }
     ensures { λ r. ⌜ verbIn (now (line .entry)) r ≡ baseVerb (drop at (now (line .entry))) ⌝ }
@@ -101,7 +102,7 @@ fn parse_base_verb(line: &[u8], at: usize) -> VerbAt
     VerbAt::Not
 }
 
-// The verb that a line ends with, from a place on.
+// A kind, from a place of a line to its end.
 pub fn parse_verb(line: &[u8], at: usize) -> VerbAt
     requires { ⌜ at ≤ length (now line) ⌝ }
     ensures { λ r. ⌜ verbIn (now (line .entry)) r ≡ verb (drop at (now (line .entry))) ⌝ }
