@@ -66,7 +66,7 @@ fn is_number(n: usize, s: &[u8]) -> bool
 }
 
 // The number that stands at a place of a line.
-pub fn parse_number(line: &[u8], at: usize) -> NumberAt
+pub(crate) fn parse_number(line: &[u8], at: usize) -> NumberAt
     requires { ⌜ at ≤ length (now line) ⌝ }
     ensures { λ r. ⌜ numberIn (now (line .entry)) r ≡ number (drop at (now (line .entry))) ⌝ }
     ensures within { λ r. ⌜ numberNext r ≤ length (now (line .entry)) ⌝ }

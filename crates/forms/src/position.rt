@@ -69,7 +69,7 @@ fn parse_position(line: &[u8], at: usize) -> PositionAt
 }
 
 // The positions that a line begins with.
-pub fn parse_range(line: &[u8]) -> RangeAt
+pub(crate) fn parse_range(line: &[u8]) -> RangeAt
     ensures { λ r. ⌜ rangeIn (now (line .entry)) r ≡ range (now (line .entry)) ⌝ }
     ensures within { λ r. ⌜ rangeNext r ≤ length (now (line .entry)) ⌝ }
 {

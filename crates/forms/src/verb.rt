@@ -34,7 +34,7 @@ fn all_capitals(s: &[u8]) -> bool
 }
 
 // One or more bytes A to Z; a wrong one is left to 2 and 10.
-pub fn are_capitals(s: &[u8]) -> bool
+pub(crate) fn are_capitals(s: &[u8]) -> bool
     ensures { λ r. ⌜ r ≡ areCapitals (now (s .entry)) ⌝ }
 {
     if s.len() < 1 {
@@ -43,7 +43,7 @@ pub fn are_capitals(s: &[u8]) -> bool
     all_capitals(s)
 }
 
-pub fn starts_with(word: &[u8], s: &[u8]) -> bool
+pub(crate) fn starts_with(word: &[u8], s: &[u8]) -> bool
     ensures { λ r. ⌜ r ≡ startsWith (now (word .entry)) (now (s .entry)) ⌝ }
 {
     let n = word.len();
@@ -103,7 +103,7 @@ fn parse_base_verb(line: &[u8], at: usize) -> VerbAt
 }
 
 // A kind, from a place of a line to its end.
-pub fn parse_verb(line: &[u8], at: usize) -> VerbAt
+pub(crate) fn parse_verb(line: &[u8], at: usize) -> VerbAt
     requires { ⌜ at ≤ length (now line) ⌝ }
     ensures { λ r. ⌜ verbIn (now (line .entry)) r ≡ verb (drop at (now (line .entry))) ⌝ }
     ensures within { λ r. ⌜ verbNext r ≤ length (now (line .entry)) ⌝ }
