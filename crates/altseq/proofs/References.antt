@@ -25,8 +25,8 @@ use Rattle.rules.proofs.Translation.{length-exceptions, first-exceptions}
 use Rattle.rules.proofs.Reference.{Bounds, bounds-of, length-cds, length-protein, protein-read}
 use Rattle.rules.proofs.Altered.{longestAltered}
 use Rattle.codons.specs.Tables.{isBase}
-use Rattle.edits.specs.declared.Cds.{Cds}
-use Rattle.edits.specs.Views.{bare, Sound}
+use Rattle.positions.specs.declared.Cds.{Cds}
+use Rattle.positions.specs.Views.{bare, Sound}
 use Rattle.altseq.specs.declared.reference.Known.{Known}
 use Rattle.altseq.specs.declared.reference.Checked.{Checked}
 use Rattle.altseq.specs.declared.reference.Checked.the-variants as checked

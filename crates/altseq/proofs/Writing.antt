@@ -33,9 +33,9 @@ use Rattle.rules.proofs.Altered.{AlteredLength, altered-length, altered-letters
 use Rattle.rules.proofs.Records.{record-known}
 use Rattle.rules.proofs.Answers.{Fits, fits}
 use Rattle.codons.specs.Tables.{isBase}
-use Rattle.edits.specs.Moving.{Moves, Given}
-use Rattle.edits.proofs.Tests.{fitting}
-use Rattle.edits.proofs.Moving.{moves-of, given-of, moved-is}
+use Rattle.exceptions.specs.Moving.{Moves, Given}
+use Rattle.positions.proofs.Tests.{fitting}
+use Rattle.exceptions.proofs.Moving.{moves-of, given-of, moved-is}
 use Rattle.translation.specs.Residues.{areBases}
 use Rattle.edits.specs.Plans.{planOf, silentWithin}
 use Rattle.altseq.specs.Transcript.{carriedBy}

@@ -18,9 +18,9 @@ use Rattle.rules.specs.Record.{isUnknown}
 use Rattle.rules.specs.Refusal.{limits, referenceRefusal, refusal}
 use Rattle.rules.proofs.Refusal.{refused-reference}
 use Rattle.codons.specs.Tables.{HoldsCode}
-use Rattle.edits.specs.declared.Cds.{Cds}
+use Rattle.positions.specs.declared.Cds.{Cds}
 use Rattle.edits.specs.declared.swaps.Plan.{Plan}
-use Rattle.edits.specs.Views.{bare, Sound}
+use Rattle.positions.specs.Views.{bare, Sound}
 use Rattle.edits.specs.Plans.{planOf}
 use Rattle.altseq.specs.declared.reference.Known.{Known}
 use Rattle.altseq.specs.declared.decision.Decision.{Decision}
