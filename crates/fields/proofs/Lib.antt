@@ -1,2 +1,3 @@
 -- Laws of fields.
 pub mod Cases
+pub mod Order
