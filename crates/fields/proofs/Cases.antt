@@ -4,7 +4,7 @@ use mathlib.Core.Path.{_≡_, refl, ap, _∙_}
 use mathlib.Core.Bool.{Bool, true, false, _&&_, _||_, not}
 use mathlib.Core.List.{List, [], _∷_}
 use Prim.Native.Nat.{ℕ, suc, _+_, _*_, _-_, _%_, _≤_, _<_}
-use native.Mathlib.Numerals.{add-one, add-two, add-three}
+use native.Mathlib.Numerals.{add-one}
 use native.Mathlib.Omega.{arith}
 use lib.Dec.{eqb, leb, ltb}
 use lib.ListN.{length, take, drop, getD, length-drop, drop-of-length-le}
@@ -29,22 +29,21 @@ few at t (x ∷ y ∷ s) h = absurd (omega arith)
 pub short : (s : List ℕ) (at : ℕ) → at < length s → length s - at < 3 → Cut (getD s at 0) ≡ fieldAt s at
 short s at h k = rw (drop-cons s at 0 h) (few at (getD s at 0) (drop (suc at) s) (omega (arith, length-drop (suc at) s)))
 
-module _ (s : List ℕ) (at : ℕ) (h : at + 3 ≤ length s) (n high low : ℕ) (e : n ≡ 256 * high + low) (p : high ≡ getD s (at + 1) 0) (q : low ≡ getD s (at + 2) 0) where
-  three : drop at s ≡ getD s at 0 ∷ high ∷ low ∷ drop (at + 3) s
+module _ (s : List ℕ) (at : ℕ) (h : at + 3 ≤ length s) (n : ℕ) (e : n ≡ stored.twoBytes (getD s (at + 1) 0) (getD s (at + 1 + 1) 0)) where
+  three : drop at s ≡ getD s at 0 ∷ getD s (at + 1) 0 ∷ getD s (at + 1 + 1) 0 ∷ drop (at + 3) s
   three =
-      rw (p, q, add-one, add-two, add-three)
-      (drop-cons s at 0 (omega arith)
-      ∙ ap (λ (x : List ℕ). getD s at 0 ∷ x) (drop-cons s (suc at) 0 (omega arith)
-      ∙ ap (λ (x : List ℕ). getD s (suc at) 0 ∷ x) (drop-cons s (suc (suc at)) 0 (omega arith))))
+      let one : at + 1 ≡ suc at = omega arith in
+      let three : at + 3 ≡ suc (suc (suc at)) = omega arith in
+      rw (one, add-one, three, drop-cons s at 0 (omega arith), drop-cons s (suc at) 0 (omega arith), drop-cons s (suc (suc at)) 0 (omega arith))
 
   pub whole : n ≤ length s - (at + 3) → Whole (getD s at 0) (record { at = at + 3; len = n }) ≡ fieldAt s at
-  unfolding placed stored.field stored.twoBytes
+  unfolding placed stored.field
   whole k =
       let fits : n ≤ length (drop (at + 3) s) = rw length-drop k in
       rw (three, ← e, le-leb n (length (drop (at + 3) s)) fits, length-take-le n (drop (at + 3) s) fits)
 
   pub cut : length s - (at + 3) < n → Cut (getD s at 0) ≡ fieldAt s at
-  unfolding placed stored.field stored.twoBytes
+  unfolding placed stored.field
   cut k = rw (three, ← e, lt-leb n (length (drop (at + 3) s)) (rw length-drop k))
 
 pub tag-test : (last tag : ℕ) → (leb tag last || ltb 4 tag) ≡ stored.isWrongTag last tag

@@ -146,6 +146,14 @@ module _ (s : List ℕ) (at last : ℕ) (f : Field) (is : f ≡ fieldAt s at) wh
       by (stored.cut t) h = number (isWrongTag last t) h
       by (stored.whole t c r) h = tests (isWrongTag last t) (isWrongLength t (length c)) t c (fieldsAfter t r) h
 
+  pub passes : (fs : List Tagged) → fieldsAfter last (drop at s) ≡ given fs → fieldRefusal last f ≡ 0
+  unfolding refusalIn
+  passes fs h = by (fieldRefusal last f) refl
+    where
+      by : (n : ℕ) → n ≡ fieldRefusal last f → n ≡ 0
+      by zero e = refl
+      by (suc n) e = refused-here (suc n) e (λ z. omega arith) ∙ ap refusalIn h
+
   -- no field is left
   pub none-here : fieldRefusal last f ≡ 0 → ((t : ℕ) (p : Span) → f ≡ Whole t p → ⊥) → fieldsAfter last (drop at s) ≡ given []
   unfolding fieldRefusal placed met
@@ -231,12 +239,12 @@ unfolding placeOf
 place-further tag at t c fs e = rw (ne-eqb t tag e)
 
 -- the first of some fields, and those behind it
-record Behind (t : ℕ) (c r : List ℕ) (fs : List Tagged) : Type 0 where
-  left : List Tagged
-  are : fieldsAfter t r ≡ given left
-  first : fs ≡ record { tag = t; content = c } ∷ left
+pub record Behind (t : ℕ) (c r : List ℕ) (fs : List Tagged) : Type 0 where
+  pub left : List Tagged
+  pub are : fieldsAfter t r ≡ given left
+  pub first : fs ≡ record { tag = t; content = c } ∷ left
 
-behind-first : (t : ℕ) (c r : List ℕ) (fs : List Tagged) → withField t c (fieldsAfter t r) ≡ given fs → Behind t c r fs
+pub behind-first : (t : ℕ) (c r : List ℕ) (fs : List Tagged) → withField t c (fieldsAfter t r) ≡ given fs → Behind t c r fs
 unfolding withField
 behind-first t c r fs h = by (fieldsAfter t r) refl h
   where
@@ -245,24 +253,16 @@ behind-first t c r fs h = by (fieldsAfter t r) refl h
     by (refused n) q e = let o : _≡_ {A = ℕ} 0 1 = cc in absurd (omega arith)
 
 module _ (tag : ℕ) (s : List ℕ) (at : ℕ) (l : Looking tag s at) (f : Field) (is : f ≡ fieldAt s at) where
-  passes : fieldRefusal (l .last) f ≡ 0
-  unfolding refusalIn
-  passes = by (fieldRefusal (l .last) f) refl
-    where
-      by : (n : ℕ) → n ≡ fieldRefusal (l .last) f → n ≡ 0
-      by zero e = refl
-      by (suc n) e = refused-here s at (l .last) f is (suc n) e (λ z. omega arith) ∙ ap refusalIn (l .are)
-
   pub missing : ((t : ℕ) (p : Span) → f ≡ Whole t p → ⊥) → Missing ≡ placeOf tag 0 (taggedIn (fields s))
   unfolding placeOf
   missing other =
-      let none : given (l .left) ≡ given [] = sym (l .are) ∙ none-here s at (l .last) f is passes other in
+      let none : given (l .left) ≡ given [] = sym (l .are) ∙ none-here s at (l .last) f is (passes s at (l .last) f is (l .left) (l .are)) other in
       let empty : l .left ≡ [] = cc in
       sym (ap (placeOf tag at) empty) ∙ l .same
 
   module _ (t : ℕ) (p : Span) (h : f ≡ Whole t p) where
     behind : Behind t (bytesAt s p) (drop (p .at + p .len) s) (l .left)
-    behind = behind-first t (bytesAt s p) (drop (p .at + p .len) s) (l .left) (sym (goes-on s at (l .last) f is t p h passes) ∙ l .are)
+    behind = behind-first t (bytesAt s p) (drop (p .at + p .len) s) (l .left) (sym (goes-on s at (l .last) f is t p h (passes s at (l .last) f is (l .left) (l .are))) ∙ l .are)
 
     long : length (bytesAt s p) ≡ p .len
     long =

@@ -1,6 +1,8 @@
 // The reader of stored fields. The work is in `field_at`, which takes a plain slice and a place.
 ghost use mathlib.Core.Path.{_≡_};
-ghost use Prim.Native.Nat.{_<_};
+ghost use Prim.Native.Nat.{_+_, _<_, _≤_};
+ghost use lib.ListN.{length, getD};
+ghost use Rattle.rules.specs.Stored.{twoBytes};
 ghost use Rattle.fields.specs.Places.{fieldAt};
 
 // `len` bytes of the caller's, behind the first `at`.
@@ -18,11 +20,19 @@ pub enum Field {
     End,
 }
 
-fn wide(b: u8) -> usize
+pub fn wide(b: u8) -> usize
     ensures { λ r. ⌜ r ≡ b ⌝ }
     ensures small { λ r. ⌜ r < 256 ⌝ }
 {
     b as usize
+}
+
+// The number of two bytes, high byte first.
+pub fn two_bytes(s: &[u8], at: usize) -> usize
+    requires { ⌜ at + 2 ≤ length (now s) ⌝ }
+    ensures { λ r. ⌜ r ≡ twoBytes (getD (now (s .entry)) at 0) (getD (now (s .entry)) (at + 1) 0) ⌝ }
+{
+    256 * wide(s[at]) + wide(s[at + 1])
 }
 
 // The field at a place of the bytes.
@@ -36,9 +46,7 @@ pub fn field_at(s: &[u8], at: usize) -> Field
     if s.len() - at < 3 {
         return Field::Cut { tag };
     }
-    let high = wide(s[at + 1]);
-    let low = wide(s[at + 2]);
-    let len = 256 * high + low;
+    let len = two_bytes(s, at + 1);
     if len <= s.len() - (at + 3) {
         Field::Whole {
             tag,

@@ -1,5 +1,4 @@
 -- `fields::reader::field_at` meets its contract. Assumes nothing.
-use mathlib.Core.Path.{refl}
 use native.Mathlib.Omega.{arith}
 use borrow.Author.Needs.{needs}
 use Rattle.fields.proofs.Cases.{none, short, whole, cut}
@@ -14,13 +13,13 @@ returns-2 c = short _ _ (c .before .before .if1 .left) (c .if2 .taken)
 
 returns-3 : tie.Need-returns-3
 returns-3 c =
-    let a = c .before .before .before .before .before .before .before .before .before .args in
-    whole (a .s .now) (a .at) (omega (arith, c .before .before .before .before .before .before .before .if1 .left, c .before .before .before .before .before .if2 .left)) _ _ _ refl (c .before .before .before .wide .ensures .0) (c .before .wide2 .ensures .0) (c .if3 .taken)
+    let a = c .before .before .before .before .before .before .args in
+    whole (a .s .now) (a .at) (omega (arith, c .before .before .before .before .if1 .left, c .before .before .if2 .left)) _ (c .before .two-bytes .ensures) (c .if3 .taken)
 
 returns-4 : tie.Need-returns-4
 returns-4 c =
-    let a = c .before .before .before .before .before .before .before .before .before .args in
-    cut (a .s .now) (a .at) (omega (arith, c .before .before .before .before .before .before .before .if1 .left, c .before .before .before .before .before .if2 .left)) _ _ _ refl (c .before .before .before .wide .ensures .0) (c .before .wide2 .ensures .0) (c .if3 .left)
+    let a = c .before .before .before .before .before .before .args in
+    cut (a .s .now) (a .at) (omega (arith, c .before .before .before .before .if1 .left, c .before .before .if2 .left)) _ (c .before .two-bytes .ensures) (c .if3 .left)
 
 pub field-at-spec : {M : Type 1} → statement M
 field-at-spec =
@@ -31,13 +30,7 @@ field-at-spec =
     (λ c. search needs)
     returns-2
     (λ c. search needs)
-    (λ c. search needs)
     (λ c κs. search needs)
-    (λ c. search needs)
-    (λ c. search needs)
-    (λ c κs. search needs)
-    (λ c. search needs)
-    (λ c. search needs)
     (λ c. search needs)
     (λ c. search needs)
     (λ c. search needs)
