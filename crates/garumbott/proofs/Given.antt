@@ -11,11 +11,12 @@ use lib.Signed.{ltZ, leZ}
 use mir.Syntax.{w64}
 use mir.Val.{SFits, toZ, ofZ}
 use mir.ValLaws.{toZ-ofZ}
+use Rattle.rules.specs.declared.Edit.{Edit}
 use Rattle.rules.specs.declared.Kind.the-variants as kind
 use Rattle.rules.specs.declared.Position.the-variants.{Plus, Minus, Star}
 use Rattle.rules.specs.Values.{kindAt}
 use Rattle.rules.proofs.Tests.{and-left, and-right}
-use Rattle.garumbott.specs.Host.{positionAt}
+use Rattle.garumbott.specs.Host.{positionAt, editAt}
 
 pub kind-other : (n : ℕ) → (n ≡ 1 → ⊥) → (n ≡ 2 → ⊥) → (n ≡ 3 → ⊥) → (n ≡ 4 → ⊥) → (n ≡ 5 → ⊥) → (n ≡ 6 → ⊥) → (n ≡ 7 → ⊥) → kind.Other ≡ kindAt n
 kind-other zero h₁ h₂ h₃ h₄ h₅ h₆ h₇ = refl
@@ -61,3 +62,8 @@ module _ (star : ℕ) (p : ℤ) (fits : SFits w64 p) (n : ℕ) (is : n ≡ natAb
       by (suc zero) (pos m) h t = absurd (omega (arith, leb-false 0 m t))
       by (suc zero) (negsuc m) h t = refl
       by (suc (suc star)) p h t = refl
+
+-- an edit, its signed numbers read back from their bits
+pub given-edit : (kind startStar : ℕ) (start : ℤ) (endStar : ℕ) (end : ℤ) → SFits w64 start → SFits w64 end → (e : Edit)
+    → e ≡ editAt kind startStar (toZ w64 (ofZ w64 start)) endStar (toZ w64 (ofZ w64 end)) → e ≡ editAt kind startStar start endStar end
+given-edit kind startStar start endStar end f g e h = h ∙ rw (toZ-ofZ w64 start f, toZ-ofZ w64 end g)

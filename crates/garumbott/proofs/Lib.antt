@@ -2,3 +2,4 @@
 pub mod Signed
 pub mod Given
 pub mod Editing
+pub mod Excepted

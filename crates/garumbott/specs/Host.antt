@@ -1,12 +1,25 @@
 -- The numbers that a host gives and gets.
-use Prim.Native.Nat.{ℕ, zero, suc}
+use Prim.Native.Nat.{ℕ, zero, suc, _%_}
+use mathlib.Core.Path.{_≡_}
+use mathlib.Core.Bool.{Bool, not}
+use mathlib.Core.List.{List, [], _∷_}
+use lib.Dec.{eqb}
 use lib.IntN.{ℤ, pos, negsuc}
+use lib.ListN.{length}
 use Rattle.rules.specs.declared.Position.{Position}
 use Rattle.rules.specs.declared.Position.the-variants.{Plus, Minus, Star}
+use Rattle.rules.specs.declared.Edit.{Edit}
+use Rattle.rules.specs.declared.Exception.{Exception}
 use Rattle.rules.specs.declared.Written.{Written}
 use Rattle.rules.specs.declared.Written.the-variants as written
 use Rattle.rules.specs.declared.Answer.{Answer}
-use Rattle.rules.specs.Values.{Told, Values, valuesOf}
+use Rattle.rules.specs.Bytes.{if_then_else_, over}
+use Rattle.rules.specs.Translation.{noException}
+use Rattle.rules.specs.Reference.{Reference}
+use Rattle.rules.specs.Edit.{Asked}
+use Rattle.rules.specs.Stored.{exceptionsIn}
+use Rattle.rules.specs.Answer.{Outcome}
+use Rattle.rules.specs.Values.{kindAt, Told, Values, valuesOf}
 use Rattle.garumbott.specs.declared.numbers.GarumbottLength.{GarumbottLength}
 use Rattle.garumbott.specs.declared.numbers.GarumbottAnswer.{GarumbottAnswer}
 
@@ -18,6 +31,24 @@ positionAt zero (negsuc n) = Minus (suc n)
 positionAt (suc zero) (pos n) = Star n
 positionAt (suc zero) (negsuc n) = Star 0
 positionAt (suc (suc star)) p = Star 0
+
+abbrev pub editAt : ℕ → ℕ → ℤ → ℕ → ℤ → Edit
+editAt kind startStar start endStar end = record { kind = kindAt kind; start = positionAt startStar start; end = positionAt endStar end }
+
+abbrev pub askedAt : ℕ → ℕ → ℤ → ℕ → ℤ → List ℕ → Asked
+askedAt kind startStar start endStar end bases = record { edit = editAt kind startStar start endStar end; new = bases }
+
+-- exceptions in the stored form. Bytes that aren't three each are none; they stand as an exception that breaks the rules, which is refused with 5
+unfoldable pub exceptionsAt : List ℕ → List Exception
+exceptionsAt s = if eqb (length s % 3) 0 then exceptionsIn s else (noException ∷ [])
+
+abbrev pub referenceAt : List ℕ → ℕ → ℕ → ℕ → List ℕ → Reference
+referenceAt letters cs ce table exceptions =
+    record { letters = letters; cs = cs; ce = ce; table = table; exceptions = exceptionsAt exceptions }
+
+-- 0 or not 0
+abbrev pub isSet : ℕ → Bool
+isSet n = not (eqb n 0)
 
 -- what a function that fills one buffer answers
 abbrev pub lengthOf : Written → GarumbottLength
@@ -68,3 +99,10 @@ answerOf a = numbersOf (valuesOf a)
 -- what a record tells, with no flag and no lengths
 abbrev pub toldOf : Told → GarumbottAnswer
 toldOf t = numbersOf (record { refusal = 0; frameshift = 0; transcript = 0; reference = 0; altered = 0; told = t })
+
+-- the answer is the outcome's, and each buffer is what it was under what the outcome writes
+pub record Tells (o : Outcome) (r : GarumbottAnswer) (transcript transcript′ reference reference′ altered altered′ : List ℕ) : Type 0 where
+  pub says : r ≡ answerOf (o .answer)
+  pub holds-transcript : transcript′ ≡ over (o .transcript) transcript
+  pub holds-reference : reference′ ≡ over (o .reference) reference
+  pub holds-altered : altered′ ≡ over (o .altered) altered

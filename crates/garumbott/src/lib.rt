@@ -3,3 +3,4 @@
 pub mod numbers;
 pub mod plain;
 pub mod transcript;
+pub mod variant;

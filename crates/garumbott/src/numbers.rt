@@ -1,6 +1,7 @@
 // The numbers that a host gives and gets.
 use rules::Answer;
 use rules::Class;
+use rules::Edit;
 use rules::Kind;
 use rules::Position;
 use rules::Record;
@@ -11,7 +12,7 @@ ghost use Prim.Native.Nat.{_-_};
 ghost use lib.IntN.{natAbs};
 ghost use Rattle.rules.specs.declared.Answer.the-variants as answer;
 ghost use Rattle.rules.specs.Values.{kindAt, classNumber, flagNumber, toldBy};
-ghost use Rattle.garumbott.specs.Host.{positionAt, lengthOf, aloneOf, toldOf, answerOf};
+ghost use Rattle.garumbott.specs.Host.{positionAt, editAt, lengthOf, aloneOf, toldOf, answerOf};
 
 // A refusal's number and 0, or 0 and the bytes written from the buffer's start.
 #[repr(C)]
@@ -85,6 +86,16 @@ pub fn position_at(star: u64, p: i64) -> Position
         return Position::Star(n);
     }
     Position::Star(0)
+}
+
+pub fn edit_at(kind: u64, start_star: u64, start: i64, end_star: u64, end: i64) -> Edit
+    ensures { λ r. ⌜ r ≡ editAt kind «start_star» start «end_star» end ⌝ }
+{
+    Edit {
+        kind: kind_at(kind),
+        start: position_at(start_star, start),
+        end: position_at(end_star, end),
+    }
 }
 
 // The answer of a function that fills one buffer.

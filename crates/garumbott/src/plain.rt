@@ -2,14 +2,31 @@
 use crate::numbers::GarumbottLength;
 use crate::numbers::length_of;
 use crate::numbers::wide;
+use fields::exceptions_in;
 ghost use mathlib.Core.Path.{_≡_};
 ghost use lib.ListN.{length};
 ghost use Rattle.rules.specs.Bytes.{over};
+ghost use Rattle.rules.specs.Translation.{translation};
 ghost use Rattle.rules.specs.Names.{threeLetters, oneLetters};
 ghost use Rattle.rules.specs.Complement.{complemented};
 ghost use Rattle.rules.specs.Trims.{commonPrefix, commonSuffix};
 ghost use Rattle.rules.specs.Answer.{writtenOf, bytesOf};
-ghost use Rattle.garumbott.specs.Host.{lengthOf};
+ghost use Rattle.garumbott.specs.Host.{exceptionsAt, isSet, lengthOf};
+
+#[no_mangle]
+pub extern "C" fn garumbott_translate(
+    seq: &[u8],
+    table: u64,
+    full: u64,
+    exceptions: &[u8],
+    out: &mut [u8],
+) -> GarumbottLength
+    ensures { λ r. ⌜ r ≡ lengthOf (writtenOf (translation table (exceptionsAt (now (exceptions .entry))) (isSet full) (now (seq .entry)) (length (now (out .entry))))) ⌝ }
+    ensures { λ _. ⌜ now (out .exit) ≡ over (bytesOf (translation table (exceptionsAt (now (exceptions .entry))) (isSet full) (now (seq .entry)) (length (now (out .entry))))) (now (out .entry)) ⌝ }
+{
+    let e = exceptions_in(exceptions);
+    length_of(translation::translate_cds(seq, table as usize, e, full != 0, out))
+}
 
 #[no_mangle]
 pub extern "C" fn garumbott_complement(seq: &[u8], out: &mut [u8]) -> GarumbottLength
