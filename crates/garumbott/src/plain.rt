@@ -41,7 +41,7 @@ pub extern "C" fn garumbott_names3(one: &[u8], out: &mut [u8]) -> GarumbottLengt
     ensures { λ r. ⌜ r ≡ lengthOf (writtenOf (threeLetters (now (one .entry)) (length (now (out .entry))))) ⌝ }
     ensures { λ _. ⌜ now (out .exit) ≡ over (bytesOf (threeLetters (now (one .entry)) (length (now (out .entry))))) (now (out .entry)) ⌝ }
 {
-    length_of(sequences::aa1_to_aa3(one, out))
+    length_of(names::aa1_to_aa3(one, out))
 }
 
 #[no_mangle]
@@ -49,7 +49,7 @@ pub extern "C" fn garumbott_names1(three: &[u8], out: &mut [u8]) -> GarumbottLen
     ensures { λ r. ⌜ r ≡ lengthOf (writtenOf (oneLetters (now (three .entry)) (length (now (out .entry))))) ⌝ }
     ensures { λ _. ⌜ now (out .exit) ≡ over (bytesOf (oneLetters (now (three .entry)) (length (now (out .entry))))) (now (out .entry)) ⌝ }
 {
-    length_of(sequences::aa3_to_aa1(three, out))
+    length_of(names::aa3_to_aa1(three, out))
 }
 
 #[no_mangle]

@@ -1,9 +1,9 @@
 // Names both ways, the complement, and translations of lengths around each limit.
+use names::aa1_to_aa3;
+use names::aa3_to_aa1;
 use rules::Exception;
 use rules::Exceptions;
 use rules::Written;
-use sequences::aa1_to_aa3;
-use sequences::aa3_to_aa1;
 use sequences::revcomp;
 use translation::translate_cds;
 

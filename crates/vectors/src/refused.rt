@@ -2,11 +2,11 @@
 use crate::plain::count_of;
 use crate::plain::no_exceptions;
 use crate::plain::print_number;
+use names::aa1_to_aa3;
+use names::aa3_to_aa1;
 use rules::Exception;
 use rules::Exceptions;
 use rules::Written;
-use sequences::aa1_to_aa3;
-use sequences::aa3_to_aa1;
 use sequences::revcomp;
 use translation::translate_cds;
 

@@ -1,4 +1,4 @@
--- `sequences::names::are_threes` meets its contract. The invariant: what is left tells of the whole.
+-- `names::are_threes` meets its contract. The invariant: what is left tells of the whole.
 -- Assumes nothing.
 use mathlib.Core.Path.{_≡_, refl, sym, ap, _∙_}
 use Prim.Native.Nat.{_*_, _/_, _-_, _≤_}
@@ -6,10 +6,10 @@ use borrow.Author.Needs.{needs}
 use lib.ListN.{length, drop}
 use Rattle.rules.specs.Bytes.{all}
 use Rattle.rules.specs.Names.{threes}
-use Rattle.sequences.specs.Names.{isThree}
-use Rattle.sequences.proofs.names.Laws.{threes-stop, threes-more, threes-end}
-use Rattle.sequences.proofs.names.are_threes.Statement.{statement}
-use Rattle.sequences.proofs.names.are_threes.Tie as tie
+use Rattle.names.specs.Rows.{isThree}
+use Rattle.names.proofs.Laws.{threes-stop, threes-more, threes-end}
+use Rattle.names.proofs.are_threes.Statement.{statement}
+use Rattle.names.proofs.are_threes.Tie as tie
 
 abbrev Inv-loop : tie.InvT-loop
 Inv-loop three names n i₀ i = (i ≤ n) × (n ≡ length three / 3) × (all isThree (threes (drop (i * 3) three)) ≡ all isThree (threes three))

@@ -1,12 +1,12 @@
--- `sequences::names::aa1_to_aa3` meets its contract: one law for each way out.
+-- `names::aa1_to_aa3` meets its contract: one law for each way out.
 -- Assumes nothing.
 use mathlib.Core.Path.{sym, _∙_}
 use borrow.Author.Needs.{needs}
 use borrow.Author.Tests.{not-true, not-false}
 use Rattle.rules.proofs.Fills.{refuses, gives}
-use Rattle.sequences.proofs.names.Laws.{ones-unknown, ones-short, ones-given}
-use Rattle.sequences.proofs.names.aa1_to_aa3.Statement.{statement}
-use Rattle.sequences.proofs.names.aa1_to_aa3.Tie as tie
+use Rattle.names.proofs.Laws.{ones-unknown, ones-short, ones-given}
+use Rattle.names.proofs.aa1_to_aa3.Statement.{statement}
+use Rattle.names.proofs.aa1_to_aa3.Tie as tie
 
 returns : tie.Need-returns
 returns c = refuses _ _ _ (ones-unknown _ _ (sym (c .before .are-ones .ensures) ∙ not-true _ (c .if1 .taken)))

@@ -1,4 +1,4 @@
--- `sequences::names::write_threes` meets its contract. The invariant: writing the names that are left gives the whole.
+-- `names::write_threes` meets its contract. The invariant: writing the names that are left gives the whole.
 -- Assumes nothing.
 use mathlib.Core.Path.{_≡_, refl}
 use Prim.Native.Nat.{_*_, _-_, _≤_, _<_}
@@ -8,9 +8,9 @@ use lib.ListN.{length, drop, length-set}
 use Rattle.rules.specs.Bytes.{each, over}
 use Rattle.rules.specs.Names.{threeOf}
 use Rattle.rules.proofs.Over.{overFrom, from-start}
-use Rattle.sequences.proofs.names.Laws.{ones-row, put-three, written-end}
-use Rattle.sequences.proofs.names.write_threes.Statement.{statement}
-use Rattle.sequences.proofs.names.write_threes.Tie as tie
+use Rattle.names.proofs.Laws.{ones-row, put-three, written-end}
+use Rattle.names.proofs.write_threes.Statement.{statement}
+use Rattle.names.proofs.write_threes.Tie as tie
 
 abbrev Inv-loop : tie.InvT-loop
 Inv-loop one names out₀ i₀ out i =

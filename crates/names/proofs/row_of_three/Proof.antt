@@ -1,4 +1,4 @@
--- `sequences::names::row_of_three` meets its contract. The invariant: the rows that are left give the residue that the table gives.
+-- `names::row_of_three` meets its contract. The invariant: the rows that are left give the residue that the table gives.
 -- Assumes nothing.
 use mathlib.Core.Path.{_≡_, sym, _∙_}
 use mathlib.Core.List.{[], _∷_}
@@ -6,9 +6,9 @@ use Prim.Native.Nat.{_*_, _-_, _≤_}
 use borrow.Author.Needs.{needs}
 use lib.ListN.{drop}
 use Rattle.rules.specs.Names.{oneOf}
-use Rattle.sequences.proofs.names.Laws.{oneFrom, one-start, one-found, one-more, one-none}
-use Rattle.sequences.proofs.names.row_of_three.Statement.{statement}
-use Rattle.sequences.proofs.names.row_of_three.Tie as tie
+use Rattle.names.proofs.Laws.{oneFrom, one-start, one-found, one-more, one-none}
+use Rattle.names.proofs.row_of_three.Statement.{statement}
+use Rattle.names.proofs.row_of_three.Tie as tie
 
 abbrev Inv-loop : tie.InvT-loop
 Inv-loop names a b c k₀ k = (k ≤ 25) × (oneFrom (drop (k * 4) names) (a ∷ b ∷ c ∷ []) ≡ oneOf (a ∷ b ∷ c ∷ []))

@@ -1,12 +1,12 @@
--- `sequences::names::aa3_to_aa1` meets its contract: one law for each way out.
+-- `names::aa3_to_aa1` meets its contract: one law for each way out.
 -- Assumes nothing.
 use mathlib.Core.Path.{sym, _∙_}
 use borrow.Author.Needs.{needs}
 use borrow.Author.Tests.{not-true, not-false}
 use Rattle.rules.proofs.Fills.{refuses, gives}
-use Rattle.sequences.proofs.names.Laws.{threes-uneven, threes-unknown, threes-short, threes-given}
-use Rattle.sequences.proofs.names.aa3_to_aa1.Statement.{statement}
-use Rattle.sequences.proofs.names.aa3_to_aa1.Tie as tie
+use Rattle.names.proofs.Laws.{threes-uneven, threes-unknown, threes-short, threes-given}
+use Rattle.names.proofs.aa3_to_aa1.Statement.{statement}
+use Rattle.names.proofs.aa3_to_aa1.Tie as tie
 
 returns : tie.Need-returns
 returns c = refuses _ _ _ (threes-uneven _ _ (c .if1 .taken))

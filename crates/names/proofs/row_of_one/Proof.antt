@@ -1,13 +1,13 @@
--- `sequences::names::row_of_one` meets its contract. The invariant: the rows that are left give the name that the table gives.
+-- `names::row_of_one` meets its contract. The invariant: the rows that are left give the name that the table gives.
 -- Assumes nothing.
 use mathlib.Core.Path.{_≡_, sym, _∙_}
 use Prim.Native.Nat.{_*_, _-_, _≤_}
 use borrow.Author.Needs.{needs}
 use lib.ListN.{drop}
 use Rattle.rules.specs.Names.{threeOf}
-use Rattle.sequences.proofs.names.Laws.{threeFrom, three-start, three-found, three-more, three-none}
-use Rattle.sequences.proofs.names.row_of_one.Statement.{statement}
-use Rattle.sequences.proofs.names.row_of_one.Tie as tie
+use Rattle.names.proofs.Laws.{threeFrom, three-start, three-found, three-more, three-none}
+use Rattle.names.proofs.row_of_one.Statement.{statement}
+use Rattle.names.proofs.row_of_one.Tie as tie
 
 abbrev Inv-loop : tie.InvT-loop
 Inv-loop names one k₀ k = (k ≤ 25) × (threeFrom (drop (k * 4) names) one ≡ threeOf one)

@@ -1,4 +1,4 @@
--- `sequences::names::are_ones` meets its contract. The invariant: what is left tells of the whole.
+-- `names::are_ones` meets its contract. The invariant: what is left tells of the whole.
 -- Assumes nothing.
 use mathlib.Core.Path.{_≡_, refl, sym, _∙_}
 use Prim.Native.Nat.{_-_, _≤_}
@@ -6,10 +6,10 @@ use borrow.Author.Needs.{needs}
 use lib.ListN.{length, drop}
 use Rattle.rules.specs.Bytes.{all}
 use Rattle.rules.proofs.Lists.{all-end}
-use Rattle.sequences.specs.Names.{isOne}
-use Rattle.sequences.proofs.names.Laws.{ones-stop, ones-more}
-use Rattle.sequences.proofs.names.are_ones.Statement.{statement}
-use Rattle.sequences.proofs.names.are_ones.Tie as tie
+use Rattle.names.specs.Rows.{isOne}
+use Rattle.names.proofs.Laws.{ones-stop, ones-more}
+use Rattle.names.proofs.are_ones.Statement.{statement}
+use Rattle.names.proofs.are_ones.Tie as tie
 
 abbrev Inv-loop : tie.InvT-loop
 Inv-loop one names i₀ i = (i ≤ length one) × (all isOne (drop i one) ≡ all isOne one)

@@ -1,4 +1,4 @@
--- `sequences::names::write_ones` meets its contract. The invariant: writing the residues that are left gives the whole, and each has its name.
+-- `names::write_ones` meets its contract. The invariant: writing the residues that are left gives the whole, and each has its name.
 -- Assumes nothing.
 use mathlib.Core.Path.{_≡_, refl}
 use mathlib.Core.Bool.{true}
@@ -9,10 +9,10 @@ use lib.ListN.{length, drop, length-set}
 use Rattle.rules.specs.Bytes.{all, each, over}
 use Rattle.rules.specs.Names.{oneOf, threes}
 use Rattle.rules.proofs.Over.{overFrom, from-start}
-use Rattle.sequences.specs.Names.{isThree}
-use Rattle.sequences.proofs.names.Laws.{threes-row, put-one, residues-end}
-use Rattle.sequences.proofs.names.write_ones.Statement.{statement}
-use Rattle.sequences.proofs.names.write_ones.Tie as tie
+use Rattle.names.specs.Rows.{isThree}
+use Rattle.names.proofs.Laws.{threes-row, put-one, residues-end}
+use Rattle.names.proofs.write_ones.Statement.{statement}
+use Rattle.names.proofs.write_ones.Tie as tie
 
 abbrev Inv-loop : tie.InvT-loop
 Inv-loop three names out₀ n i₀ out i =

@@ -13,7 +13,7 @@ use Rattle.rules.specs.Bytes.{if_then_else_, same, isNone, all, each, firstOf, 
 use Rattle.rules.specs.Names.{names, threeIn, oneIn, threeOf, oneOf, threes, threeLetters, oneLetters}
 use Rattle.rules.proofs.Lists.{all-more, all-stop, all-at, each-more, each-end, length-each}
 use Rattle.rules.proofs.Over.{overFrom, from-end, from-turn}
-use Rattle.sequences.specs.Names.{table, threeAt, oneAt, isOne, isThree}
+use Rattle.names.specs.Rows.{table, threeAt, oneAt, isOne, isThree}
 
 -- the names, read off a table four bytes at a time
 unfoldable pub threeFrom : List ℕ → ℕ → List ℕ

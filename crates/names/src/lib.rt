@@ -8,7 +8,7 @@ ghost use lib.ListN.{length};
 ghost use Rattle.rules.specs.Bytes.{all, each, over};
 ghost use Rattle.rules.specs.Names.{threeOf, oneOf, threes, threeLetters, oneLetters};
 ghost use Rattle.rules.specs.Answer.{writtenOf, bytesOf};
-ghost use Rattle.sequences.specs.Names.{table, threeAt, oneAt, isOne, isThree};
+ghost use Rattle.names.specs.Rows.{table, threeAt, oneAt, isOne, isThree};
 
 // The names of IUPAC in 25 rows: the letter of a residue, and its three.
 const NAMES: [u8; 100] = *b"\
