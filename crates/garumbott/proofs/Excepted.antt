@@ -120,3 +120,9 @@ module _ (m : Limits) (s : List ℕ) (c : Cds) where
       alike es fs u v =
           edited-refused m (with es) a room lowest (refusal-unfit es a u) lowest-some
           ∙ sym (edited-refused m (with fs) a room lowest (refusal-unfit fs a v) lowest-some)
+
+-- no bytes are no exceptions
+pub none-given : (x : List ℕ) → length x ≡ 0 → exceptionsAt x ≡ []
+unfolding exceptionsAt exceptionsIn
+none-given [] h = refl
+none-given (b ∷ x) h = absurd (omega arith)

@@ -3,6 +3,8 @@ use crate::numbers::GarumbottLength;
 use crate::numbers::length_of;
 use crate::numbers::wide;
 use fields::exceptions_in;
+use translation::translate_cds;
+use translation::translate_cds_with_exceptions;
 ghost use mathlib.Core.Path.{_≡_};
 ghost use lib.ListN.{length};
 ghost use Rattle.rules.specs.Bytes.{over};
@@ -24,8 +26,11 @@ pub extern "C" fn garumbott_translate(
     ensures { λ r. ⌜ r ≡ lengthOf (writtenOf (translation table (exceptionsAt (now (exceptions .entry))) (isSet full) (now (seq .entry)) (length (now (out .entry))))) ⌝ }
     ensures { λ _. ⌜ now (out .exit) ≡ over (bytesOf (translation table (exceptionsAt (now (exceptions .entry))) (isSet full) (now (seq .entry)) (length (now (out .entry))))) (now (out .entry)) ⌝ }
 {
+    if exceptions.len() == 0 {
+        return length_of(translate_cds(seq, table as usize, full != 0, out));
+    }
     let e = exceptions_in(exceptions);
-    length_of(translation::translate_cds(seq, table as usize, e, full != 0, out))
+    length_of(translate_cds_with_exceptions(seq, table as usize, e, full != 0, out))
 }
 
 #[no_mangle]

@@ -1,8 +1,8 @@
 // Numbers at their limits: each line of the file stdin beside src/ is a call of build_altseq, and is printed with its answer. The gate holds the
 // file stdout beside it to what is printed.
 //
-// Where that file's answers come from: tests/limits/account.py, an account of document 01 in another language, which reads the same lines and
-// makes the letters by the same rule. tests/limits compares the two.
+// Where that file's answers come from: tests/limits, by an account of document 01 in another language (tests/account), which reads the same
+// lines and makes the letters by the same rule.
 mod fields;
 mod given;
 mod letters;

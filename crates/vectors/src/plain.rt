@@ -77,7 +77,7 @@ fn print_length(letters: &[u8], n: usize) {
     if letters.len() < n {
         return;
     }
-    match translate_cds(&letters[0..n], 0, no_exceptions(), false, &mut out) {
+    match translate_cds(&letters[0..n], 0, false, &mut out) {
         Written::Bytes(m) => {
             io::write_all(1, b" residues ");
             print_number(m);
