@@ -1,0 +1,3 @@
+-- Laws of stored references.
+pub mod Last
+pub mod Judged
