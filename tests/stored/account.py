@@ -135,42 +135,51 @@ def built():
     for cs in list(range(11)) + [256, 257, 65535]:
         for ce in list(range(11)) + [256, 265, 65535]:
             show(f"bounds {cs} {ce}", field(1, b"ATGATGTAA") + bounds(cs, ce) + field(3, b"\0"))
-    for letters in ("ATGTAA", "ATGTGA", "ATGAGA", "ATGTRA", "ATGAGR", "ATGTAN", "ATGTUA", "ATGtaa"):
+    for letters in ("ATGTAA", "ATGTGA", "ATGAGA", "ATGTRA", "ATGTUA", "ATGtaa"):
         for table in (0, 1, 2, 3, 255):
             show(f"table {table} of {letters}", field(1, letters.encode()) + bounds(1, 6) + field(3, bytes([table])))
-    for size in (6, 7, 8, 255, 256, 257, 16383, 16384, 16385):
+    for size in (6, 256, 257, 16383, 16384, 16385):
         show(f"size {size}", field(1, b"A" * (size - 3) + b"TAA") + bounds(size % 3 + 1, size) + field(3, b"\0"))
 
 
 def edited():
-    """The records are document 01's run and two of its rules for exceptions; beside them the bytes of a transcript buffer of 32 dots."""
-    w = "GGATGGCCAAATGGTAACCTGAC"
+    """Document 01's run, and two of its rules for exceptions: the record, and what three buffers of dots hold."""
+    w, r = "GGATGGCCAAATGGTAACCTGAC", "MAKW*"
+    nothing = ("", "", "")
     rows = [
-        ("8A>G", "substitution 3 K R", w[:9] + "G" + w[10:]),
-        ("12G>A", "stop-gained 4 W -", w[:13] + "A" + w[14:]),
-        ("13T>C", "extension 5 * QPD", w[:14] + "C" + w[15:]),
-        ("6C>T", "silent 2 A A", w[:7] + "T" + w[8:]),
-        ("1A>G", "start-lost 1 M V", w[:2] + "G" + w[3:]),
-        ("4_6dup", "duplication 3 - A 2", w[:8] + w[5:8] + w[8:]),
-        ("4_6inv", "substitution 2 A G", w[:5] + "GGC" + w[8:]),
-        # the first stop codon is TAG: the C behind it is dropped
-        ("9_10insTAGC", "stop-gained 4 W -", w[:11] + "TAG" + w[11:]),
-        ("5del", "frameshift 3 KW* NGNLX", w[:6] + w[7:]),
-        ("1_*6del", "no-protein", w[:2]),
-        ("1_*7del", "unknown", ""),
-        ("16del", "refused 7", ""),
+        # substitution 3 K R
+        ("8A>G", "changed 3 1 1", (w[:9] + "G" + w[10:], r, "MARW*")),
+        # stop-gained 4 W -
+        ("12G>A", "changed 4 1 0", (w[:13] + "A" + w[14:], r, "MAK*")),
+        # extension 5 * QPD
+        ("13T>C", "changed 5 1 3", (w[:14] + "C" + w[15:], r, "MAKWQPD")),
+        # silent 2 A A
+        ("6C>T", "silent 2", (w[:7] + "T" + w[8:], r, r)),
+        # start-lost 1 M V
+        ("1A>G", "changed 1 1 1", (w[:2] + "G" + w[3:], r, "VAKW*")),
+        # duplication 3 - A 2
+        ("4_6dup", "changed 3 0 1", (w[:8] + w[5:8] + w[8:], r, "MAAKW*")),
+        # substitution 2 A G
+        ("4_6inv", "changed 2 1 1", (w[:5] + "GGC" + w[8:], r, "MGKW*")),
+        # stop-gained 4 W -; the first stop codon is TAG, and the C behind it is dropped
+        ("9_10insTAGC", "changed 4 1 0", (w[:11] + "TAG" + w[11:], r, "MAK*")),
+        # frameshift 3 KW* NGNLX
+        ("5del", "changed 3 3 5", (w[:6] + w[7:], r, "MANGNLX")),
+        ("1_*6del", "no-protein", (w[:2], r, "")),
+        ("1_*7del", "unknown", nothing),
+        ("16del", "refused 7", nothing),
         # the changed codon's exception is dropped
-        ("6A>G, 2 U", "substitution 2 U K", "ATGAAGTAA"),
+        ("6A>G, 2 U", "changed 2 1 1", ("ATGAAGTAA", "MU*", "MK*")),
         # codon 3 is wholly in neither the common prefix nor what is left for a suffix
-        ("4_6del, 3 *", "extension 3 * -", "ATGAAA"),
-        ("0=, a field cut off", "refused 20", ""),
-        ("0=, no table", "refused 22", ""),
-        ("0=, bounds 1 7", "refused 3", ""),
-        ("0=, no stop", "refused 6", ""),
-        ("0=", "refused 7", ""),
+        ("4_6del, 3 *", "changed 3 1 0", ("ATGAAA", "MK*", "MK")),
+        ("0=, a field cut off", "refused 20", nothing),
+        ("0=, no table", "refused 22", nothing),
+        ("0=, bounds 1 7", "refused 3", nothing),
+        ("0=, no stop", "refused 6", nothing),
+        ("0=", "refused 7", nothing),
     ]
-    for name, record, transcript in rows:
-        print(f"{name}: {record} | {transcript.ljust(32, '.')}")
+    for name, record, (transcript, reference, altered) in rows:
+        print(f"{name}: {record} {transcript.ljust(32, '.')} {reference.ljust(8, '.')} {altered.ljust(16, '.')}")
 
 
 changed()

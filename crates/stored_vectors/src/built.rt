@@ -301,23 +301,13 @@ fn print_tables_of(letters: &[u8]) {
     print_table(letters, 255);
 }
 
-fn print_ambiguous() {
-    print_tables_of(b"ATGTRA");
-    print_tables_of(b"ATGAGR");
-    print_tables_of(b"ATGTAN");
-}
-
-fn print_wrong() {
-    print_tables_of(b"ATGTUA");
-    print_tables_of(b"ATGtaa");
-}
-
 pub fn print_tables() {
     print_tables_of(b"ATGTAA");
     print_tables_of(b"ATGTGA");
     print_tables_of(b"ATGAGA");
-    print_ambiguous();
-    print_wrong();
+    print_tables_of(b"ATGTRA");
+    print_tables_of(b"ATGTUA");
+    print_tables_of(b"ATGtaa");
 }
 
 // So many letters: A, and TAA at their end, all but the first one or two in the CDS.
@@ -341,16 +331,9 @@ fn print_size(size: usize) {
     print_stored(&out, three);
 }
 
-fn print_small() {
-    print_size(6);
-    print_size(7);
-    print_size(8);
-    print_size(255);
-    print_size(256);
-}
-
 pub fn print_sizes() {
-    print_small();
+    print_size(6);
+    print_size(256);
     print_size(257);
     print_size(16383);
     print_size(16384);

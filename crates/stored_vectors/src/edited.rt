@@ -1,60 +1,14 @@
 // Edits of stored references: document 01's run, and edits of references with exceptions, or refused.
 use crate::show::print_number;
 use rules::Answer;
-use rules::Change;
-use rules::Class;
 use rules::Edit;
 use rules::Kind;
-use rules::Part;
 use rules::Position;
 use rules::Record;
 use stored::build_altseq_stored;
 
-fn print_class(class: Class) {
-    match class {
-        Class::StartLost => io::write_all(1, b"start-lost "),
-        Class::Extension => io::write_all(1, b"extension "),
-        Class::StopGained => io::write_all(1, b"stop-gained "),
-        Class::Frameshift => io::write_all(1, b"frameshift "),
-        Class::Substitution => io::write_all(1, b"substitution "),
-        Class::Deletion => io::write_all(1, b"deletion "),
-        Class::Duplication => io::write_all(1, b"duplication "),
-        Class::Insertion => io::write_all(1, b"insertion "),
-        Class::Delins => io::write_all(1, b"delins "),
-    }
-    ;
-}
-
-fn print_part(protein: &[u8], p: Part) {
-    io::write_all(1, b" ");
-    if p.len == 0 {
-        io::write_all(1, b"-");
-        return;
-    }
-    let at = p.at;
-    if protein.len() < at {
-        return;
-    }
-    if protein.len() - at < p.len {
-        return;
-    }
-    let end = at + p.len;
-    io::write_all(1, &protein[at..end]);
-}
-
-fn print_change(c: Change, rp: &[u8], ap: &[u8]) {
-    let class = c.class;
-    print_class(class);
-    print_number(c.number);
-    print_part(rp, c.deleted);
-    print_part(ap, c.inserted);
-    if c.first != 0 {
-        io::write_all(1, b" ");
-        print_number(c.first);
-    }
-}
-
-fn print_record(found: Record, rp: &[u8], ap: &[u8]) {
+// The number, and how many residues are deleted and inserted.
+fn print_record(found: Record) {
     match found {
         Record::Unknown => {
             io::write_all(1, b"unknown");
@@ -62,39 +16,52 @@ fn print_record(found: Record, rp: &[u8], ap: &[u8]) {
         Record::NoProtein => {
             io::write_all(1, b"no-protein");
         }
-        Record::Silent { number, residue } => {
-            let one = [residue];
+        Record::Silent { number, residue: _ } => {
             io::write_all(1, b"silent ");
             print_number(number);
-            io::write_all(1, b" ");
-            io::write_all(1, &one);
-            io::write_all(1, b" ");
-            io::write_all(1, &one);
         }
-        Record::Changed(c) => print_change(c, rp, ap),
+        Record::Changed(c) => {
+            io::write_all(1, b"changed ");
+            print_number(c.number);
+            io::write_all(1, b" ");
+            print_number(c.deleted.len);
+            io::write_all(1, b" ");
+            print_number(c.inserted.len);
+        }
     }
 }
 
-// The answer, and the altered transcript behind it.
-fn print_edit(name: &[u8], s: &[u8], edit: Edit, new: &[u8]) {
-    let mut tx = [b'.'; 32];
-    let mut rp = [b'.'; 8];
-    let mut ap = [b'.'; 16];
-    io::write_all(1, name);
-    io::write_all(1, b": ");
-    match build_altseq_stored(s, edit, new, &mut tx, &mut rp, &mut ap) {
+fn print_answer(answer: Answer) {
+    match answer {
         Answer::Refused(n) => {
-            io::write_all(1, b"refused ");
+            io::write_all(1, b": refused ");
             print_number(n);
         }
         Answer::Reported(p) => {
             let found = p.found;
-            print_record(found, &rp, &ap);
+            io::write_all(1, b": ");
+            print_record(found);
         }
     }
-    io::write_all(1, b" | ");
-    io::write_all(1, &tx);
+}
+
+// The answer, and what the three buffers of dots hold.
+fn print_edit(name: &[u8], s: &[u8], edit: Edit, new: &[u8]) {
+    let mut tx = [b'.'; 32];
+    let mut rp = [b'.'; 8];
+    let mut ap = [b'.'; 16];
+    let answer = build_altseq_stored(s, edit, new, &mut tx, &mut rp, &mut ap);
+    io::write_all(1, name);
+    print_answer(answer);
+    print_bytes(&tx);
+    print_bytes(&rp);
+    print_bytes(&ap);
     io::write_all(1, b"\n");
+}
+
+fn print_bytes(s: &[u8]) {
+    io::write_all(1, b" ");
+    io::write_all(1, s);
 }
 
 fn edit(kind: Kind, start: Position, end: Position) -> Edit {
