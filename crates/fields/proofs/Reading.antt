@@ -4,7 +4,7 @@ use mathlib.Core.Path.{_≡_, refl, sym, ap, ap₂, _∙_}
 use mathlib.Core.Bool.{false}
 use mathlib.Core.List.{List, [], _∷_}
 use mathlib.Core.Option.{Option, none, some}
-use Prim.Native.Nat.{ℕ, _+_, _≤_, _<_}
+use Prim.Native.Nat.{ℕ, _+_, _%_, _≤_, _<_}
 use native.Mathlib.Omega.{arith}
 use lib.ListN.{length, getD}
 use Rattle.rules.specs.Bytes.{Result, given, refused}
@@ -20,7 +20,7 @@ use Rattle.fields.specs.Places.{bytesAt, placeOf}
 use Rattle.fields.specs.Refusals.{refusalIn, taggedIn}
 use Rattle.fields.specs.Reading.{referenceIn, spanOf, Placed, Reads, assembledIn}
 use Rattle.fields.proofs.Order.{given-fields}
-use Rattle.fields.proofs.Contents.{Found, contentIn, Stands, stands, byte-of, bounds-length, table-length}
+use Rattle.fields.proofs.Contents.{Found, contentIn, Stands, stands, byte-of, bounds-length, table-length, exceptions-length}
 
 pub refuses : (s : List ℕ) (x : Result Reference) (n : ℕ) → x ≡ refused n → Reads s x (Refused n)
 unfolding referenceIn
@@ -88,6 +88,14 @@ module _ (s : List ℕ) (none-refused : refusalIn (fields s) ≡ 0) where
                 by (content.At p) = refl
                 by content.Missing = refl
 
+            within : (exceptions .at + exceptions .len ≤ length s) × (exceptions .len % 3 ≡ 0)
+            unfolding spanOf
+            within = by four is-four are-exceptions
+              where
+                by : (c : Content) → c ≡ placeOf 4 0 (taggedIn (fields s)) → exceptions ≡ spanOf c → (exceptions .at + exceptions .len ≤ length s) × (exceptions .len % 3 ≡ 0)
+                by (content.At p) q e = let f = found 4 (content.At p) p q refl in rw e (f .within, exceptions-length (p .len) (f .fits))
+                by content.Missing q e = rw e (omega arith, refl)
+
             bound : (i : ℕ) → i < 4 → getD (bytesAt s bounds) i 0 ≡ getD s (bounds .at + i) 0
             bound i h = byte-of s bounds i (omega (arith, four-bytes .0))
 
@@ -121,7 +129,14 @@ module _ (s : List ℕ) (none-refused : refusalIn (fields s) ≡ 0) where
                       ));
                   stands = λ p h.
                       let same : record { cs = cs; ce = ce; table = table; letters = letters; exceptions = exceptions } ≡ p = cc in
-                      rw (← same) (record { letters = sym (ap spanOf (sym is-one ∙ at-one)); exceptions = are-exceptions ∙ ap spanOf is-four });
+                      rw (← same)
+                      (record {
+                        letters = sym (ap spanOf (sym is-one ∙ at-one));
+                        exceptions = are-exceptions ∙ ap spanOf is-four;
+                        letters-within = found 1 one letters is-one at-one .within;
+                        exceptions-within = within .0;
+                        threes = within .1;
+                      });
                 }
 
 -- then 1 to 6

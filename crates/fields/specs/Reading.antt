@@ -1,7 +1,8 @@
 -- What an answer tells of a stored reference, by places in the caller's bytes.
-use Prim.Native.Nat.{ℕ}
+use Prim.Native.Nat.{ℕ, _+_, _%_, _≤_}
 use mathlib.Core.Path.{_≡_}
 use mathlib.Core.List.{List}
+use lib.ListN.{length}
 use Rattle.rules.specs.Bytes.{Result, given, refused}
 use Rattle.rules.specs.Reference.{Reference}
 use Rattle.rules.specs.Stored.{Tagged, fields, contentOf, exceptionsIn, orEmpty, assembled}
@@ -14,27 +15,34 @@ use Rattle.fields.specs.declared.reference.Stored.the-variants.{Refused,
 use Rattle.fields.specs.Places.{bytesAt, placeOf}
 use Rattle.fields.specs.Refusals.{taggedIn}
 
--- the reference that the bytes hold at the places told, or the refusal
-unfoldable pub referenceIn : List ℕ → Stored → Result Reference
-referenceIn s (Refused n) = refused n
-referenceIn s (At p) =
-    given (record {
+-- the reference that stands in the bytes
+abbrev pub referenceAt : List ℕ → StoredAt → Reference
+referenceAt s p =
+    record {
       letters = bytesAt s (p .letters);
       cs = p .cs;
       ce = p .ce;
       table = p .table;
       exceptions = exceptionsIn (bytesAt s (p .exceptions));
-    })
+    }
+
+-- what an answer tells: a reference, or the refusal
+unfoldable pub referenceIn : List ℕ → Stored → Result Reference
+referenceIn s (Refused n) = refused n
+referenceIn s (At p) = given (referenceAt s p)
 
 -- where a content stands, and 0 bytes at 0 where there is none
 unfoldable pub spanOf : Content → Span
 spanOf (content.At p) = p
 spanOf content.Missing = record { at = 0; len = 0 }
 
--- the letters and the exceptions stand where tags 1 and 4 have their contents
+-- the letters and the exceptions stand where tags 1 and 4 have their contents, within the bytes; exceptions are three bytes each
 pub record Placed (s : List ℕ) (p : StoredAt) : Type 0 where
   pub letters : p .letters ≡ spanOf (placeOf 1 0 (taggedIn (fields s)))
   pub exceptions : p .exceptions ≡ spanOf (placeOf 4 0 (taggedIn (fields s)))
+  pub letters-within : p .letters .at + p .letters .len ≤ length s
+  pub exceptions-within : p .exceptions .at + p .exceptions .len ≤ length s
+  pub threes : p .exceptions .len % 3 ≡ 0
 
 -- an answer: the reference, or its refusal, and where in the bytes it stands
 pub record Reads (s : List ℕ) (x : Result Reference) (r : Stored) : Type 0 where

@@ -9,6 +9,7 @@ pub use exceptions::exceptions_in;
 pub use reader::Field;
 pub use reader::Fields;
 pub use reader::Span;
+pub use reader::bytes_at;
 pub use reader::next_field;
 pub use reference::Stored;
 pub use reference::StoredAt;

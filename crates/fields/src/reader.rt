@@ -3,12 +3,22 @@ ghost use mathlib.Core.Path.{_≡_};
 ghost use Prim.Native.Nat.{_+_, _<_, _≤_};
 ghost use lib.ListN.{length, getD};
 ghost use Rattle.rules.specs.Stored.{twoBytes};
-ghost use Rattle.fields.specs.Places.{fieldAt};
+ghost use Rattle.fields.specs.Places.{bytesAt, fieldAt};
 
 // `len` bytes of the caller's, behind the first `at`.
 pub struct Span {
     pub at: usize,
     pub len: usize,
+}
+
+// The bytes at a place.
+pub fn bytes_at(s: &[u8], p: Span) -> &[u8]
+    requires { ⌜ p .at + p .len ≤ length (now s) ⌝ }
+    ensures { λ r. ⌜ now r ≡ bytesAt (now (s .entry)) p ⌝ }
+{
+    let at = p.at;
+    let end = at + p.len;
+    &s[at..end]
 }
 
 // What the bytes hold at a place.

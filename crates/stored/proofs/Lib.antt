@@ -1,0 +1,4 @@
+-- Laws of stored references.
+pub mod Last
+pub mod Judged
+pub mod Answered
