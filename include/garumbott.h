@@ -1,8 +1,8 @@
 /* garumbott.h: the Garumbott variant module, for programs written in C.
  *
  * Given a reference transcript and one coding edit, the module builds the altered transcript, reads the altered protein from it and answers
- * one protein record, or the one numbered refusal that its rules give. Translation, residue names, the reverse complement and two trims
- * can be called by themselves.
+ * one protein record, or the one numbered refusal that its rules give. References can be read from a stored form. Translation, residue names,
+ * the reverse complement and two trims can be called by themselves.
  *
  * In ten minutes. Put this into first.c, and
  *     cc -std=c11 first.c $(pkg-config --cflags --libs garumbott) -o first && ./first
@@ -165,6 +165,19 @@ struct garumbott_answer {
     uint64_t first;        /* duplication: the number of the first residue that is repeated, else 0 */
 };
 
+/* What garumbott_read_stored answers: a refusal's number and every other number 0, or 0, the reference's numbers, and where its letters and its
+ * exceptions stand in the bytes that were read. Places count from 0. */
+struct garumbott_stored {
+    uint64_t refusal; /* GARUMBOTT_REFUSAL_.., or 0 */
+    uint64_t cs;
+    uint64_t ce;
+    uint64_t table;
+    uint64_t letters_at; /* the letters: data[letters_at] .. data[letters_at + letters_len - 1] */
+    uint64_t letters_len;
+    uint64_t exceptions_at; /* the exceptions, likewise; without a field for them, 0 bytes at 0 */
+    uint64_t exceptions_len;
+};
+
 /* ---- Edits -------------------------------------------------------------------------------------------------------------------------- */
 
 /* The whole answer to one edit of a reference.
@@ -211,6 +224,30 @@ struct garumbott_answer garumbott_edit(const uint8_t *letters, uint64_t letters_
                                        const uint8_t *exceptions, uint64_t exceptions_len, uint64_t kind, uint64_t start_star,
                                        int64_t start, uint64_t end_star, int64_t end, const uint8_t *bases, uint64_t bases_len,
                                        uint8_t *transcript, uint64_t transcript_len);
+
+/* ---- Stored references -------------------------------------------------------------------------------------------------------------- */
+
+/* Reads a reference from its stored form, and judges it: 1 to 6 are tested here as in garumbott_record.
+ *
+ * The stored form is fields, one behind the other, with nothing else between or behind them. A field is a tag of one byte, a length of two
+ * bytes and as many bytes of content as the length says. Every number of two bytes has its high byte first. Tags rise, so none comes twice:
+ *   1   letters      the transcript
+ *   2   bounds       cs, then ce, two bytes each
+ *   3   table        one byte
+ *   4   exceptions   three bytes each, as above; the field may be empty, or absent
+ * The reference of the example above is "\1\0\27GGATGGCCAAATGGTAACCTGAC" "\2\0\4\0\3\0\21" "\3\0\1\0".
+ *
+ * Refusals, the first that applies:
+ *   20, 21, 23   met in the order of the fields; in one field 21 before 20 before 23.
+ *                20: the bytes end within the field.
+ *                21: the tag isn't 1 to 4, or isn't above the tag before it.
+ *                23: the length isn't 4 for tag 2, 1 for tag 3, or divisible by three for tag 4; tag 1 may have any length here
+ *   22           tag 1, 2 or 3 is missing
+ *   1 to 6       the lowest
+ *
+ * Nothing is copied: the letters and the exceptions stay where they stand in data, which must stay as it is while they are used.
+ * garumbott_reference_at, below, makes of the answer what garumbott_record_of and garumbott_edit_of take. */
+struct garumbott_stored garumbott_read_stored(const uint8_t *data, uint64_t data_len);
 
 /* ---- Byte strings ------------------------------------------------------------------------------------------------------------------- */
 
@@ -270,6 +307,20 @@ struct garumbott_buffers {
     uint8_t *altered;
     uint64_t altered_len;
 };
+
+/* The reference that garumbott_read_stored found in data; it points into data. Of a refusal: a reference without letters, refused with 1. */
+static inline struct garumbott_reference garumbott_reference_at(const struct garumbott_stored *s, const uint8_t *data)
+{
+    struct garumbott_reference r;
+    r.letters = s->letters_len == 0 ? NULL : data + s->letters_at;
+    r.letters_len = s->letters_len;
+    r.cs = s->cs;
+    r.ce = s->ce;
+    r.table = s->table;
+    r.exceptions = s->exceptions_len == 0 ? NULL : data + s->exceptions_at;
+    r.exceptions_len = s->exceptions_len;
+    return r;
+}
 
 static inline struct garumbott_answer garumbott_record_of(const struct garumbott_reference *r, const struct garumbott_coding_edit *e,
                                                           const struct garumbott_buffers *b)
