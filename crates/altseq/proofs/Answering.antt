@@ -22,8 +22,8 @@ use Rattle.rules.proofs.Reference.{accepted, protein-read}
 use Rattle.rules.proofs.Refusal.{refused-reference, refused-edit}
 use Rattle.rules.proofs.Altered.{longestAltered, altered-length}
 use Rattle.rules.proofs.Answers.{refused-by, unknown-by, room-by, all-by}
-use Rattle.edits.specs.declared.Cds.{Cds}
-use Rattle.edits.specs.Views.{bare, Sound}
+use Rattle.positions.specs.declared.Cds.{Cds}
+use Rattle.positions.specs.Views.{bare, Sound}
 use Rattle.edits.specs.Plans.{planOf, roomBy}
 use Rattle.edits.specs.declared.swaps.Plan.{Plan}
 use Rattle.altseq.specs.declared.reference.Known.{Known}

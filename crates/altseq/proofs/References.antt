@@ -25,13 +25,13 @@ use Rattle.rules.proofs.Translation.{length-exceptions, first-exceptions}
 use Rattle.rules.proofs.Reference.{Bounds, bounds-of, length-cds, length-protein, protein-read}
 use Rattle.rules.proofs.Altered.{longestAltered}
 use Rattle.codons.specs.Tables.{isBase}
-use Rattle.edits.specs.declared.Cds.{Cds}
-use Rattle.edits.specs.Views.{bare, Sound}
+use Rattle.positions.specs.declared.Cds.{Cds}
+use Rattle.positions.specs.Views.{bare, Sound}
 use Rattle.altseq.specs.declared.reference.Known.{Known}
 use Rattle.altseq.specs.declared.reference.Checked.{Checked}
 use Rattle.altseq.specs.declared.reference.Checked.the-variants as checked
-use Rattle.sequences.specs.Residues.{areBases}
-use Rattle.sequences.proofs.Strict.{strict-letters, strict-translated, whole-bases}
+use Rattle.translation.specs.Residues.{areBases}
+use Rattle.translation.proofs.Strict.{strict-letters, strict-translated, whole-bases}
 use Rattle.altseq.specs.Known.{referenceOf, isException, earlyRefusal, proteinUnless, knownOf, checkedBy, readOf, checkedOf, Readable, Knows}
 
 -- one test by the other

@@ -33,10 +33,10 @@ use Rattle.rules.proofs.Altered.{AlteredLength, altered-length, altered-letters
 use Rattle.rules.proofs.Records.{record-known}
 use Rattle.rules.proofs.Answers.{Fits, fits}
 use Rattle.codons.specs.Tables.{isBase}
-use Rattle.edits.specs.Moving.{Moves, Given}
-use Rattle.edits.proofs.Tests.{fitting}
-use Rattle.edits.proofs.Moving.{moves-of, given-of, moved-is}
-use Rattle.sequences.specs.Residues.{areBases}
+use Rattle.exceptions.specs.Moving.{Moves, Given}
+use Rattle.positions.proofs.Tests.{fitting}
+use Rattle.exceptions.proofs.Moving.{moves-of, given-of, moved-is}
+use Rattle.translation.specs.Residues.{areBases}
 use Rattle.edits.specs.Plans.{planOf, silentWithin}
 use Rattle.altseq.specs.Transcript.{carriedBy}
 use Rattle.altseq.specs.Transcript as transcript
@@ -44,7 +44,7 @@ use Rattle.altseq.proofs.Transcripts.{fits-of, carried-by-is}
 use Rattle.edits.specs.declared.swaps.Plan.{Plan}
 use Rattle.altseq.specs.Decisions.{Clear}
 use Rattle.edits.proofs.Numbers.{silent-is}
-use Rattle.sequences.proofs.Strict.{strict-letters, strict-translated, whole-bases}
+use Rattle.translation.proofs.Strict.{strict-letters, strict-translated, whole-bases}
 use Rattle.altseq.proofs.Plain.{bases-stay}
 
 module _ (r : Reference) (a : Asked) (room : Room) (x : Clear r a room) where

@@ -13,8 +13,8 @@ use Rattle.rules.specs.Translation.{exceptionList, isResidue}
 use Rattle.rules.specs.Reference.{Reference, codons, fitExceptions, referenceProtein, endsInStop, referenceTests}
 use Rattle.rules.specs.Refusal.{referenceRefusal, Room}
 use Rattle.codons.specs.Tables.{isBase}
-use Rattle.edits.specs.declared.Cds.{Cds}
-use Rattle.edits.specs.Views.{Sound}
+use Rattle.positions.specs.declared.Cds.{Cds}
+use Rattle.positions.specs.Views.{Sound}
 use Rattle.altseq.specs.declared.reference.Known.{Known}
 use Rattle.altseq.specs.declared.reference.Checked.{Checked}
 use Rattle.altseq.specs.declared.reference.Checked.the-variants as checked

@@ -1,14 +1,14 @@
 // What is decided of an edit of a checked reference: 7 to 10, Unknown, or what the edit does. Nothing is written here.
-use edits::Cds;
-use edits::refusals::edit_refusal;
-use edits::refusals::ends_after_transcript;
 use edits::swaps::Plan;
 use edits::swaps::plan_of;
+use positions::Cds;
+use positions::refusals::edit_refusal;
+use positions::refusals::ends_after_transcript;
 use rules::Edit;
 ghost use mathlib.Core.Path.{_≡_};
 ghost use Prim.Native.Nat.{_<_};
 ghost use Rattle.codons.specs.Tables.{plainSet, HoldsSets, HoldsCode};
-ghost use Rattle.edits.specs.Views.{bare, asked, Sound};
+ghost use Rattle.positions.specs.Views.{bare, asked, Sound};
 ghost use Rattle.altseq.specs.Decisions.{decisionOf};
 
 pub enum Decision {

@@ -2,13 +2,13 @@
 use codons::letters::plain_sets;
 use codons::tables::plain_code;
 use codons::tables::residues_of;
-use edits::Cds;
-use edits::positions::least;
+use positions::Cds;
+use positions::places::least;
 use rules::Exception;
 use rules::Exceptions;
-use sequences::all_bases;
 use sequences::all_strict;
-use sequences::write_translated;
+use translation::all_bases;
+use translation::write_translated;
 ghost use mathlib.Core.Path.{_≡_};
 ghost use mathlib.Core.Bool.{_&&_};
 ghost use mathlib.Core.List.{[], _∷_};
@@ -19,7 +19,7 @@ ghost use Rattle.rules.specs.Bytes.{byte, count, over};
 ghost use Rattle.rules.specs.Translation.{exceptionList, residueCount};
 ghost use Rattle.rules.specs.Reference.{areBounds, codons, areRising, referenceProtein};
 ghost use Rattle.codons.specs.Tables.{plainSet, HoldsSets, HoldsCode, HoldsPlain};
-ghost use Rattle.edits.specs.Views.{bare};
+ghost use Rattle.positions.specs.Views.{bare};
 ghost use Rattle.altseq.specs.Known.{cdsOf, referenceOf, isException, earlyRefusal, proteinUnless, readOf, checkedOf, Readable};
 
 // What is known of a reference that isn't refused; its letters, its exceptions and R are lent beside it. `residues` is R's length. The letters

@@ -20,7 +20,7 @@ use Rattle.rules.proofs.Translation.{length-translated}
 use Rattle.rules.proofs.Reading.{stop-found, no-stop}
 use Rattle.codons.specs.Tables.{plainSet}
 use Rattle.codons.proofs.Sets.{letter-plain}
-use Rattle.sequences.proofs.Strict.{strict-whole}
+use Rattle.translation.proofs.Strict.{strict-whole}
 use Rattle.edits.specs.declared.stops.Cut.{Cut}
 use Rattle.edits.specs.Cuts.{framedBy, cutOf}
 

@@ -2,5 +2,3 @@
 pub mod Cuts
 pub mod Numbers
 pub mod Plans
-pub mod Tests
-pub mod Moving

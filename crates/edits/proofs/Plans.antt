@@ -29,12 +29,12 @@ use Rattle.edits.specs.declared.swaps.Range.{Range}
 use Rattle.edits.specs.declared.swaps.Source.{Source}
 use Rattle.edits.specs.declared.swaps.Source.the-variants.{New, Copy, Turned}
 use Rattle.edits.specs.declared.swaps.Plan.{Plan}
-use Rattle.edits.specs.declared.Cds.{Cds}
-use Rattle.edits.specs.Views.{bare, asked, Sound}
+use Rattle.positions.specs.declared.Cds.{Cds}
+use Rattle.positions.specs.Views.{bare, asked, Sound}
 use Rattle.edits.specs.Cuts.{framedBy, cutOf}
 use Rattle.edits.specs.Plans.{sourceOf, planOf, sourceBytes, goesIn, Planned, isReplacing, isInserting, Ranges, Replaces, Inserts, Keeps, shiftBy}
 use Rattle.edits.proofs.Cuts.{cut-le}
-use Rattle.edits.proofs.Tests.{edit-allowed, edit-indexes, edit-fitting}
+use Rattle.positions.proofs.Tests.{edit-allowed, edit-indexes, edit-fitting}
 
 never : false ≡ true → ⊥
 never h = let z : _≡_ {A = ℕ} 0 1 = cc in omega arith

@@ -3,7 +3,7 @@ use codons::letters::plain_set;
 use codons::tables::residue_in;
 use rules::Exception;
 use rules::Exceptions;
-use sequences::first_stop;
+use translation::first_stop;
 ghost use Prim.Native.Nat.{_+_, _<_, _≤_};
 ghost use mathlib.Core.Path.{_≡_};
 ghost use mathlib.Core.Bool.{true};

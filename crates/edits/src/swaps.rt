@@ -1,10 +1,10 @@
 // "Positions and edits": what an accepted edit does, in numbers; the number of a silent record, and refusals 11 and 12.
-use crate::Cds;
-use crate::positions::counted_of;
-use crate::positions::index_of;
-use crate::positions::least;
-use crate::refusals::is_duplication;
 use crate::stops::insert_stop_seq_end;
+use positions::Cds;
+use positions::places::counted_of;
+use positions::places::index_of;
+use positions::places::least;
+use positions::refusals::is_duplication;
 use rules::Edit;
 use rules::Kind;
 use sequences::equals;
@@ -18,8 +18,8 @@ ghost use Rattle.rules.specs.Position.{isOutside, index};
 ghost use Rattle.rules.specs.Edit.{Asked};
 ghost use Rattle.rules.specs.Record.{within};
 ghost use Rattle.codons.specs.Tables.{plainSet, HoldsSets, HoldsCode};
-ghost use Rattle.edits.specs.declared.Cds.{Cds};
-ghost use Rattle.edits.specs.Views.{bare, asked, Bounded, Sound};
+ghost use Rattle.positions.specs.declared.Cds.{Cds};
+ghost use Rattle.positions.specs.Views.{bare, asked, Bounded, Sound};
 ghost use Rattle.edits.specs.Plans.{planOf, Planned, Replaces, Inserts, Keeps, shiftBy, silentWithin, roomBy};
 
 // Where what goes in comes from: the new bases, a copy of start..end, or its reverse complement.

@@ -5,10 +5,10 @@ use rules::Part;
 use rules::Record;
 use sequences::common_prefix_len;
 use sequences::common_suffix_len;
+use sequences::equals;
 ghost use mathlib.Core.Path.{_≡_};
 ghost use Prim.Native.Nat.{_+_, _≤_};
 ghost use lib.ListN.{length, getD};
-ghost use Rattle.rules.specs.Bytes.{same};
 ghost use Rattle.rules.specs.Record.{ending, isCopy, classByCounts, classBy, firstCopied, changeAt, recordFrom};
 
 // The byte at i, or 0 past the end.
@@ -16,16 +16,6 @@ fn byte_at(s: &[u8], i: usize) -> u8
     ensures { λ r. ⌜ r ≡ getD (now (s .entry)) i 0 ⌝ }
 {
     if i < s.len() { s[i] } else { 0 }
-}
-
-// Whether two byte strings are the same.
-pub fn equals(a: &[u8], b: &[u8]) -> bool
-    ensures { λ r. ⌜ r ≡ same (now (a .entry)) (now (b .entry)) ⌝ }
-{
-    if a.len() != b.len() {
-        return false;
-    }
-    common_prefix_len(a, b) == a.len()
 }
 
 // The class by what is deleted and inserted alone.

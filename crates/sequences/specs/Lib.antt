@@ -1,3 +1,2 @@
 -- Definitions that the contracts of the crate's inner functions cite.
 pub mod Names
-pub mod Residues

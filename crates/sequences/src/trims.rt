@@ -1,6 +1,8 @@
 // The number of equal first, or equal last, bytes of two byte strings, and whether they are the same.
 ghost use mathlib.Core.Path.{_≡_};
-ghost use Prim.Native.Nat.{min};
+ghost use Prim.Native.Nat.{_+_, _-_, _≤_, min};
+ghost use lib.Dec.{eqb};
+ghost use lib.ListN.{length, take, drop};
 ghost use Rattle.rules.specs.Bytes.{same};
 ghost use Rattle.rules.specs.Trims.{commonPrefix, commonSuffix};
 
@@ -10,11 +12,68 @@ pub(crate) fn least(a: usize, b: usize) -> usize
     if a < b { a } else { b }
 }
 
+fn same_byte(a: u8, b: u8) -> bool
+    ensures { λ r. ⌜ r ≡ eqb a b ⌝ }
+{
+    a == b
+}
+
+// Whether two blocks are the same. It looks at all of both, so that it goes many bytes at a time.
+fn same_block(a: &[u8], b: &[u8]) -> bool
+    requires { ⌜ length (now a) ≡ length (now b) ⌝ }
+    ensures { λ r. ⌜ r ≡ same (now (a .entry)) (now (b .entry)) ⌝ }
+{
+    let mut good = true;
+    let mut i = 0;
+    while i < a.len() {
+        good = good & same_byte(a[i], b[i]);
+        i += 1;
+    }
+    good
+}
+
+// How many first bytes are equal, in whole blocks.
+fn equal_first_blocks(a: &[u8], b: &[u8], n: usize) -> usize
+    requires { ⌜ (n ≤ length (now a)) × (n ≤ length (now b)) ⌝ }
+    ensures { λ r. ⌜ r ≤ n ⌝ }
+    ensures { λ r. ⌜ commonPrefix (now (a .entry)) (now (b .entry)) ≡ r + commonPrefix (drop r (now (a .entry))) (drop r (now (b .entry))) ⌝ }
+{
+    let mut i = 0;
+    while 64 <= n - i {
+        let end = i + 64;
+        if !same_block(&a[i..end], &b[i..end]) {
+            return i;
+        }
+        i = end;
+    }
+    i
+}
+
+// How many last bytes are equal, in whole blocks.
+fn equal_last_blocks(a: &[u8], b: &[u8], n: usize) -> usize
+    requires { ⌜ (n ≤ length (now a)) × (n ≤ length (now b)) ⌝ }
+    ensures { λ r. ⌜ r ≤ n ⌝ }
+    ensures { λ r. ⌜ commonSuffix (now (a .entry)) (now (b .entry)) ≡ r + commonSuffix (take (length (now (a .entry)) - r) (now (a .entry))) (take (length (now (b .entry)) - r) (now (b .entry))) ⌝ }
+{
+    let mut i = 0;
+    while 64 <= n - i {
+        let p = a.len() - i - 64;
+        let p_end = p + 64;
+        let q = b.len() - i - 64;
+        let q_end = q + 64;
+        if !same_block(&a[p..p_end], &b[q..q_end]) {
+            return i;
+        }
+        i += 64;
+    }
+    i
+}
+
 pub fn common_prefix_len(a: &[u8], b: &[u8]) -> usize
     ensures { λ r. ⌜ r ≡ commonPrefix (now (a .entry)) (now (b .entry)) ⌝ }
 {
     let n = least(a.len(), b.len());
-    let mut i = 0;
+    let mut i = equal_first_blocks(a, b, n);
     while i < n {
         if a[i] != b[i] {
             return i;
@@ -28,7 +87,7 @@ pub fn common_suffix_len(a: &[u8], b: &[u8]) -> usize
     ensures { λ r. ⌜ r ≡ commonSuffix (now (a .entry)) (now (b .entry)) ⌝ }
 {
     let n = least(a.len(), b.len());
-    let mut i = 0;
+    let mut i = equal_last_blocks(a, b, n);
     while i < n {
         if a[a.len() - 1 - i] != b[b.len() - 1 - i] {
             return i;

@@ -6,7 +6,7 @@ use crate::plain::print_number;
 use codons::reader::plain_codon;
 use codons::tables::residue_in;
 use codons::tables::residues_of;
-use sequences::translate;
+use translation::translate_cds;
 ghost use mathlib.Core.Path.{_≡_};
 ghost use Prim.Native.Nat.{_+_, _*_, _<_, _≤_};
 ghost use lib.ListN.{length};
@@ -22,7 +22,7 @@ const PLAIN: [u8; 192] = *b"\
 fn print_code(table: usize) {
     let seq = PLAIN;
     let mut out = [0u8; 64];
-    let answer = translate(&seq, table, no_exceptions(), true, &mut out);
+    let answer = translate_cds(&seq, table, no_exceptions(), true, &mut out);
     io::write_all(1, b"code ");
     print_number(table);
     print_answer(answer, &out);
@@ -80,7 +80,7 @@ fn print_ambiguous(table: usize) {
     let mut seq = [0u8; 10125];
     put_codons(&mut seq);
     let mut out = [0u8; 3375];
-    let answer = translate(&seq, table, no_exceptions(), true, &mut out);
+    let answer = translate_cds(&seq, table, no_exceptions(), true, &mut out);
     io::write_all(1, b"ambiguous ");
     print_number(table);
     print_answer(answer, &out);

@@ -5,7 +5,7 @@ use rules::Written;
 use sequences::aa1_to_aa3;
 use sequences::aa3_to_aa1;
 use sequences::revcomp;
-use sequences::translate;
+use translation::translate_cds;
 
 pub fn no_exceptions() -> Exceptions {
     Exceptions {
@@ -77,7 +77,7 @@ fn print_length(letters: &[u8], n: usize) {
     if letters.len() < n {
         return;
     }
-    match translate(&letters[0..n], 0, no_exceptions(), false, &mut out) {
+    match translate_cds(&letters[0..n], 0, no_exceptions(), false, &mut out) {
         Written::Bytes(m) => {
             io::write_all(1, b" residues ");
             print_number(m);

@@ -8,7 +8,7 @@ use rules::Written;
 use sequences::aa1_to_aa3;
 use sequences::aa3_to_aa1;
 use sequences::revcomp;
-use sequences::translate;
+use translation::translate_cds;
 
 fn print_outcome(name: &[u8], answer: Written, out: &[u8]) {
     io::write_all(1, name);
@@ -29,7 +29,7 @@ fn print_outcome(name: &[u8], answer: Written, out: &[u8]) {
 
 fn try_translation(name: &[u8], seq: &[u8], table: usize, e: Exceptions, full: bool) {
     let mut out = [b'.'; 8];
-    let answer = translate(seq, table, e, full, &mut out);
+    let answer = translate_cds(seq, table, e, full, &mut out);
     print_outcome(name, answer, &out);
 }
 

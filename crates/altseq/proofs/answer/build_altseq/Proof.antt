@@ -8,8 +8,8 @@ use lib.Seq.{length-take-le}
 use Rattle.rules.specs.Refusal.{limits}
 use Rattle.rules.specs.Translation.{residueCount}
 use Rattle.codons.specs.Tables.{HoldsCode, HoldsPlain}
-use Rattle.edits.specs.declared.Cds.{Cds}
-use Rattle.edits.specs.Views.{asked}
+use Rattle.positions.specs.declared.Cds.{Cds}
+use Rattle.positions.specs.Views.{asked}
 use Rattle.altseq.specs.Known.{cdsOf, referenceOf, roomOf}
 use Rattle.altseq.proofs.References.{readable, protein-room, refused-early, read-refused, read-accepted, cds-known, residues-within, knows}
 use Rattle.altseq.proofs.Answering.{reference-refused, answers-cds}

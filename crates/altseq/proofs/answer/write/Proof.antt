@@ -6,8 +6,8 @@ use borrow.Author.Needs.{needs}
 use lib.ListN.{length}
 use lib.Seq.{length-take-le}
 use Rattle.rules.specs.Translation.{exceptionList}
-use Rattle.edits.specs.Views.{asked}
-use Rattle.edits.proofs.Moving.{given-of}
+use Rattle.positions.specs.Views.{asked}
+use Rattle.exceptions.proofs.Moving.{given-of}
 use Rattle.altseq.specs.declared.reference.Known.{Known}
 use Rattle.altseq.specs.Known.{referenceOf, roomOf, knownOf}
 use Rattle.altseq.proofs.Writing.{first-base, all-fit, plan-fits, transcript-front, transcript-fits, exceptions-move, coding-readable, coding-bases, coding-room, altered-fits, reports}

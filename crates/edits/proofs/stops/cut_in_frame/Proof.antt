@@ -2,7 +2,7 @@
 -- Assumes nothing.
 use native.Mathlib.Omega.{arith}
 use borrow.Author.Needs.{needs}
-use Rattle.sequences.proofs.Strict.{strict-letters}
+use Rattle.translation.proofs.Strict.{strict-letters}
 use Rattle.edits.proofs.Cuts.{cut-found-at, cut-nowhere}
 use Rattle.edits.proofs.stops.cut_in_frame.Statement.{statement}
 use Rattle.edits.proofs.stops.cut_in_frame.Tie as tie

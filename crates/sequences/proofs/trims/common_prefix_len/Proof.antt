@@ -19,18 +19,18 @@ abbrev μ-loop : tie.MeasureT-loop
 
 returns : tie.Need-returns Inv-loop μ-loop
 returns c =
-    let args = c .before .before .before .before .before .before .before .before .args in
+    let args = c .before .before .before .before .before .before .before .before .before .args in
     omega (arith, cp-stop (args .a .now) (args .b .now) (c .before .before .before .before .loop .i) (omega arith) (omega arith) (c .if1 .taken))
 
 loop-again : tie.Need-loop-again Inv-loop μ-loop
 loop-again c =
-    let args = c .before .before .before .before .before .before .before .before .args in
+    let args = c .before .before .before .before .before .before .before .before .before .args in
     simp add-one (omega (arith, cp-more (args .a .now) (args .b .now) (c .before .before .before .before .loop .i) (omega arith) (omega arith) (c .if1 .left)))
 
 returns-2 : tie.Need-returns-2 Inv-loop μ-loop
 returns-2 c =
-    let a = c .before .before .before .before .before .args .a .now in
-    let b = c .before .before .before .before .before .args .b .now in
+    let a = c .before .before .before .before .before .before .args .a .now in
+    let b = c .before .before .before .before .before .before .args .b .now in
     let i = c .before .loop .i in
     omega (arith, cp-le-l (drop i a) (drop i b), cp-le-r (drop i a) (drop i b), length-drop i a, length-drop i b)
 
@@ -40,6 +40,7 @@ common-prefix-len-spec =
     (tie.spec
     Inv-loop
     μ-loop
+    (λ c κs. search needs)
     (λ c κs. search needs)
     (λ c. search needs)
     (λ c. search needs)

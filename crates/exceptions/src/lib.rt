@@ -1,0 +1,98 @@
+// "Positions and edits": exceptions move.
+use rules::Exception;
+use rules::Exceptions;
+use sequences::common_prefix_len;
+use sequences::common_suffix_len;
+ghost use mathlib.Core.Path.{_≡_};
+ghost use Prim.Native.Nat.{_+_, _*_, _≤_};
+ghost use lib.ListN.{length};
+ghost use Rattle.rules.specs.Translation.{exceptionList};
+ghost use Rattle.rules.specs.Trims.{commonPrefix};
+ghost use Rattle.rules.specs.Exceptions.{movedOne, movedAll};
+ghost use Rattle.exceptions.specs.Moving.{leftOf, Moves, Given, Shared};
+
+// What becomes of an exception.
+enum Moved {
+    To(Exception),
+    Dropped,
+}
+
+// A codon wholly in the prefix stays; one wholly in the suffix moves by the length change if it lands in frame; the others are dropped.
+fn moved_one(
+    x: Exception,
+    first: usize,
+    prefix: usize,
+    suffix: usize,
+    old: &[u8],
+    new: &[u8],
+) -> Moved
+    requires { ⌜ Moves first (now old) (now new) ⌝ }
+    requires { ⌜ Shared prefix suffix (now old) (now new) ⌝ }
+    requires { ⌜ (1 ≤ x .codon) × (first + 3 * x .codon ≤ length (now old)) ⌝ }
+    ensures { λ r. ⌜ leftOf r ≡ movedOne prefix first (now (old .entry)) (now (new .entry)) x ⌝ }
+{
+    let at = first + 3 * (x.codon - 1);
+    if at + 3 <= prefix {
+        return Moved::To(x);
+    }
+    if at < old.len() - suffix {
+        return Moved::Dropped;
+    }
+    let to = at + new.len() - old.len();
+    if to % 3 != first % 3 {
+        return Moved::Dropped;
+    }
+    Moved::To(Exception {
+        codon: (to - first) / 3 + 1,
+        residue: x.residue,
+    })
+}
+
+// All of them, in their order.
+fn moved_all(
+    e: Exceptions,
+    first: usize,
+    prefix: usize,
+    suffix: usize,
+    old: &[u8],
+    new: &[u8],
+) -> Exceptions
+    requires { ⌜ Moves first (now old) (now new) ⌝ }
+    requires { ⌜ Shared prefix suffix (now old) (now new) ⌝ }
+    requires { ⌜ Given first (now old) e ⌝ }
+    ensures { λ r. ⌜ exceptionList r ≡ movedAll prefix first (now (old .entry)) (now (new .entry)) (exceptionList e) ⌝ }
+    ensures few { λ r. ⌜ r .count ≤ 16 ⌝ }
+{
+    let given = e.all;
+    let count = e.count;
+    let mut all = e.all;
+    let mut n = 0;
+    let mut i = 0;
+    while i < count {
+        let x = given[i];
+        match moved_one(x, first, prefix, suffix, old, new) {
+            Moved::To(y) => {
+                all[n] = y;
+                n += 1;
+            }
+            Moved::Dropped => {}
+        }
+        i += 1;
+    }
+    Exceptions { all, count: n }
+}
+
+// The exceptions of the transcript `new` that an edit makes of `old`, whose CDS begins at index `first`.
+pub fn alt_translation_exceptions(old: &[u8], new: &[u8], first: usize, e: Exceptions) -> Exceptions
+    requires { ⌜ Moves first (now old) (now new) ⌝ }
+    requires { ⌜ Given first (now old) e ⌝ }
+    ensures { λ r. ⌜ exceptionList r ≡ movedAll (commonPrefix (now (old .entry)) (now (new .entry))) first (now (old .entry)) (now (new .entry)) (exceptionList e) ⌝ }
+    ensures few { λ r. ⌜ r .count ≤ 16 ⌝ }
+{
+    if e.count == 0 {
+        return e;
+    }
+    let prefix = common_prefix_len(old, new);
+    let suffix = common_suffix_len(&old[prefix..], &new[prefix..]);
+    moved_all(e, first, prefix, suffix, old, new)
+}

@@ -1,0 +1,120 @@
+-- Laws of positions that aren't outside, of a loop over all letters, and of what a checked reference and an edit that isn't refused leave.
+-- Assumes nothing.
+use mathlib.Core.Path.{_≡_, refl}
+use mathlib.Core.Bool.{Bool, true, false, _&&_, _||_, and-assoc}
+use mathlib.Core.List.{List, [], _∷_}
+use Prim.Native.Nat.{ℕ, suc, _+_, _-_, _≤_, _<_, max, zero-le}
+use native.Mathlib.Numerals.{add-one}
+use native.Mathlib.Omega.{arith}
+use borrow.Author.Tests.{leb-true, ne-eqb}
+use lib.Dec.{eqb, leb}
+use lib.ListN.{length, drop, getD, drop-of-length-le}
+use lib.Seq.{drop-cons}
+use Rattle.rules.specs.declared.Kind.{Kind}
+use Rattle.rules.specs.declared.Kind.the-variants.{Substitution, Deletion, Delins, Insertion, Duplication, Inversion, Identity, Other}
+use Rattle.rules.specs.declared.Position.{Position}
+use Rattle.rules.specs.declared.Position.the-variants.{Plus, Minus, Star}
+use Rattle.rules.specs.declared.Edit.{Edit}
+use Rattle.rules.specs.Bytes.{isNone, all, firstOf}
+use Rattle.rules.specs.Letters.{isLetter}
+use Rattle.rules.specs.Reference.{Reference, size}
+use Rattle.rules.specs.Position.{isOutside}
+use Rattle.rules.specs.Edit.{Asked, is, kindOf, endsPast, isMisplaced, areBases, fitBases, editTests}
+use Rattle.rules.proofs.Tests.{and-left, and-right, or-left, or-right}
+use Rattle.rules.proofs.Reference.{Bounds}
+use Rattle.rules.proofs.Refusal.{Allowed, allowed}
+use Rattle.rules.proofs.Span.{within, Indexes, indexes-of}
+use Rattle.positions.specs.declared.Cds.{Cds}
+use Rattle.positions.specs.Views.{bare, asked, Bounded, Sound}
+
+-- the number of a position that isn't outside
+module _ (cs ce : ℕ) (p : Position) (n : ℕ) where
+  pub in-cds : p ≡ Plus n → isOutside cs ce p ≡ false → (1 ≤ n) × (n ≤ ce + 1 - cs)
+  unfolding isOutside
+  in-cds e h = within n (ce + 1 - cs) (rw e at h)
+
+  pub in-front : p ≡ Minus n → isOutside cs ce p ≡ false → (1 ≤ n) × (n ≤ cs - 1)
+  unfolding isOutside
+  in-front e h = within n (cs - 1) (rw e at h)
+
+  pub in-star : p ≡ Star n → isOutside cs ce p ≡ false → (1 ≤ n) × (n ≤ 65535)
+  unfolding isOutside
+  in-star e h = within n 65535 (rw e at h)
+
+-- 7 doesn't apply
+pub both-inside : (r : Reference) (e : Asked) → isMisplaced r e ≡ false → (isOutside (r .cs) (r .ce) (e .edit .start) ≡ false) × (isOutside (r .cs) (r .ce) (e .edit .end) ≡ false)
+unfolding isMisplaced
+both-inside r e h =
+    let start = isOutside (r .cs) (r .ce) (e .edit .start) in
+    let end = isOutside (r .cs) (r .ce) (e .edit .end) in
+    let both = or-left (start || end) (is Duplication (kindOf e) && endsPast r e) h in
+    (or-left start end both, or-right start end both)
+
+-- a loop over all elements that never leaves early: what is passed and what is left tell of the whole
+module _ (p : ℕ → Bool) (s : List ℕ) (i : ℕ) where
+  pub all-turn : (good : Bool) → i < length s → ((good && p (getD s i 0)) && all p (drop (i + 1) s)) ≡ (good && all p (drop i s))
+  unfolding all
+  all-turn good h = rw (add-one, drop-cons s i 0 h) (and-assoc good (p (getD s i 0)) (all p (drop (suc i) s)))
+
+  pub all-done : (good : Bool) → length s ≤ i → (good && all p (drop i s)) ≡ good
+  unfolding all
+  all-done true h = rw (drop-of-length-le s {i = i} h)
+  all-done false h = refl
+
+pub none-given : (s : List ℕ) → eqb (length s) 0 ≡ isNone s
+none-given [] = refl
+none-given (x ∷ s) = ne-eqb (length (x ∷ s)) 0 (λ e. omega arith)
+
+-- new bases that a kind takes, whichever it is
+pub record Fitting (most : ℕ) (s : List ℕ) : Type 0 where
+  pub few : length s ≤ max most 1
+  pub letters : all isLetter s ≡ true
+
+some-fit : (n most : ℕ) (s : List ℕ) → n ≤ max most 1 → areBases n s ≡ true → Fitting most s
+unfolding areBases
+some-fit n most s k h =
+    let counted = leb 1 (length s) && leb (length s) n in
+    let fits = leb-true (length s) n (and-right (leb 1 (length s)) (leb (length s) n) (and-left counted (all isLetter s) h)) in
+    record { few = omega (arith, fits); letters = and-right counted (all isLetter s) h }
+
+none-fit : (most : ℕ) (s : List ℕ) → isNone s ≡ true → Fitting most s
+unfolding all
+none-fit most [] h = record { few = zero-le; letters = refl }
+none-fit most (x ∷ s) h = let z : _≡_ {A = ℕ} 0 1 = cc in absurd (omega arith)
+
+pub fitting : (most : ℕ) (k : Kind) (s : List ℕ) → fitBases most k s ≡ true → Fitting most s
+unfolding fitBases
+fitting most Substitution s h = some-fit 1 most s (omega arith) h
+fitting most Deletion s h = none-fit most s h
+fitting most Delins s h = some-fit most most s (omega arith) h
+fitting most Insertion s h = some-fit most most s (omega arith) h
+fitting most Duplication s h = none-fit most s h
+fitting most Inversion s h = none-fit most s h
+fitting most Identity s h = none-fit most s h
+fitting most Other s h = let z : _≡_ {A = ℕ} 0 1 = cc in absurd (omega arith)
+
+module _ (s : List ℕ) (c : Cds) (known : Sound s c) where
+  pub bounded : Bounded c
+  bounded = record { first = known .first; ordered = known .ordered; small = omega (arith, known .last, known .short) }
+
+  pub bounds : Bounds (bare s c)
+  unfolding size
+  bounds =
+      record {
+        first = known .first;
+        rising = known .ordered;
+        inside = known .last;
+        whole = known .whole;
+        long = known .long;
+      }
+
+  -- none of 7 to 10 applies
+  module _ (most : ℕ) (e : Edit) (new : List ℕ) (none : firstOf (editTests most (bare s c) (asked e new)) ≡ 0) where
+    pub edit-allowed : Allowed most (bare s c) (asked e new)
+    edit-allowed = allowed most (bare s c) (asked e new) none
+
+    pub edit-indexes : Indexes (bare s c) (asked e new)
+    edit-indexes = indexes-of most (bare s c) (asked e new) bounds edit-allowed
+
+    pub edit-fitting : Fitting most new
+    edit-fitting = fitting most (e .kind) new (edit-allowed .bases)

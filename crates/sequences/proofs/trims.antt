@@ -1,0 +1,2 @@
+-- Laws of trims by blocks.
+pub mod Blocks

@@ -1,0 +1,8 @@
+-- Laws of translation by loops.
+pub mod Blocks
+pub mod Residues
+pub mod Places
+pub mod Excepted
+pub mod Walks
+pub mod Answers
+pub mod Strict

@@ -1,0 +1,97 @@
+-- Laws of residues that a loop has still to write, a turn at a time. Assumes nothing.
+use mathlib.Core.Path.{_≡_, refl, sym, ap, _∙_}
+use mathlib.Core.Bool.{Bool, true, false}
+use mathlib.Core.List.{List, [], _∷_, _++_, map}
+use Prim.Native.Nat.{ℕ, zero, suc, _+_, _-_, _*_, _/_, _%_, _≤_, _<_}
+use native.Mathlib.Omega.{arith}
+use lib.ListN.{length, getD, take, drop, set, length-map, List·getD-map}
+use lib.Seq.{getD-take, length-take-le}
+use Rattle.rules.specs.declared.Exception.{Exception}
+use Rattle.rules.specs.Bytes.{byte, all, over}
+use Rattle.rules.specs.Letters.{isLetter, upper, plainLetter}
+use Rattle.rules.specs.Codons.{codonRule, codon}
+use Rattle.rules.specs.Translation.{excepted, residuesFrom, translated, residueCount, plainTranslated, wholeCodons, areLetters}
+use Rattle.rules.proofs.Lists.{all-at, all-map}
+use Rattle.rules.proofs.Over.{overFrom, from-end, from-turn}
+use Rattle.rules.proofs.Translation.{length-residues}
+use Rattle.rules.proofs.Reading.{restOf, residues-more, residues-rest, length-whole}
+use Rattle.codons.specs.Tables.{plainSet, isBase}
+use Rattle.codons.proofs.Sets.{plain-some}
+use Rattle.translation.specs.Residues.{codonAt, areBases}
+
+pub plain-at : (s : List ℕ) (k : ℕ) → getD (map plainLetter s) k 0 ≡ plainLetter (getD s k 0)
+unfolding upper plainLetter
+plain-at s k = List·getD-map plainLetter s k 0
+
+pub codon-sets : (t : ℕ) (s : List ℕ) (i : ℕ) → codonAt t (map plainLetter s) i ≡ codonRule t (plainSet (getD s (i * 3) 0)) (plainSet (getD s (i * 3 + 1) 0)) (plainSet (getD s (i * 3 + 2) 0))
+unfolding codonAt codon plainSet
+codon-sets t s i = rw (plain-at s (i * 3), plain-at s (i * 3 + 1), plain-at s (i * 3 + 2))
+
+-- a byte of a whole codon passes what all of them pass
+whole-at : (p : ℕ → Bool) (s : List ℕ) (k : ℕ) → all p (wholeCodons s) ≡ true → k < length s / 3 * 3 → p (getD s k 0) ≡ true
+unfolding wholeCodons
+whole-at p s k e h =
+    let n : ℕ = length s - length s % 3 in
+    let long : length (take n s) ≡ n = length-take-le n s (omega arith) in
+    ap p (sym (getD-take n s k 0 (omega arith))) ∙ all-at p (take n s) k e (omega arith)
+
+pub letter-at : (s : List ℕ) (k : ℕ) → areLetters s ≡ true → k < length s / 3 * 3 → isLetter (plainLetter (getD s k 0)) ≡ true
+unfolding areLetters
+letter-at s k e h = whole-at (λ b. isLetter (plainLetter b)) s k (sym (all-map isLetter plainLetter (wholeCodons s)) ∙ e) h
+
+pub base-at : (s : List ℕ) (k : ℕ) → areBases s ≡ true → k < length s / 3 * 3 → isBase (getD s k 0) ≡ true
+unfolding areBases
+base-at s k e h = whole-at isBase s k e h
+
+-- what is read there is a set that isn't empty
+pub set-there : (s : List ℕ) (k : ℕ) {r : ℕ} → areLetters s ≡ true → k < length s / 3 * 3 → (r ≡ plainSet (getD s k 0)) × (r < 16) → (0 < r) × (r < 16)
+set-there s k e h is = (rw (is .0) (plain-some (getD s k 0) (letter-at s k e h)), is .1)
+
+-- the residues from codon i on, counted from 0
+unfoldable pub leftFrom : ℕ → List Exception → List ℕ → ℕ → List ℕ
+leftFrom t es s i = residuesFrom t es (i + 1) (drop (i * 3) (map plainLetter s))
+
+module _ (t : ℕ) (es : List Exception) (s : List ℕ) where
+  pub length-plain : length (plainTranslated t es s) ≡ (length s + 2) / 3
+  unfolding plainTranslated translated residueCount
+  length-plain = length-residues t es 1 (map plainLetter s) ∙ ap (λ (n : ℕ). (n + 2) / 3) (length-map s plainLetter)
+
+  pub left-all : leftFrom t es s 0 ≡ plainTranslated t es s
+  unfolding leftFrom plainTranslated translated
+  left-all = refl
+
+  pub left-more : (i : ℕ) → i < length s / 3 → leftFrom t es s i ≡ excepted es (i + 1) (codonAt t (map plainLetter s) i) ∷ leftFrom t es s (i + 1)
+  unfolding leftFrom codonAt
+  left-more i h = residues-more t es (map plainLetter s) i (rw length-map h)
+
+  pub left-rest : (i : ℕ) → i ≡ length s / 3 → leftFrom t es s i ≡ restOf (length s % 3)
+  unfolding leftFrom
+  left-rest i e =
+      residues-rest t es (map plainLetter s) i (i + 1) (rw length-map e) ∙ ap (λ (n : ℕ). restOf (n % 3)) (length-map s plainLetter)
+
+-- without exceptions
+pub left-codon : (t : ℕ) (s : List ℕ) (i : ℕ) → i < length s / 3 → leftFrom t [] s i ≡ codonAt t (map plainLetter s) i ∷ leftFrom t [] s (i + 1)
+unfolding excepted
+left-codon t s i h = left-more t [] s i h
+
+-- the buffer where no byte remains, and where one does
+rest-some : (r : ℕ) → (r ≡ 0 → ⊥) → restOf r ≡ byte "X" ∷ []
+rest-some zero n = absurd (n refl)
+rest-some (suc r) n = refl
+
+module _ (k r : ℕ) (out e : List ℕ) (left : overFrom k (restOf r) out ≡ e) where
+  pub no-rest : r ≡ 0 → out ≡ e
+  no-rest z = sym (from-end k out) ∙ ap (λ (n : ℕ). overFrom k (restOf n) out) (sym z) ∙ left
+
+  pub with-rest : (r ≡ 0 → ⊥) → k < length out → set out k (byte "X") ≡ e
+  with-rest n h = sym (from-end (k + 1) (set out k (byte "X"))) ∙ from-turn k (byte "X") (restOf r) [] out e h (rest-some r n) left
+
+module _ (t : ℕ) (s : List ℕ) (i : ℕ) (out e : List ℕ) where
+  -- a turn stores the residue of its codon
+  pub codon-turn : (v : ℕ) → i < length s / 3 → i < length out → v ≡ codonAt t (map plainLetter s) i → overFrom i (leftFrom t [] s i) out ≡ e → overFrom (i + 1) (leftFrom t [] s (i + 1)) (set out i v) ≡ e
+  codon-turn v h k is left =
+      from-turn i v (leftFrom t [] s i) (leftFrom t [] s (i + 1)) out e k (left-codon t s i h ∙ ap (λ (r : ℕ). r ∷ leftFrom t [] s (i + 1)) (sym is)) left
+
+  -- behind the last turn
+  pub last-turn : (es : List Exception) → i ≡ length s / 3 → overFrom i (leftFrom t es s i) out ≡ e → overFrom (length s / 3) (restOf (length s % 3)) out ≡ e
+  last-turn es h left = rw (← left-rest t es s i h, ← h) left

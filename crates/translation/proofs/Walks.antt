@@ -1,0 +1,138 @@
+-- Laws of a walk to the first stop, a turn at a time. Assumes nothing.
+use mathlib.Core.Path.{_≡_, refl, sym, ap, _∙_}
+use mathlib.Core.List.{List, [], _∷_, map}
+use Prim.Native.Nat.{ℕ, zero, suc, _+_, _-_, _*_, _/_, _%_, _≤_, _<_}
+use native.Mathlib.Omega.{arith}
+use lib.ListN.{length, getD, take, set, length-set}
+use lib.Seq.{getD-take}
+use Rattle.rules.specs.declared.Exception.{Exception}
+use Rattle.rules.specs.declared.Exceptions.{Exceptions}
+use Rattle.rules.specs.Bytes.{byte, over}
+use Rattle.rules.specs.Letters.{plainLetter}
+use Rattle.rules.specs.Translation.{exceptionList, excepted, plainTranslated, beforeStop, throughStop, wholeCodons}
+use Rattle.rules.proofs.Over.{overFrom, from-start, from-end, from-turn}
+use Rattle.rules.proofs.Reading.{restOf, before-here, before-later, through-here, through-later, through-rest, length-whole}
+use Rattle.translation.specs.Residues.{codonAt, nextFrom, WalkedTo}
+use Rattle.translation.proofs.Residues.{plain-at, leftFrom, left-all, left-more, left-rest}
+use Rattle.translation.proofs.Excepted.{Clear, next-clear, still-clear}
+
+-- the residue of codon i, exceptions applied
+unfoldable pub residueAt : ℕ → List Exception → List ℕ → ℕ → ℕ
+residueAt t es s i = excepted es (i + 1) (codonAt t (map plainLetter s) i)
+
+-- a codon with an exception, and one without
+module _ (t : ℕ) (es : List Exception) (s : List ℕ) (i next c : ℕ) (is : c ≡ codonAt t (map plainLetter s) i) where
+  pub at-exception : (past r next′ : ℕ) → i + 1 < past → i + 1 ≡ next → r ≡ excepted es next c → next′ ≡ nextFrom es (next + 1) past → (r ≡ residueAt t es s i) × Clear es (i + 1) next′
+  unfolding residueAt
+  at-exception past r next′ h e x n = (x ∙ rw (e, is), next-clear es (i + 1) past next′ h (rw e n))
+
+  pub at-no-exception : (r next′ : ℕ) → Clear es i next → (i + 1 ≡ next → ⊥) → r ≡ c → next′ ≡ next → (r ≡ residueAt t es s i) × Clear es (i + 1) next′
+  unfolding residueAt
+  at-no-exception r next′ clear n e e′ =
+      let still = still-clear es i next c clear n in
+      (e ∙ rw (← is) (still .0), rw e′ (still .1))
+
+-- before codon i: writing what is left gives the protein, and its length is that of both
+pub record Walk (t : ℕ) (es : List Exception) (s A old out : List ℕ) (i : ℕ) : Type 0 where
+  pub left : overFrom i (throughStop (leftFrom t es s i)) out ≡ over A old
+  pub long : i + length (throughStop (leftFrom t es s i)) ≡ length A
+  pub same : length out ≡ length old
+
+pub walk-start : (t : ℕ) (es : List Exception) (s old : List ℕ) → Walk t es s (throughStop (plainTranslated t es s)) old old 0
+walk-start t es s old =
+    let e : throughStop (leftFrom t es s 0) ≡ throughStop (plainTranslated t es s) = ap throughStop (left-all t es s) in
+    record {
+      left = ap (λ (l : List ℕ). overFrom 0 l old) e ∙ from-start (throughStop (plainTranslated t es s)) old;
+      long = omega (arith, ap (λ (l : List ℕ). length l) e);
+      same = refl;
+    }
+
+module _ (t : ℕ) (es : List Exception) (s A old out : List ℕ) (i v : ℕ) (w : Walk t es s A old out i) (h : i < length s / 3) (k : i < length out) (is : v ≡ residueAt t es s i) where
+  next : leftFrom t es s i ≡ v ∷ leftFrom t es s (i + 1)
+  unfolding residueAt
+  next = left-more t es s i h ∙ ap (λ (r : ℕ). r ∷ leftFrom t es s (i + 1)) (sym is)
+
+  -- a residue that is no `*`
+  pub walk-more : (v ≡ byte "*" → ⊥) → Walk t es s A old (set out i v) (i + 1)
+  walk-more n =
+      let e : throughStop (leftFrom t es s i) ≡ v ∷ throughStop (leftFrom t es s (i + 1)) = ap throughStop next ∙ through-later v (leftFrom t es s (i + 1)) n in
+      record {
+        left = from-turn i v (throughStop (leftFrom t es s i)) (throughStop (leftFrom t es s (i + 1))) out (over A old) k e (w .left);
+        long = omega (arith, ap (λ (l : List ℕ). length l) e, w .long);
+        same = length-set out i v ∙ w .same;
+      }
+
+  -- the first `*`
+  pub walk-stop : v ≡ byte "*" → WalkedTo A (length s) old (set out i v) i
+  walk-stop z =
+      let e : throughStop (leftFrom t es s i) ≡ v ∷ [] = ap throughStop next ∙ through-here v (leftFrom t es s (i + 1)) z in
+      record {
+        stopped = λ _. (omega (arith, ap (λ (l : List ℕ). length l) e, w .long), sym (from-end (i + 1) (set out i v)) ∙ from-turn i v (throughStop (leftFrom t es s i)) [] out (over A old) k e (w .left));
+        ended = λ past. absurd (omega arith);
+      }
+
+length-rest : (n : ℕ) → n / 3 + length (restOf (n % 3)) ≡ (n + 2) / 3
+length-rest n = at (n % 3) refl
+  where
+    at : (r : ℕ) → n % 3 ≡ r → n / 3 + length (restOf r) ≡ (n + 2) / 3
+    at zero e = omega arith
+    at (suc r) e = omega arith
+
+-- no whole codon is left
+pub walk-end : (t : ℕ) (es : List Exception) (s A old out : List ℕ) (i : ℕ) → Walk t es s A old out i → i ≡ length s / 3 → WalkedTo A (length s) old out (length s / 3)
+walk-end t es s A old out i w h =
+    let e : throughStop (leftFrom t es s i) ≡ restOf (length s % 3) = ap throughStop (left-rest t es s i h) ∙ through-rest (length s % 3) in
+    record {
+      stopped = λ less. absurd (omega arith);
+      ended = λ _. (omega (arith, w .long, ap (λ (l : List ℕ). length l) e, length-rest (length s)), rw (← e, ← h) (w .left));
+    }
+
+-- the first stop among the whole codons
+whole-codon : (t : ℕ) (s : List ℕ) (i : ℕ) → i < length s / 3 → codonAt t (map plainLetter (wholeCodons s)) i ≡ codonAt t (map plainLetter s) i
+unfolding codonAt wholeCodons
+whole-codon t s i h =
+    let n : ℕ = length s - length s % 3 in
+    rw (
+      plain-at (take n s) (i * 3),
+      plain-at (take n s) (i * 3 + 1),
+      plain-at (take n s) (i * 3 + 2),
+      plain-at s (i * 3),
+      plain-at s (i * 3 + 1),
+      plain-at s (i * 3 + 2),
+      getD-take n s (i * 3) 0 (omega arith),
+      getD-take n s (i * 3 + 1) 0 (omega arith),
+      getD-take n s (i * 3 + 2) 0 (omega arith),
+    )
+
+module _ (t : ℕ) (es : List Exception) (s : List ℕ) where
+  abbrev pub stopsFrom : ℕ → ℕ
+  stopsFrom i = i + beforeStop (leftFrom t es (wholeCodons s) i)
+
+  pub stops-all : stopsFrom 0 ≡ beforeStop (plainTranslated t es (wholeCodons s))
+  stops-all = omega (arith, ap beforeStop (left-all t es (wholeCodons s)))
+
+  module _ (i v : ℕ) (h : i < length s / 3) (is : v ≡ residueAt t es s i) where
+    codon-left : leftFrom t es (wholeCodons s) i ≡ v ∷ leftFrom t es (wholeCodons s) (i + 1)
+    unfolding residueAt
+    codon-left =
+        left-more t es (wholeCodons s) i (omega (arith, length-whole s))
+        ∙ ap (λ (r : ℕ). r ∷ leftFrom t es (wholeCodons s) (i + 1)) (ap (excepted es (i + 1)) (whole-codon t s i h) ∙ sym is)
+
+    pub stops-later : (v ≡ byte "*" → ⊥) → stopsFrom i ≡ stopsFrom (i + 1)
+    stops-later n =
+        omega (arith, ap beforeStop codon-left, before-later v (leftFrom t es (wholeCodons s) (i + 1)) n)
+
+    pub stops-here : v ≡ byte "*" → stopsFrom i ≡ i
+    stops-here z = omega (arith, ap beforeStop codon-left, before-here v (leftFrom t es (wholeCodons s) (i + 1)) z)
+
+  pub stops-none : (i : ℕ) → i ≡ length s / 3 → stopsFrom i ≡ i
+  unfolding beforeStop
+  stops-none i h =
+      let none : length (wholeCodons s) % 3 ≡ 0 = omega (arith, length-whole s) in
+      let e : leftFrom t es (wholeCodons s) i ≡ [] = left-rest t es (wholeCodons s) i (omega (arith, length-whole s)) ∙ ap restOf none in
+      omega (arith, ap beforeStop e)
+
+-- no exceptions are given
+pub listed-none : (e : Exceptions) → e .count ≡ 0 → exceptionList e ≡ []
+unfolding exceptionList
+listed-none e z = rw z

@@ -1,0 +1,37 @@
+-- `translation::codon_at` meets its contract: the three bytes of a whole codon are letters.
+-- Assumes nothing.
+use Prim.Native.Nat.{_+_, _*_}
+use native.Mathlib.Omega.{arith}
+use borrow.Author.Needs.{needs}
+use Rattle.translation.proofs.Residues.{codon-sets, set-there}
+use Rattle.translation.proofs.reading.codon_at.Statement.{statement}
+use Rattle.translation.proofs.reading.codon_at.Tie as tie
+
+residue-in-requires : tie.Need-residue-in-requires
+residue-in-requires c κs =
+    let s = c .before .before .before .before .before .before .before .args .seq .now in
+    let i = c .before .before .before .before .before .before .before .args .i in
+    let letters = c .before .before .before .before .before .before .before .pre .1 .1 .0 in
+    (c .before .before .before .before .before .before .before .pre .1 .0, (set-there s (i * 3) letters (omega arith) (c .before .before .before .before .plain-set .ensures), (set-there s (i * 3 + 1) letters (omega arith) (c .before .before .plain-set2 .ensures), set-there s (i * 3 + 2) letters (omega arith) (c .plain-set3 .ensures))))
+
+returns : tie.Need-returns
+returns c =
+    cc (codon-sets (c .before .before .before .before .before .before .before .before .args .table) (c .before .before .before .before .before .before .before .before .args .seq .now) (c .before .before .before .before .before .before .before .before .args .i))
+
+pub codon-at-spec : {M : Type 1} → statement M
+codon-at-spec =
+    tie.close
+    (tie.spec
+    (λ c. search needs)
+    (λ c. search needs)
+    (λ c κs. search needs)
+    (λ c. search needs)
+    (λ c. search needs)
+    (λ c. search needs)
+    (λ c κs. search needs)
+    (λ c. search needs)
+    (λ c. search needs)
+    (λ c. search needs)
+    (λ c κs. search needs)
+    residue-in-requires
+    returns)

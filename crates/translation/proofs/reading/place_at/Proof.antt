@@ -1,0 +1,31 @@
+-- `translation::place_at` meets its contract. Assumes nothing.
+use borrow.Author.Needs.{needs}
+use Rattle.translation.specs.Residues.{placeAt}
+use Rattle.translation.proofs.reading.place_at.Statement.{statement}
+use Rattle.translation.proofs.reading.place_at.Tie as tie
+
+returns : tie.Need-returns
+unfolding placeAt
+returns c =
+    cc
+
+pub place-at-spec : {M : Type 1} → statement M
+place-at-spec =
+    tie.close
+    (tie.spec
+    (λ c. search needs)
+    (λ c. search needs)
+    (λ c κs. search needs)
+    (λ c. search needs)
+    (λ c. search needs)
+    (λ c. search needs)
+    (λ c κs. search needs)
+    (λ c. search needs)
+    (λ c. search needs)
+    (λ c. search needs)
+    (λ c κs. search needs)
+    (λ c. search needs)
+    (λ c. search needs)
+    (λ c. search needs)
+    (λ c. search needs)
+    returns)

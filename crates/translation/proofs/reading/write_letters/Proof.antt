@@ -1,0 +1,13 @@
+-- `translation::write_letters` meets its contract, whichever way is taken. Assumes nothing.
+use borrow.Author.Needs.{needs}
+use Rattle.translation.proofs.reading.write_letters.Statement.{statement}
+use Rattle.translation.proofs.reading.write_letters.Tie as tie
+
+write-plain-requires : tie.Need-write-plain-requires
+write-plain-requires c κs =
+    (search needs, (c .before .before .before .before .pre .1 .1 .1 .1 .0 (c .before .if1 .taken), search needs))
+
+pub write-letters-spec : {M : Type 1} → statement M
+write-letters-spec =
+    tie.close
+    (tie.spec write-plain-requires (λ c κs. search needs) (λ c. search needs) (λ c. search needs) (λ c. search needs) (λ c. search needs))

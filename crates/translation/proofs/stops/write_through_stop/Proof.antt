@@ -1,0 +1,52 @@
+-- `translation::write_through_stop` meets its contract: the walk, and the X where it met no stop and bytes remain.
+-- Assumes nothing.
+use Prim.Native.Nat.{_/_, _%_}
+use native.Mathlib.Omega.{arith}
+use borrow.Author.Needs.{needs}
+use lib.ListN.{length}
+use Rattle.rules.specs.Translation.{residueCount}
+use Rattle.translation.proofs.Residues.{no-rest, with-rest}
+use Rattle.translation.proofs.stops.write_through_stop.Statement.{statement}
+use Rattle.translation.proofs.stops.write_through_stop.Tie as tie
+
+returns : tie.Need-returns
+returns c =
+    c .before .before .before .write-walk .ensures .stopped (c .if1 .taken)
+
+slice-write-out : tie.Need-slice-write-out
+unfolding residueCount
+slice-write-out c =
+    omega (arith, c .if2 .taken, c .before .before .before .before .write-walk .kept .1 .1 .1 .1 .1 .1 .1 .0, c .before .before .before .before .before .before .before .before .pre .1 .1 .1 .1 .1 .1)
+
+returns-2 : tie.Need-returns-2
+unfolding residueCount
+returns-2 c =
+    let args = c .before .before .before .before .before .before .before .before .args in
+    let write-walk = c .before .before .before .before .write-walk in
+    let if2 = c .if2 in
+    let n = length (args .seq .now) in
+    let done = write-walk .ensures .ended (c .before .if1 .left) in
+    (omega (arith, done .0, if2 .taken), with-rest (n / 3) (n % 3) _ _ (done .1) (if2 .taken) (omega (arith, if2 .taken, write-walk .kept .1 .1 .1 .1 .1 .1 .1 .0, c .before .before .before .before .before .before .before .before .pre .1 .1 .1 .1 .1 .1)))
+
+returns-3 : tie.Need-returns-3
+returns-3 c =
+    let args = c .before .before .before .before .before .before .before .before .args in
+    let if2 = c .if2 in
+    let n = length (args .seq .now) in
+    let done = c .before .before .before .before .write-walk .ensures .ended (c .before .if1 .left) in
+    (omega (arith, done .0, if2 .left), no-rest (n / 3) (n % 3) _ _ (done .1) (if2 .left))
+
+pub write-through-stop-spec : {M : Type 1} → statement M
+write-through-stop-spec =
+    tie.close
+    (tie.spec
+    (λ c κs. search needs)
+    (λ c. search needs)
+    (λ c. search needs)
+    returns
+    slice-write-out
+    (λ c. search needs)
+    (λ c. search needs)
+    returns-2
+    (λ c. search needs)
+    returns-3)

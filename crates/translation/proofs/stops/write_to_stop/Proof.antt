@@ -1,0 +1,104 @@
+-- `translation::write_to_stop` meets its contract. The invariant: writing what is left gives the protein, and no exception stands
+-- between codon i and the next that is known. Assumes nothing.
+use mathlib.Core.Logic.{⊎-elim}
+use mathlib.Core.Path.{_≡_, refl, sym, _∙_}
+use Prim.Native.Nat.{_+_, _-_, _/_, _≤_, _<_}
+use native.Mathlib.Omega.{arith}
+use borrow.Author.Needs.{needs}
+use lib.ListN.{length, length-set}
+use Rattle.rules.specs.Translation.{exceptionList, residueCount, plainTranslated, throughStop}
+use Rattle.translation.proofs.Excepted.{Clear, next-clear}
+use Rattle.translation.proofs.Walks.{residueAt, at-exception, at-no-exception, Walk, walk-start, walk-more, walk-stop, walk-end}
+use Rattle.translation.proofs.stops.write_to_stop.Statement.{statement}
+use Rattle.translation.proofs.stops.write_to_stop.Tie as tie
+
+abbrev Inv-loop : tie.InvT-loop
+Inv-loop seq table sets lut e out₀ whole next₀ i₀ out next i =
+    (i ≤ whole)
+    × Clear (exceptionList e) i next
+    × Walk table (exceptionList e) seq (throughStop (plainTranslated table (exceptionList e) seq)) out₀ out i
+
+abbrev μ-loop : tie.MeasureT-loop
+μ-loop seq table sets lut e out₀ whole next₀ i₀ out next i = whole - i
+
+loop-holds : tie.Need-loop-holds Inv-loop μ-loop
+loop-holds c =
+    let args = c .before .before .before .args in
+    let next-exception = c .next-exception in
+    let es = exceptionList (args .e) in
+    (search needs, next-clear es 0 (length (args .seq .now) / 3 + 1) (next-exception .result) (omega arith) (next-exception .ensures), walk-start (args .table) es (args .seq .now) (args .out .now))
+
+slice-write-out : tie.Need-slice-write-out Inv-loop μ-loop
+unfolding residueCount
+slice-write-out c =
+    omega (arith, c .before .before .before .loop .inv .2 .same, c .before .before .if1 .left, c .before .before .before .before .before .before .before .pre .1 .1 .1 .1)
+
+loop-again : tie.Need-loop-again Inv-loop μ-loop
+unfolding residueCount
+loop-again c =
+    let args = c .before .before .before .before .before .before .before .before .args in
+    let if2 = c .before .if2 in
+    let loop = c .before .before .before .before .loop in
+    let codon-at = c .before .before .codon-at in
+    let es = exceptionList (args .e) in
+    let at = args .seq .now in
+    let turn : (if2 .r ≡ residueAt (args .table) es at (loop .i)) × Clear es (loop .i + 1) (if2 .next) =
+    ⊎-elim
+    (λ w. at-exception (args .table) es at (loop .i) (loop .next) (codon-at .result) (codon-at .ensures) (length at / 3 + 1) (if2 .r) (if2 .next) (omega arith) (w .0 .taken) (w .4 ∙ w .1 .ensures) (w .3 ∙ w .2 .ensures))
+    (λ w. at-no-exception (args .table) es at (loop .i) (loop .next) (codon-at .result) (codon-at .ensures) (if2 .r) (if2 .next) (loop .inv .1) (w .0 .left) (w .2) (w .1))
+    (if2 .came) in
+    (search needs, turn .1, walk-more (args .table) es at _ (args .out .now) (loop .out) (loop .i) (if2 .r) (loop .inv .2) (search needs) (omega (arith, loop .inv .2 .same, c .before .before .before .if1 .left, c .before .before .before .before .before .before .before .before .pre .1 .1 .1 .1)) (turn .0) (c .if3 .left))
+
+same-length : tie.Need-same-length Inv-loop μ-loop
+same-length c =
+    c .before .loop .inv .2 .same
+
+returns : tie.Need-returns Inv-loop μ-loop
+returns c =
+    let args = c .before .before .before .before .before .args in
+    let loop = c .before .loop in
+    walk-end (args .table) (exceptionList (args .e)) (args .seq .now) _ (args .out .now) (loop .out) (loop .i) (loop .inv .2) (omega arith)
+
+same-length-2 : tie.Need-same-length-2 Inv-loop μ-loop
+same-length-2 c =
+    simp length-set (c .before .before .before .before .loop .inv .2 .same)
+
+returns-2 : tie.Need-returns-2 Inv-loop μ-loop
+unfolding residueCount
+returns-2 c =
+    let args = c .before .before .before .before .before .before .before .before .args in
+    let if2 = c .before .if2 in
+    let loop = c .before .before .before .before .loop in
+    let codon-at = c .before .before .codon-at in
+    let es = exceptionList (args .e) in
+    let at = args .seq .now in
+    let turn : (if2 .r ≡ residueAt (args .table) es at (loop .i)) × Clear es (loop .i + 1) (if2 .next) =
+    ⊎-elim
+    (λ w. at-exception (args .table) es at (loop .i) (loop .next) (codon-at .result) (codon-at .ensures) (length at / 3 + 1) (if2 .r) (if2 .next) (omega arith) (w .0 .taken) (w .4 ∙ w .1 .ensures) (w .3 ∙ w .2 .ensures))
+    (λ w. at-no-exception (args .table) es at (loop .i) (loop .next) (codon-at .result) (codon-at .ensures) (if2 .r) (if2 .next) (loop .inv .1) (w .0 .left) (w .2) (w .1))
+    (if2 .came) in
+    walk-stop (args .table) es at _ (args .out .now) (loop .out) (loop .i) (if2 .r) (loop .inv .2) (search needs) (omega (arith, loop .inv .2 .same, c .before .before .before .if1 .left, c .before .before .before .before .before .before .before .before .pre .1 .1 .1 .1)) (turn .0) (c .if3 .taken)
+
+pub write-to-stop-spec : {M : Type 1} → statement M
+write-to-stop-spec =
+    tie.close
+    (tie.spec
+    Inv-loop
+    μ-loop
+    (λ c. search needs)
+    (λ c κs. search needs)
+    loop-holds
+    (λ c κs. search needs)
+    (λ c. search needs)
+    (λ c κs. search needs)
+    (λ c. search needs)
+    (λ c. search needs)
+    (λ c κs. search needs)
+    slice-write-out
+    (λ c. search needs)
+    (λ c. search needs)
+    loop-again
+    same-length
+    returns
+    same-length-2
+    returns-2)

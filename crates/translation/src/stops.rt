@@ -1,0 +1,171 @@
+// The first stop, and the residues through it.
+use crate::exceptions::excepted_at;
+use crate::exceptions::next_exception;
+use crate::reading::codon_at;
+use crate::reading::place_at;
+use rules::Exceptions;
+ghost use mathlib.Core.Path.{_≡_};
+ghost use mathlib.Core.Bool.{true};
+ghost use mathlib.Core.List.{[]};
+ghost use Prim.Native.Nat.{_≤_};
+ghost use lib.ListN.{length};
+ghost use Rattle.rules.specs.Bytes.{over};
+ghost use Rattle.rules.specs.Translation.{exceptionList, residueCount, beforeStop, throughStop, wholeCodons, areLetters, plainTranslated};
+ghost use Rattle.codons.specs.Tables.{HoldsCode, HoldsPlain, HoldsSets, plainSet};
+ghost use Rattle.translation.specs.Residues.{areBases, WalkedTo};
+
+// The index of the first codon that reads `*`, exceptions applied, or the number of whole codons.
+pub fn first_stop(
+    seq: &[u8],
+    table: usize,
+    sets: &[u8; 256],
+    lut: &[u8; 4096],
+    e: Exceptions,
+) -> usize
+    requires { ⌜ HoldsSets plainSet (now sets) ⌝ }
+    requires { ⌜ HoldsCode table (now lut) ⌝ }
+    requires { ⌜ areLetters (now seq) ≡ true ⌝ }
+    requires { ⌜ e .count ≤ 16 ⌝ }
+    ensures { λ r. ⌜ r ≡ beforeStop (plainTranslated table (exceptionList e) (wholeCodons (now (seq .entry)))) ⌝ }
+{
+    let whole = seq.len() / 3;
+    let mut next = next_exception(e, 1, whole + 1);
+    let mut i = 0;
+    let stop = loop {
+        if whole <= i {
+            break whole;
+        }
+        let mut r = codon_at(seq, table, sets, lut, i);
+        if i + 1 == next {
+            r = excepted_at(e, next, r);
+            next = next_exception(e, next + 1, whole + 1);
+        }
+        if r == b'*' {
+            break i;
+        }
+        i += 1;
+    };
+    stop
+}
+
+// Writes the residues of any letters, exceptions applied, to the buffer's start, through the first `*`, and answers its codon's index, or the
+// number of whole codons.
+fn write_to_stop(
+    seq: &[u8],
+    table: usize,
+    sets: &[u8; 256],
+    lut: &[u8; 4096],
+    e: Exceptions,
+    out: &mut [u8],
+) -> usize
+    requires { ⌜ HoldsSets plainSet (now sets) ⌝ }
+    requires { ⌜ HoldsCode table (now lut) ⌝ }
+    requires { ⌜ areLetters (now seq) ≡ true ⌝ }
+    requires { ⌜ e .count ≤ 16 ⌝ }
+    requires { ⌜ residueCount (length (now seq)) ≤ length (now out) ⌝ }
+    ensures { λ r. ⌜ WalkedTo (throughStop (plainTranslated table (exceptionList e) (now (seq .entry)))) (length (now (seq .entry))) (now (out .entry)) (now (out .exit)) r ⌝ }
+{
+    let whole = seq.len() / 3;
+    let mut next = next_exception(e, 1, whole + 1);
+    let mut i = 0;
+    let stop = loop {
+        if whole <= i {
+            break whole;
+        }
+        let mut r = codon_at(seq, table, sets, lut, i);
+        if i + 1 == next {
+            r = excepted_at(e, next, r);
+            next = next_exception(e, next + 1, whole + 1);
+        }
+        out[i] = r;
+        if r == b'*' {
+            break i;
+        }
+        i += 1;
+    };
+    stop
+}
+
+// The same of bases without exceptions.
+fn write_plain_to_stop(seq: &[u8], table: usize, code: &[u8; 64], out: &mut [u8]) -> usize
+    requires { ⌜ HoldsPlain table (now code) ⌝ }
+    requires { ⌜ areBases (now seq) ≡ true ⌝ }
+    requires { ⌜ residueCount (length (now seq)) ≤ length (now out) ⌝ }
+    ensures { λ r. ⌜ WalkedTo (throughStop (plainTranslated table [] (now (seq .entry)))) (length (now (seq .entry))) (now (out .entry)) (now (out .exit)) r ⌝ }
+{
+    let whole = seq.len() / 3;
+    let mut i = 0;
+    let stop = loop {
+        if whole <= i {
+            break whole;
+        }
+        let place = place_at(seq, i);
+        let r = code[place];
+        out[i] = r;
+        if r == b'*' {
+            break i;
+        }
+        i += 1;
+    };
+    stop
+}
+
+// The walk to the first stop, the faster way where all letters are bases and there are no exceptions.
+fn write_walk(
+    seq: &[u8],
+    table: usize,
+    plain: bool,
+    sets: &[u8; 256],
+    lut: &[u8; 4096],
+    code: &[u8; 64],
+    e: Exceptions,
+    out: &mut [u8],
+) -> usize
+    requires { ⌜ HoldsSets plainSet (now sets) ⌝ }
+    requires { ⌜ HoldsCode table (now lut) ⌝ }
+    requires { ⌜ HoldsPlain table (now code) ⌝ }
+    requires { ⌜ areLetters (now seq) ≡ true ⌝ }
+    requires { ⌜ (plain ≡ true → areBases (now seq) ≡ true) ⌝ }
+    requires { ⌜ e .count ≤ 16 ⌝ }
+    requires { ⌜ residueCount (length (now seq)) ≤ length (now out) ⌝ }
+    ensures { λ r. ⌜ WalkedTo (throughStop (plainTranslated table (exceptionList e) (now (seq .entry)))) (length (now (seq .entry))) (now (out .entry)) (now (out .exit)) r ⌝ }
+{
+    if plain & (e.count == 0) {
+        return write_plain_to_stop(seq, table, code, out);
+    }
+    write_to_stop(seq, table, sets, lut, e, out)
+}
+
+// Writes the residues of letters that were looked at, exceptions applied, to the buffer's start: through the first `*`; with none, to the end,
+// X for a rest. Answers how many they are.
+pub fn write_through_stop(
+    seq: &[u8],
+    table: usize,
+    plain: bool,
+    sets: &[u8; 256],
+    lut: &[u8; 4096],
+    code: &[u8; 64],
+    e: Exceptions,
+    out: &mut [u8],
+) -> usize
+    requires { ⌜ HoldsSets plainSet (now sets) ⌝ }
+    requires { ⌜ HoldsCode table (now lut) ⌝ }
+    requires { ⌜ HoldsPlain table (now code) ⌝ }
+    requires { ⌜ areLetters (now seq) ≡ true ⌝ }
+    requires { ⌜ (plain ≡ true → areBases (now seq) ≡ true) ⌝ }
+    requires { ⌜ e .count ≤ 16 ⌝ }
+    requires { ⌜ residueCount (length (now seq)) ≤ length (now out) ⌝ }
+    ensures { λ r. ⌜ r ≡ length (throughStop (plainTranslated table (exceptionList e) (now (seq .entry)))) ⌝ }
+    ensures written { λ _. ⌜ now (out .exit) ≡ over (throughStop (plainTranslated table (exceptionList e) (now (seq .entry)))) (now (out .entry)) ⌝ }
+{
+    let stop = write_walk(seq, table, plain, sets, lut, code, e, out);
+    let whole = seq.len() / 3;
+    if stop < whole {
+        return stop + 1;
+    }
+    if seq.len() % 3 != 0 {
+        out[whole] = b'X';
+        return whole + 1;
+    }
+    whole
+}

@@ -1,0 +1,84 @@
+// Plain translation of a byte string with exceptions.
+use crate::bases::all_bases;
+use crate::bases::all_letters;
+use crate::exceptions::are_exceptions;
+use crate::exceptions::put_exceptions;
+use crate::reading::write_any;
+use crate::reading::write_letters;
+use crate::reading::write_plain;
+use codons::letters::plain_sets;
+use codons::tables::plain_code;
+use codons::tables::residues_of;
+use rules::Exceptions;
+use rules::Written;
+ghost use mathlib.Core.Path.{_≡_};
+ghost use mathlib.Core.Bool.{true};
+ghost use Prim.Native.Nat.{_≤_};
+ghost use lib.ListN.{length};
+ghost use Rattle.rules.specs.Bytes.{over};
+ghost use Rattle.rules.specs.Translation.{exceptionList, residueCount, areLetters, plainTranslated, translation};
+ghost use Rattle.rules.specs.Answer.{writtenOf, bytesOf};
+ghost use Rattle.codons.specs.Tables.{HoldsCode, HoldsPlain, HoldsSets, plainSet};
+ghost use Rattle.translation.specs.Residues.{areBases};
+
+// Writes the translation of letters that were looked at to the buffer's start.
+pub fn write_translated(
+    seq: &[u8],
+    table: usize,
+    plain: bool,
+    sets: &[u8; 256],
+    lut: &[u8; 4096],
+    code: &[u8; 64],
+    e: Exceptions,
+    out: &mut [u8],
+)
+    requires { ⌜ HoldsSets plainSet (now sets) ⌝ }
+    requires { ⌜ HoldsCode table (now lut) ⌝ }
+    requires { ⌜ HoldsPlain table (now code) ⌝ }
+    requires { ⌜ areLetters (now seq) ≡ true ⌝ }
+    requires { ⌜ (plain ≡ true → areBases (now seq) ≡ true) ⌝ }
+    requires { ⌜ e .count ≤ 16 ⌝ }
+    requires { ⌜ residueCount (length (now seq)) ≤ length (now out) ⌝ }
+    ensures { λ _. ⌜ now (out .exit) ≡ over (plainTranslated table (exceptionList e) (now (seq .entry))) (now (out .entry)) ⌝ }
+{
+    write_letters(seq, table, plain, sets, lut, code, out);
+    let whole = seq.len() / 3;
+    put_exceptions(e, whole, out);
+}
+
+// Writes one residue a whole codon, with the exceptions, then one X if one or two bytes remain, unless full codons are demanded, to the
+// buffer's start. A refusal changes no byte.
+pub fn translate_cds(seq: &[u8], table: usize, e: Exceptions, full: bool, out: &mut [u8]) -> Written
+    ensures answer { λ r. ⌜ r ≡ writtenOf (translation table (exceptionList e) full (now (seq .entry)) (length (now (out .entry)))) ⌝ }
+    ensures written { λ _. ⌜ now (out .exit) ≡ over (bytesOf (translation table (exceptionList e) full (now (seq .entry)) (length (now (out .entry))))) (now (out .entry)) ⌝ }
+{
+    if 2 < table {
+        return Written::Refused(4);
+    }
+    if !are_exceptions(e) {
+        return Written::Refused(5);
+    }
+    if full & (0 < seq.len() % 3) {
+        return Written::Refused(14);
+    }
+    let n = (seq.len() + 2) / 3;
+    if out.len() < n {
+        return Written::Refused(15);
+    }
+    let whole = seq.len() / 3;
+    let end = seq.len() - seq.len() % 3;
+    if all_bases(&seq[..end]) {
+        let code = plain_code(table);
+        write_plain(seq, table, &code, out);
+        put_exceptions(e, whole, out);
+        return Written::Bytes(n);
+    }
+    if all_letters(&seq[..end]) {
+        let sets = plain_sets();
+        let lut = residues_of(table);
+        write_any(seq, table, &sets, &lut, out);
+        put_exceptions(e, whole, out);
+        return Written::Bytes(n);
+    }
+    Written::Refused(2)
+}
