@@ -1,0 +1,12 @@
+-- Laws that this crate's proofs and the crates above cite.
+pub mod Kept
+pub mod Pieces
+pub mod Whole
+mod Gathered
+mod Asking
+mod Checking
+mod Feeds
+mod Turns
+mod First
+mod Editing
+mod Stepping
