@@ -11,7 +11,7 @@ use Rattle.bytes.specs.Bytes.{slice, indexOf}
 use Rattle.rules.specs.Reference.{Reference}
 use Rattle.rules.specs.Run.{editLineAnswer, lineFeed, unlines}
 use Rattle.lines.specs.Stages.{Stage, editing, nextLine, answered, Moves, Steps}
-use Rattle.lines.specs.Memory.{Ample, Line}
+use Rattle.answers.specs.Lines.{Ample, Line}
 use Rattle.lines.proofs.Feeds.{behind-start, plain-part, found-feed}
 use Rattle.lines.proofs.Turns.{held-editing, held-short, moves-none, moves-on, stuck, moves-feed}
 

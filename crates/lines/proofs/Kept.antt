@@ -44,11 +44,3 @@ unfolding fitsLine kept
 kept-unfit l h =
     let long : 20480 < length l = leb-false (length l) 20480 h in
     lt-leb (length (take 20481 l)) 20480 (omega (arith, length-take-le 20481 l (omega arith)))
-
-pub fits-line : (l : List ℕ) → length l ≤ 20480 → fitsLine l ≡ true
-unfolding fitsLine
-fits-line l h = le-leb (length l) 20480 h
-
-pub long-line : (l : List ℕ) → 20480 < length l → fitsLine l ≡ false
-unfolding fitsLine
-long-line l h = lt-leb (length l) 20480 h

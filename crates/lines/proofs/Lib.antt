@@ -3,8 +3,6 @@ pub mod Kept
 pub mod Pieces
 pub mod Whole
 mod Gathered
-mod Asking
-mod Checking
 mod Feeds
 mod Turns
 mod First

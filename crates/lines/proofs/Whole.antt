@@ -13,7 +13,8 @@ use Rattle.rules.specs.Reference.{Reference, referenceProtein}
 use Rattle.rules.specs.Refusal.{limits, referenceRefusal}
 use Rattle.rules.specs.Line.{referenceLine, fitsLine}
 use Rattle.rules.specs.Run.{refusedLine, editAnswer, editLineAnswer, answersFrom, answersOf, answers, lineFeed, linesFrom, lines, unlines, run}
-use Rattle.lines.specs.Stages.{Stage, opening, editing, ended, start, kept, lineOf, longer, openedBy, opened, nextLine, answered, after, printed, printedLast}
+use Rattle.answers.specs.Lines.{acceptedBy, accepted}
+use Rattle.lines.specs.Stages.{Stage, opening, editing, ended, start, kept, lineOf, longer, behindFirst, nextLine, answered, after, printed, printedLast}
 use Rattle.lines.proofs.Kept.{kept-front, kept-fits, kept-unfit}
 use Rattle.lines.proofs.Pieces.{after-append, printed-append, after-ended, printed-ended}
 
@@ -99,12 +100,12 @@ edits-all r l (b ∷ s) = by (eqb b lineFeed) refl (edits-all r [] s) (edits-all
 
 -- behind the first line
 first-all : (o : Option Reference) (s : List ℕ) → ((r : Reference) → printedAll (editing r (kept [])) s ≡ unlines (map (editLineAnswer r) (linesFrom [] s)))
-    → unlines (answersOf o []) ++ printedAll (opened o) s ≡ unlines (answersOf o (linesFrom [] s))
-unfolding answersOf opened kept openedBy answersFrom
+    → unlines (answersOf o []) ++ printedAll (behindFirst (accepted o)) s ≡ unlines (answersOf o (linesFrom [] s))
+unfolding answersOf accepted acceptedBy behindFirst kept answersFrom
 first-all none s h = rw (ended-all s) (append-nil (unlines (refusedLine 30 ∷ [])))
 first-all (some r) s h = by (referenceRefusal (limits .longest) r)
   where
-    by : (n : ℕ) → unlines (answersFrom n r []) ++ printedAll (openedBy n r) s ≡ unlines (answersFrom n r (linesFrom [] s))
+    by : (n : ℕ) → unlines (answersFrom n r []) ++ printedAll (behindFirst (acceptedBy n r)) s ≡ unlines (answersFrom n r (linesFrom [] s))
     by zero = rw (h r) (unlines-more (bytes "reference " ++ referenceProtein r) (map (editLineAnswer r) (linesFrom [] s)))
     by (suc n) = rw (ended-all s) (append-nil (unlines (refusedLine (suc n) ∷ [])))
 

@@ -1,5 +1,5 @@
 -- Where a run stands between two bytes of its input, what further bytes make of that, and what is printed for them.
-use Prim.Native.Nat.{ℕ, zero, suc, _+_, _≤_, _<_}
+use Prim.Native.Nat.{ℕ, _+_, _≤_, _<_}
 use mathlib.Core.Path.{_≡_}
 use mathlib.Core.List.{List, [], _∷_, _++_}
 use mathlib.Core.Bool.{true, false}
@@ -8,9 +8,9 @@ use lib.Dec.{eqb}
 use lib.ListN.{length, take}
 use Rattle.rules.specs.Bytes.{if_then_else_, isNone, over}
 use Rattle.rules.specs.Reference.{Reference}
-use Rattle.rules.specs.Refusal.{limits, referenceRefusal}
 use Rattle.rules.specs.Line.{referenceLine, fitsLine}
 use Rattle.rules.specs.Run.{editLineAnswer, answers, lineFeed, unlines}
+use Rattle.answers.specs.Lines.{accepted}
 
 -- the first line so far; a reference, and the edit line so far; or the run has ended
 pub data Stage : Type 0 where
@@ -38,17 +38,13 @@ longer (editing r l) s = editing r (kept (l ++ s))
 longer ended s = ended
 
 -- edits follow a reference that isn't refused
-unfoldable pub openedBy : ℕ → Reference → Stage
-openedBy zero r = editing r []
-openedBy (suc n) r = ended
-
-unfoldable pub opened : Option Reference → Stage
-opened none = ended
-opened (some r) = openedBy (referenceRefusal (limits .longest) r) r
+unfoldable pub behindFirst : Option Reference → Stage
+behindFirst none = ended
+behindFirst (some r) = editing r []
 
 -- behind the line's end
 unfoldable pub nextLine : Stage → Stage
-nextLine (opening l) = opened (if fitsLine l then referenceLine l else none)
+nextLine (opening l) = behindFirst (accepted (if fitsLine l then referenceLine l else none))
 nextLine (editing r l) = editing r []
 nextLine ended = ended
 

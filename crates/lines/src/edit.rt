@@ -2,9 +2,10 @@
 use crate::Phase;
 use crate::State;
 use crate::Stepped;
-use crate::answers::answer_edit;
 use crate::gather::hold;
 use altseq::Known;
+use answers::Follows;
+use answers::answer_edit;
 use codons::complement::complements;
 use codons::letters::plain_sets;
 use codons::tables::plain_code;
@@ -17,7 +18,8 @@ ghost use Rattle.codons.specs.Tables.{plainSet, HoldsSets, HoldsCode, HoldsPlai
 ghost use Rattle.positions.specs.Views.{bare};
 ghost use Rattle.altseq.specs.Known.{Knows};
 ghost use Rattle.lines.specs.Stages.{editing, Steps};
-ghost use Rattle.lines.specs.Memory.{noExceptions, stageOf, KnownIn, Rooms, Holds, Ample};
+ghost use Rattle.answers.specs.Lines.{noExceptions, KnownIn, Ample};
+ghost use Rattle.lines.specs.Memory.{stageOf, Rooms, Holds};
 
 // The bytes of the line so far, and those that were taken and put out.
 struct Moved {
@@ -111,7 +113,7 @@ pub(crate) fn edit_some(
 ) -> Stepped
     requires { ⌜ Rooms (now line) (now letters) (now protein) ⌝ }
     requires { ⌜ held ≤ 20481 ⌝ }
-    requires { ⌜ KnownIn (Phase.Editing known size) (now letters) (now protein) ⌝ }
+    requires { ⌜ KnownIn (Follows.Edits known size) (now letters) (now protein) ⌝ }
     ensures { λ r. ⌜ Holds (r .state) (now (line .exit)) (now (letters .entry)) (now (protein .entry)) ⌝ }
     ensures { λ r. ⌜ Steps (editing (bare (take size (now (letters .entry))) (known .cds)) (take held (now (line .entry))))
         (stageOf (r .state) (now (line .exit)) (now (letters .entry)))
@@ -144,7 +146,7 @@ pub(crate) fn edit_some(
     );
     Stepped {
         state: State {
-            phase: Phase::Editing { known, size },
+            phase: Phase::Behind(Follows::Edits { known, size }),
             held: moved.held,
         },
         taken: moved.taken,

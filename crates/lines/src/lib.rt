@@ -1,23 +1,23 @@
 // "Text program": the run as a step over pieces of input of any size. Between two steps a state is kept, and three buffers: the line so far, and
 // the letters and the protein R of the reference.
-mod answers;
 mod edit;
 mod gather;
 mod open;
 
-use altseq::Known;
+use answers::Follows;
 use edit::edit_some;
 use open::open_some;
 ghost use mathlib.Core.Path.{_≡_};
-ghost use mathlib.Core.Bool.{false};
-ghost use Rattle.lines.specs.Stages.{Steps};
-ghost use Rattle.lines.specs.Memory.{isOpening, stageOf, Holds};
+ghost use Prim.Native.Nat.{_≤_};
+ghost use lib.ListN.{take};
+ghost use Rattle.answers.specs.Lines.{KnownIn};
+ghost use Rattle.lines.specs.Stages.{opening, Steps};
+ghost use Rattle.lines.specs.Memory.{stageBehind, stageOf, Rooms, Holds};
 
-// Before the first line's end; among the edits of a reference, of which `size` letters are kept; or behind a refused first line.
+// Before the first line's end, or behind it.
 pub enum Phase {
     Opening,
-    Editing { known: Known, size: usize },
-    Ended,
+    Behind(Follows),
 }
 
 // `held` bytes of the line so far are kept; 20,481 stand for any larger number.
@@ -26,60 +26,84 @@ pub struct State {
     pub held: usize,
 }
 
-// How many bytes a step took of its piece, how many it put out, and the state behind them.
+// The state that a step leaves, how many bytes of its piece it took, and how many it put out.
 pub struct Stepped {
     pub state: State,
     pub taken: usize,
     pub used: usize,
 }
 
-fn is_opening(phase: Phase) -> bool
-    ensures { λ r. ⌜ r ≡ isOpening phase ⌝ }
-{
-    match phase {
-        Phase::Opening => true,
-        Phase::Editing { known: _, size: _ } => false,
-        Phase::Ended => false,
-    }
-}
-
 // A step behind the first line.
 fn step_on(
-    state: State,
+    follows: Follows,
+    held: usize,
     line: &mut [u8],
     letters: &[u8],
     protein: &[u8],
     input: &[u8],
     out: &mut [u8],
 ) -> Stepped
-    requires { ⌜ Holds state (now line) (now letters) (now protein) ⌝ }
-    requires { ⌜ isOpening (state .phase) ≡ false ⌝ }
+    requires { ⌜ Rooms (now line) (now letters) (now protein) ⌝ }
+    requires { ⌜ held ≤ 20481 ⌝ }
+    requires { ⌜ KnownIn follows (now letters) (now protein) ⌝ }
     ensures { λ r. ⌜ Holds (r .state) (now (line .exit)) (now (letters .entry)) (now (protein .entry)) ⌝ }
-    ensures { λ r. ⌜ Steps (stageOf state (now (line .entry)) (now (letters .entry))) (stageOf (r .state) (now (line .exit)) (now (letters .entry)))
+    ensures { λ r. ⌜ Steps (stageBehind follows (take held (now (line .entry))) (now (letters .entry))) (stageOf (r .state) (now (line .exit)) (now (letters .entry)))
         (now (input .entry)) (r .taken) (r .used) (now (out .entry)) (now (out .exit)) ⌝ }
 {
-    let phase = state.phase;
+    match follows {
+        Follows::Edits { known, size } => {
+            edit_some(known, size, held, line, letters, protein, input, out)
+        }
+        Follows::Nothing => Stepped {
+            state: State {
+                phase: Phase::Behind(follows),
+                held,
+            },
+            taken: input.len(),
+            used: 0,
+        },
+    }
+}
+
+// A step before the first line's end, and behind it.
+fn step_first(
+    held: usize,
+    line: &mut [u8],
+    letters: &mut [u8],
+    protein: &mut [u8],
+    input: &[u8],
+    out: &mut [u8],
+) -> Stepped
+    requires { ⌜ Rooms (now line) (now letters) (now protein) ⌝ }
+    requires { ⌜ held ≤ 20481 ⌝ }
+    ensures { λ r. ⌜ Holds (r .state) (now (line .exit)) (now (letters .exit)) (now (protein .exit)) ⌝ }
+    ensures { λ r. ⌜ Steps (opening (take held (now (line .entry)))) (stageOf (r .state) (now (line .exit)) (now (letters .exit)))
+        (now (input .entry)) (r .taken) (r .used) (now (out .entry)) (now (out .exit)) ⌝ }
+{
+    let begun = open_some(held, line, letters, protein, input, out);
+    let reached = begun.state;
+    let phase = reached.phase;
+    let taken = begun.taken;
+    let used = begun.used;
     match phase {
-        Phase::Editing { known, size } => edit_some(
-            known,
-            size,
-            state.held,
-            line,
-            letters,
-            protein,
-            input,
-            out,
-        ),
-        Phase::Opening => Stepped {
-            state,
-            taken: input.len(),
-            used: 0,
-        },
-        Phase::Ended => Stepped {
-            state,
-            taken: input.len(),
-            used: 0,
-        },
+        Phase::Opening => begun,
+        Phase::Behind(follows) => {
+            let more = step_on(
+                follows,
+                reached.held,
+                line,
+                letters,
+                protein,
+                &input[taken..],
+                &mut out[used..],
+            );
+            let state = more.state;
+            Stepped {
+                state,
+                taken: taken + more.taken,
+                used: used + more.used,
+            }
+        }
     }
 }
 
@@ -98,29 +122,10 @@ pub fn step(
         (now (input .entry)) (r .taken) (r .used) (now (out .entry)) (now (out .exit)) ⌝ }
 {
     let phase = state.phase;
-    if !is_opening(phase) {
-        return step_on(state, line, letters, protein, input, out);
-    }
-    let begun = open_some(state.held, line, letters, protein, input, out);
-    let reached = begun.state;
-    let taken = begun.taken;
-    let used = begun.used;
-    let next = reached.phase;
-    if is_opening(next) {
-        return begun;
-    }
-    let more = step_on(
-        reached,
-        line,
-        letters,
-        protein,
-        &input[taken..],
-        &mut out[used..],
-    );
-    let last = more.state;
-    Stepped {
-        state: last,
-        taken: taken + more.taken,
-        used: used + more.used,
+    match phase {
+        Phase::Opening => step_first(state.held, line, letters, protein, input, out),
+        Phase::Behind(follows) => {
+            step_on(follows, state.held, line, letters, protein, input, out)
+        }
     }
 }

@@ -2,14 +2,13 @@
 use crate::Phase;
 use crate::State;
 use crate::Stepped;
-use crate::answers::answer_first;
 use crate::gather::hold;
+use answers::answer_first;
 ghost use mathlib.Core.Path.{_≡_};
-ghost use mathlib.Core.Bool.{true};
 ghost use Prim.Native.Nat.{_+_, _<_, _≤_};
 ghost use lib.ListN.{length, take};
 ghost use Rattle.lines.specs.Stages.{opening, printed, Moves};
-ghost use Rattle.lines.specs.Memory.{isOpening, stageOf, Rooms, Holds};
+ghost use Rattle.lines.specs.Memory.{stageOf, Rooms, Holds};
 
 // Takes the bytes of the first line, and its end too if there is room for its answer.
 pub(crate) fn open_some(
@@ -25,7 +24,7 @@ pub(crate) fn open_some(
     ensures { λ r. ⌜ Holds (r .state) (now (line .exit)) (now (letters .exit)) (now (protein .exit)) ⌝ }
     ensures { λ r. ⌜ Moves (opening (take held (now (line .entry)))) (stageOf (r .state) (now (line .exit)) (now (letters .exit)))
         (now (input .entry)) (r .taken) (r .used) (now (out .entry)) (now (out .exit)) ⌝ }
-    ensures { λ r. ⌜ (isOpening (r .state .phase) ≡ true → r .taken < length (now (input .entry))
+    ensures { λ r. ⌜ (r .state .phase ≡ Phase.Opening → r .taken < length (now (input .entry))
         → length (now (out .entry)) < length (printed (opening (take held (now (line .entry)))) (take (r .taken + 1) (now (input .entry))))) ⌝ }
 {
     let end = bytes::scan::find(input, 0, input.len(), b'\n');
@@ -43,13 +42,16 @@ pub(crate) fn open_some(
     }
     let mut text = [0u8; 8192];
     let opened = answer_first(&line[..n], letters, protein, &mut text);
-    let phase = opened.phase;
+    let follows = opened.follows;
     let size = opened.size;
     if out.len() < size {
         return still;
     }
     Stepped {
-        state: State { phase, held: 0 },
+        state: State {
+            phase: Phase::Behind(follows),
+            held: 0,
+        },
         taken: end + 1,
         used: bytes::copy(&text[..size], out),
     }

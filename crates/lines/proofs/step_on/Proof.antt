@@ -1,5 +1,6 @@
 -- `lines::step_on` meets its contract. Assumes nothing.
-use Rattle.lines.proofs.Stepping.{editing-known, editing-steps, ended-steps, not-open}
+use lib.ListN.{take}
+use Rattle.lines.proofs.Stepping.{edits-known, edits-step, nothing-steps}
 use borrow.Author.Needs.{needs}
 use Rattle.lines.proofs.step_on.Statement.{statement}
 use Rattle.lines.proofs.step_on.Tie as tie
@@ -8,30 +9,22 @@ edit-some-requires : tie.Need-edit-some-requires
 edit-some-requires c κs =
     let args = c .before .before .before .before .before .before .before .before .before .before .args in
     let pre = c .before .before .before .before .before .before .before .before .before .before .pre in
-    let phase = c .before .before .before .phase in
-    (pre .0 .rooms, (pre .0 .short, editing-known (args .state) (args .line .now) (args .letters .now) (args .protein .now) (pre .0) (phase .given .0 .0) (phase .given .0 .1 .0) (phase .given .1)))
+    let follows = c .before .before .before .follows in
+    (pre .0, (pre .1 .0, edits-known (args .follows) (take (args .held) (args .line .now)) (args .letters .now) (args .protein .now) (follows .given .0 .0) (follows .given .0 .1 .0) (follows .given .1) (pre .1 .1)))
 
 returns : tie.Need-returns
 returns c =
     let args = c .before .before .before .before .before .before .before .before .before .before .before .before .before .before .before .args in
-    let pre = c .before .before .before .before .before .before .before .before .before .before .before .before .before .before .before .pre in
-    let phase = c .before .before .before .before .before .before .before .before .phase in
+    let follows = c .before .before .before .before .before .before .before .before .follows in
     let edit-some = c .before .before .before .before .edit-some in
-    (edit-some .ensures .0, editing-steps (args .state) (args .line .now) (args .letters .now) (args .protein .now) (pre .0) (phase .given .0 .0) (phase .given .0 .1 .0) (phase .given .1) _ (args .input .now) _ _ (args .out .now) _ (edit-some .ensures .1))
+    (edit-some .ensures .0, edits-step (args .follows) (take (args .held) (args .line .now)) (args .letters .now) (args .protein .now) (follows .given .0 .0) (follows .given .0 .1 .0) (follows .given .1) _ (args .input .now) _ _ (args .out .now) _ (edit-some .ensures .1))
 
 returns-2 : tie.Need-returns-2
 returns-2 c =
     let args = c .before .before .before .before .before .before .before .args in
     let pre = c .before .before .before .before .before .before .before .pre in
     let enum-told = c .enum-told in
-    absurd (not-open (args .state .phase) (pre .1) (enum-told .given .1))
-
-returns-3 : tie.Need-returns-3
-returns-3 c =
-    let args = c .before .before .before .before .before .before .before .args in
-    let pre = c .before .before .before .before .before .before .before .pre in
-    let enum-told2 = c .enum-told2 in
-    (pre .0, ended-steps (args .state) (args .line .now) (args .letters .now) (args .protein .now) (pre .0) (enum-told2 .given .1) (args .input .now) (args .out .now))
+    (record { rooms = pre .0; short = pre .1 .0; known = pre .1 .1 }, nothing-steps (args .follows) (take (args .held) (args .line .now)) (args .letters .now) (args .protein .now) (enum-told .given .1) (take (args .held) (args .line .now)) (args .input .now) (args .out .now))
 
 pub step-on-spec : {M : Type 1} → statement M
 step-on-spec =
@@ -42,7 +35,5 @@ step-on-spec =
     (λ c. search needs)
     (λ c. search needs)
     (λ c. search needs)
-    (λ c. search needs)
     returns
-    returns-2
-    returns-3)
+    returns-2)

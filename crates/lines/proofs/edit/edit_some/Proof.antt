@@ -4,7 +4,7 @@ use lib.ListN.{take}
 use lib.Seq.{length-take-le}
 use Rattle.rules.specs.Refusal.{limits}
 use Rattle.altseq.proofs.Answering.{sound}
-use Rattle.lines.specs.Memory.{noExceptions}
+use Rattle.answers.specs.Lines.{noExceptions}
 use borrow.Author.Needs.{needs}
 use Rattle.lines.proofs.edit.edit_some.Statement.{statement}
 use Rattle.lines.proofs.edit.edit_some.Tie as tie

@@ -2,7 +2,7 @@
 use mathlib.Core.Path.{refl, sym}
 use native.Mathlib.Omega.{arith}
 use lib.Seq.{length-take-le}
-use Rattle.lines.proofs.First.{never, gathered-moves, gathered-holds, no-room, not-opening, opened-moves, opened-holds}
+use Rattle.lines.proofs.First.{open-again, gathered-moves, gathered-holds, no-room, opened-moves, opened-holds}
 use borrow.Author.Needs.{needs}
 use Rattle.lines.proofs.open.open_some.Statement.{statement}
 use Rattle.lines.proofs.open.open_some.Tie as tie
@@ -35,7 +35,7 @@ returns-2 c =
     let if1 = c .before .before .before .before .before .before .before .before .before .before .before .if1 in
     let answer-first = c .before .before .before .before .before .before .answer-first in
     let if2 = c .if2 in
-    (gathered-holds (args .held) (args .line .now) (args .letters .now) (args .protein .now) (args .input .now) (args .out .now) (pre .0) (pre .1) (find .result) (find .ensures .0) (find .ensures .1) (hold .result) (hold .last .0) (hold .kept .0) (hold .ensures .1) (hold .ensures .0) (answer-first .last .1 .0) (answer-first .last .1 .1 .0) (answer-first .kept .1 .0) (answer-first .kept .1 .1 .0), (gathered-moves (args .held) (args .line .now) (args .letters .now) (args .protein .now) (args .input .now) (args .out .now) (pre .0) (pre .1) (find .result) (find .ensures .0) (find .ensures .1) (hold .result) (hold .last .0) (hold .kept .0) (hold .ensures .1) (hold .ensures .0), λ o h. no-room (args .held) (args .line .now) (args .letters .now) (args .protein .now) (args .input .now) (args .out .now) (pre .0) (pre .1) (find .result) (find .ensures .0) (find .ensures .1) (hold .result) (hold .last .0) (hold .kept .0) (hold .ensures .1) (hold .ensures .0) (if1 .left) (answer-first .result .phase) (answer-first .result .size) (answer-first .last .1 .0) (answer-first .last .1 .1 .0) (answer-first .last .1 .1 .1 .0) (answer-first .ensures) (if2 .taken)))
+    (gathered-holds (args .held) (args .line .now) (args .letters .now) (args .protein .now) (args .input .now) (args .out .now) (pre .0) (pre .1) (find .result) (find .ensures .0) (find .ensures .1) (hold .result) (hold .last .0) (hold .kept .0) (hold .ensures .1) (hold .ensures .0) (answer-first .last .1 .0) (answer-first .last .1 .1 .0) (answer-first .kept .1 .0) (answer-first .kept .1 .1 .0), (gathered-moves (args .held) (args .line .now) (args .letters .now) (args .protein .now) (args .input .now) (args .out .now) (pre .0) (pre .1) (find .result) (find .ensures .0) (find .ensures .1) (hold .result) (hold .last .0) (hold .kept .0) (hold .ensures .1) (hold .ensures .0), λ o h. no-room (args .held) (args .line .now) (args .letters .now) (args .protein .now) (args .input .now) (args .out .now) (pre .0) (pre .1) (find .result) (find .ensures .0) (find .ensures .1) (hold .result) (hold .last .0) (hold .kept .0) (hold .ensures .1) (hold .ensures .0) (if1 .left) (answer-first .result .follows) (answer-first .result .size) (answer-first .last .1 .0) (answer-first .last .1 .1 .0) (answer-first .last .1 .1 .1 .0) (answer-first .ensures) (if2 .taken)))
 
 array-share-prefix-text : tie.Need-array-share-prefix-text
 array-share-prefix-text c =
@@ -63,7 +63,7 @@ returns-3 c =
     let answer-first = c .before .before .before .before .before .before .before .before .before .before .before .answer-first in
     let if2 = c .before .before .before .before .before .if2 in
     let copy = c .before .before .copy in
-    (opened-holds (args .held) (args .line .now) (args .letters .now) (args .protein .now) (args .input .now) (args .out .now) (pre .0) (pre .1) (find .result) (find .ensures .0) (find .ensures .1) (hold .result) (hold .last .0) (hold .kept .0) (hold .ensures .1) (hold .ensures .0) (if1 .left) (answer-first .result .phase) (answer-first .result .size) (answer-first .last .1 .0) (answer-first .last .1 .1 .0) (answer-first .last .1 .1 .1 .0) (answer-first .ensures) (answer-first .kept .1 .0) (answer-first .kept .1 .1 .0), (opened-moves (args .held) (args .line .now) (args .letters .now) (args .protein .now) (args .input .now) (args .out .now) (pre .0) (pre .1) (find .result) (find .ensures .0) (find .ensures .1) (hold .result) (hold .last .0) (hold .kept .0) (hold .ensures .1) (hold .ensures .0) (if1 .left) (answer-first .result .phase) (answer-first .result .size) (answer-first .last .1 .0) (answer-first .last .1 .1 .0) (answer-first .last .1 .1 .1 .0) (answer-first .ensures) (copy .result) (copy .last .1 .0) (if2 .left) (copy .ensures .0) (copy .ensures .1), λ o h. absurd (never (not-opening _ (answer-first .result .phase) (answer-first .result .size) (answer-first .last .1 .0) (answer-first .last .1 .1 .0) (answer-first .last .1 .1 .1 .0) (answer-first .ensures)) o)))
+    (opened-holds (args .held) (args .line .now) (args .letters .now) (args .protein .now) (args .input .now) (args .out .now) (pre .0) (pre .1) (find .result) (find .ensures .0) (find .ensures .1) (hold .result) (hold .last .0) (hold .kept .0) (hold .ensures .1) (hold .ensures .0) (if1 .left) (answer-first .result .follows) (answer-first .result .size) (answer-first .last .1 .0) (answer-first .last .1 .1 .0) (answer-first .last .1 .1 .1 .0) (answer-first .ensures) (answer-first .kept .1 .0) (answer-first .kept .1 .1 .0), (opened-moves (args .held) (args .line .now) (args .letters .now) (args .protein .now) (args .input .now) (args .out .now) (pre .0) (pre .1) (find .result) (find .ensures .0) (find .ensures .1) (hold .result) (hold .last .0) (hold .kept .0) (hold .ensures .1) (hold .ensures .0) (if1 .left) (answer-first .result .follows) (answer-first .result .size) (answer-first .last .1 .0) (answer-first .last .1 .1 .0) (answer-first .last .1 .1 .1 .0) (answer-first .ensures) (copy .result) (copy .last .1 .0) (if2 .left) (copy .ensures .0) (copy .ensures .1), λ o h. absurd (open-again o)))
 
 pub open-some-spec : {M : Type 1} → statement M
 open-some-spec =

@@ -1,4 +1,4 @@
--- `lines::answers::answer_first` meets its contract. Assumes nothing.
+-- `answers::answer_first` meets its contract. Assumes nothing.
 use mathlib.Core.Path.{sym, ap, _∙_}
 use mathlib.Core.List.{List}
 use mathlib.Core.Option.{some}
@@ -10,10 +10,10 @@ use Rattle.positions.specs.Views.{bare}
 use Rattle.altseq.specs.Known.{cdsOf}
 use Rattle.forms.specs.Views.{referenceAt}
 use Rattle.prints.proofs.Sizes.{refused-size}
-use Rattle.lines.proofs.Checking.{opens-none, opens-as, first-long, first-formless, first-given}
+use Rattle.answers.proofs.Checking.{opens-none, opens-as, first-long, first-formless, first-given}
 use borrow.Author.Needs.{needs}
-use Rattle.lines.proofs.answers.answer_first.Statement.{statement}
-use Rattle.lines.proofs.answers.answer_first.Tie as tie
+use Rattle.answers.proofs.answer_first.Statement.{statement}
+use Rattle.answers.proofs.answer_first.Tie as tie
 
 print-refused-requires : tie.Need-print-refused-requires
 print-refused-requires c κs =
@@ -64,7 +64,7 @@ returns-3 c =
     let ce = parsed .given .0 .1 .0 in
     let t = parsed .given .0 .1 .1 .0 in
     let at = parsed .given .0 .1 .1 .1 .0 in
-    opens-as _ (some (bare (take (length (args .line .now) - at) (drop at (args .line .now))) (cdsOf cs ce t))) (answer-given .result .phase) (answer-given .result .size) _ _ _
+    opens-as _ (some (bare (take (length (args .line .now) - at) (drop at (args .line .now))) (cdsOf cs ce t))) (answer-given .result .follows) (answer-given .result .size) _ _ _
     (first-given (args .line .now) (if1 .left) (parse-reference .result) (parse-reference .ensures .0) cs ce t at (parsed .given .1)
     ∙ ap (λ (s : List ℕ). some (bare s (cdsOf cs ce t))) (sym (tail-is at (args .line .now))))
     (answer-given .ensures)

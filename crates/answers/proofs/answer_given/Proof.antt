@@ -1,4 +1,4 @@
--- `lines::answers::answer_given` meets its contract. Assumes nothing.
+-- `answers::answer_given` meets its contract. Assumes nothing.
 use mathlib.Core.Path.{sym}
 use native.Mathlib.Omega.{arith}
 use lib.ListN.{length}
@@ -6,10 +6,10 @@ use lib.Seq.{length-take-le}
 use Rattle.rules.specs.Translation.{residueCount}
 use Rattle.altseq.specs.Known.{cdsOf}
 use Rattle.prints.proofs.Sizes.{refused-size}
-use Rattle.lines.proofs.Checking.{opens-refused, letters-fit, protein-fits, reference-room, opens-known}
+use Rattle.answers.proofs.Checking.{opens-refused, letters-fit, protein-fits, reference-room, opens-known}
 use borrow.Author.Needs.{needs}
-use Rattle.lines.proofs.answers.answer_given.Statement.{statement}
-use Rattle.lines.proofs.answers.answer_given.Tie as tie
+use Rattle.answers.proofs.answer_given.Statement.{statement}
+use Rattle.answers.proofs.answer_given.Tie as tie
 
 check-reference-requires : tie.Need-check-reference-requires
 unfolding residueCount

@@ -16,7 +16,7 @@ use Rattle.rules.specs.Refusal.{limits, referenceRefusal}
 use Rattle.rules.specs.Line.{referenceLine, fitsLine}
 use Rattle.rules.specs.Run.{refusedLine, answersFrom, answersOf, lineFeed, unlines}
 use Rattle.rules.proofs.Over.{copied, fits-over, read-back}
-use Rattle.rules.proofs.Reference.{accepted}
+use Rattle.rules.proofs.Reference.{accepted as passed}
 use Rattle.positions.specs.declared.Cds.{Cds}
 use Rattle.positions.specs.Views.{bare}
 use Rattle.altseq.specs.declared.reference.Known.{Known}
@@ -27,27 +27,25 @@ use Rattle.altseq.proofs.References.{checked-refused, checked-accepted, protein
 use Rattle.forms.specs.declared.line.ReferenceLine.{ReferenceLine}
 use Rattle.forms.specs.declared.line.ReferenceLine.the-variants as reference-line
 use Rattle.forms.specs.Views.{referenceIn}
-use Rattle.lines.specs.declared.Phase.{Phase}
-use Rattle.lines.specs.declared.Phase.the-variants.{Editing, Ended}
-use Rattle.lines.specs.Stages.{Stage, editing, ended, openedBy, opened}
-use Rattle.lines.specs.Memory.{noExceptions, Opens}
-use Rattle.lines.proofs.Kept.{fits-line, long-line}
-use Rattle.lines.proofs.Asking.{protein-short}
+use Rattle.answers.specs.declared.Follows.{Follows}
+use Rattle.answers.specs.declared.Follows.the-variants.{Edits, Nothing}
+use Rattle.answers.specs.Lines.{noExceptions, acceptedBy, accepted, Opens}
+use Rattle.answers.proofs.Asking.{protein-short, fits-line, long-line}
 
 -- a refused first line: n bytes of its answer over a buffer
 pub opens-none : (n : ℕ) (letters protein text old : List ℕ) → n ≡ length (refusedLine 30 ++ (lineFeed ∷ [])) → text ≡ over (refusedLine 30 ++ (lineFeed ∷ [])) old
-    → Opens none Ended n letters protein text
-unfolding answersOf unlines opened
+    → Opens none Nothing n letters protein text
+unfolding answersOf unlines accepted
 opens-none n letters protein text old e q =
     record {
       fits = fits-over (refusedLine 30 ++ (lineFeed ∷ [])) old text n e q;
       holds = read-back (refusedLine 30 ++ (lineFeed ∷ [])) old text n e q;
-      stage = refl;
+      reference = refl;
       known = tt;
     }
 
 -- a first line, known as another
-pub opens-as : (o o′ : Option Reference) (p : Phase) (n : ℕ) (letters protein text : List ℕ) → o ≡ o′ → Opens o′ p n letters protein text → Opens o p n letters protein text
+pub opens-as : (o o′ : Option Reference) (p : Follows) (n : ℕ) (letters protein text : List ℕ) → o ≡ o′ → Opens o′ p n letters protein text → Opens o p n letters protein text
 opens-as o o′ p n letters protein text is h = rw is h
 
 refused-answers : (r : Reference) (n : ℕ) → (n ≡ 0 → ⊥) → answersFrom n r [] ≡ refusedLine n ∷ []
@@ -55,8 +53,8 @@ unfolding answersFrom
 refused-answers r zero h = absurd (h refl)
 refused-answers r (suc n) h = refl
 
-refused-ends : (r : Reference) (n : ℕ) → (n ≡ 0 → ⊥) → openedBy n r ≡ ended
-unfolding openedBy
+refused-ends : (r : Reference) (n : ℕ) → (n ≡ 0 → ⊥) → acceptedBy n r ≡ none
+unfolding acceptedBy
 refused-ends r zero h = absurd (h refl)
 refused-ends r (suc n) h = refl
 
@@ -66,14 +64,14 @@ module _ (x₀ : Exceptions) (are : x₀ ≡ noExceptions) (s : List ℕ) (c : C
   is = said ∙ ap (checkedOf 16384 s c) are
 
   pub opens-refused : (n m : ℕ) → x ≡ checked.Refused n → (letters protein text old : List ℕ) → m ≡ length (refusedLine n ++ (lineFeed ∷ [])) → text ≡ over (refusedLine n ++ (lineFeed ∷ [])) old
-      → Opens (some (bare s c)) Ended m letters protein text
-  unfolding exceptionList answersOf unlines opened
+      → Opens (some (bare s c)) Nothing m letters protein text
+  unfolding exceptionList answersOf unlines accepted
   opens-refused n m h letters protein text old e q =
       let refused = checked-refused 16384 s c noExceptions x is n h in
       record {
         fits = fits-over (refusedLine n ++ (lineFeed ∷ [])) old text m e q;
         holds = rw (refused .0, refused-answers (bare s c) n (refused .1)) (read-back (refusedLine n ++ (lineFeed ∷ [])) old text m e q);
-        stage = sym (rw (refused .0) (refused-ends (bare s c) n (refused .1)));
+        reference = sym (rw (refused .0) (refused-ends (bare s c) n (refused .1)));
         known = tt;
       }
 
@@ -83,7 +81,7 @@ module _ (x₀ : Exceptions) (are : x₀ ≡ noExceptions) (s : List ℕ) (c : C
 
     pub letters-fit : length s ≤ 16384
     unfolding size
-    letters-fit = accepted 16384 (referenceOf s c noExceptions) (taken .0) .fits
+    letters-fit = passed 16384 (referenceOf s c noExceptions) (taken .0) .fits
 
     module _ (old protein : List ℕ) (q : protein ≡ over (proteinUnless (earlyRefusal 16384 (referenceOf s c x₀)) (referenceOf s c x₀)) old) where
       held : protein ≡ over (referenceProtein (referenceOf s c noExceptions)) old
@@ -102,8 +100,8 @@ module _ (x₀ : Exceptions) (are : x₀ ≡ noExceptions) (s : List ℕ) (c : C
 
       pub opens-known : (n m : ℕ) (was letters text before : List ℕ) → n ≡ length s → letters ≡ take (length s) s ++ drop (length s) was
           → m ≡ length (bytes "reference " ++ take (k .residues) protein ++ (lineFeed ∷ [])) → text ≡ over (bytes "reference " ++ take (k .residues) protein ++ (lineFeed ∷ [])) before
-          → Opens (some (bare s c)) (Editing k n) m letters protein text
-      unfolding exceptionList answersOf answersFrom unlines opened openedBy
+          → Opens (some (bare s c)) (Edits k n) m letters protein text
+      unfolding exceptionList answersOf answersFrom unlines accepted acceptedBy
       opens-known n m was letters text before e copy e₂ q₂ =
           let cds = cds-known limits s c noExceptions k (taken .0) (taken .1) in
           let there : letters ≡ over s was = copy ∙ copied s was in
@@ -112,7 +110,7 @@ module _ (x₀ : Exceptions) (are : x₀ ≡ noExceptions) (s : List ℕ) (c : C
           record {
             fits = fits-over (bytes "reference " ++ take (k .residues) protein ++ (lineFeed ∷ [])) before text m e₂ q₂;
             holds = rw (taken .0, ← same) (read-back (bytes "reference " ++ take (k .residues) protein ++ (lineFeed ∷ [])) before text m e₂ q₂);
-            stage = rw (taken .0, back, cds);
+            reference = rw (taken .0, back, cds);
             known = rw back (fits-over s was letters n e there, protein-fits, known-here);
           }
 

@@ -1,4 +1,4 @@
--- `lines::answers::answer_asked` meets its contract. Assumes nothing.
+-- `answers::answer_asked` meets its contract. Assumes nothing.
 use mathlib.Core.Path.{sym, ap}
 use native.Mathlib.Omega.{arith}
 use lib.ListN.{take}
@@ -6,10 +6,10 @@ use lib.Seq.{length-take-le}
 use Rattle.rules.specs.Run.{refusedLine, recordLine}
 use Rattle.positions.specs.Views.{asked}
 use Rattle.prints.proofs.Sizes.{refused-size}
-use Rattle.lines.proofs.Asking.{line-of, knows-none, asked-refused, asked-reported, altered-held, record-room}
+use Rattle.answers.proofs.Asking.{line-of, knows-none, asked-refused, asked-reported, altered-held, record-room}
 use borrow.Author.Needs.{needs}
-use Rattle.lines.proofs.answers.answer_asked.Statement.{statement}
-use Rattle.lines.proofs.answers.answer_asked.Tie as tie
+use Rattle.answers.proofs.answer_asked.Statement.{statement}
+use Rattle.answers.proofs.answer_asked.Tie as tie
 
 build-altseq-in-requires : tie.Need-build-altseq-in-requires
 build-altseq-in-requires c κs =

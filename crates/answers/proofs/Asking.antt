@@ -8,6 +8,7 @@ use Prim.Native.Nat.{ℕ, zero, suc, _+_, _≤_, _<_}
 use native.Mathlib.Omega.{arith}
 use lib.ListN.{length, take, drop, length-take, length-append}
 use lib.Seq.{length-take-le}
+use borrow.Author.Tests.{le-leb, lt-leb}
 use Rattle.rules.specs.declared.Edit.{Edit}
 use Rattle.rules.specs.declared.Exceptions.{Exceptions}
 use Rattle.rules.specs.declared.Record.the-variants.{Unknown}
@@ -22,7 +23,7 @@ use Rattle.rules.specs.Protein.{alteredProtein}
 use Rattle.rules.specs.Record.{isUnknown, recordOf}
 use Rattle.rules.specs.Refusal.{limits, refusal, roomRefusal, recordUnless}
 use Rattle.rules.specs.Answer.{Outcome, writesNothing, unknownReport, fullReport, writesAll, outcome, Answers}
-use Rattle.rules.specs.Line.{editLine}
+use Rattle.rules.specs.Line.{editLine, fitsLine}
 use Rattle.rules.specs.Run.{refusedLine, recordLine, answerLine, editAnswer, editLineAnswer, lineFeed}
 use Rattle.rules.proofs.Over.{fits-over, read-back}
 use Rattle.rules.proofs.Records.{record-unknown}
@@ -35,8 +36,15 @@ use Rattle.forms.specs.declared.line.EditLine.{EditLine}
 use Rattle.forms.specs.declared.line.EditLine.the-variants as edit-line
 use Rattle.forms.specs.Views.{askedIn}
 use Rattle.prints.proofs.Sizes.{refused-size, record-size}
-use Rattle.lines.specs.Memory.{noExceptions, Ample, Line}
-use Rattle.lines.proofs.Kept.{fits-line, long-line}
+use Rattle.answers.specs.Lines.{noExceptions, Ample, Line}
+
+pub fits-line : (l : List ℕ) → length l ≤ 20480 → fitsLine l ≡ true
+unfolding fitsLine
+fits-line l h = le-leb (length l) 20480 h
+
+pub long-line : (l : List ℕ) → 20480 < length l → fitsLine l ≡ false
+unfolding fitsLine
+long-line l h = lt-leb (length l) 20480 h
 
 -- a line that is written over a buffer
 pub line-of : (l k text old : List ℕ) (n : ℕ) → l ≡ k → n ≡ length (k ++ (lineFeed ∷ [])) → text ≡ over (k ++ (lineFeed ∷ [])) old → Line n text l

@@ -1,5 +1,4 @@
-// What one line is answered, printed to the start of a buffer.
-use crate::Phase;
+// "Text program": what one line is answered, printed to the start of a buffer.
 use altseq::Checked;
 use altseq::Known;
 use altseq::build_altseq_in;
@@ -27,7 +26,7 @@ ghost use Rattle.rules.specs.Run.{editAnswer, editLineAnswer};
 ghost use Rattle.codons.specs.Tables.{plainSet, HoldsSets, HoldsCode, HoldsPlain, HoldsComplements};
 ghost use Rattle.positions.specs.Views.{bare, asked};
 ghost use Rattle.altseq.specs.Known.{cdsOf, Knows};
-ghost use Rattle.lines.specs.Memory.{noExceptions, Ample, Line, Opens};
+ghost use Rattle.answers.specs.Lines.{noExceptions, Ample, Line, Opens};
 
 fn no_exceptions() -> Exceptions
     ensures { λ r. ⌜ r ≡ noExceptions ⌝ }
@@ -94,7 +93,7 @@ fn answer_asked(
 }
 
 // An edit line of the reference.
-pub(crate) fn answer_edit(
+pub fn answer_edit(
     line: &[u8],
     letters: &[u8],
     known: Known,
@@ -138,9 +137,15 @@ pub(crate) fn answer_edit(
     )
 }
 
-// What a first line is answered, `size` bytes, and the phase that follows.
-pub(crate) struct Opened {
-    pub phase: Phase,
+// What follows a first line: edits of its reference, of which `size` letters are kept, or nothing.
+pub enum Follows {
+    Edits { known: Known, size: usize },
+    Nothing,
+}
+
+// What a first line is answered, `size` bytes, and what follows it.
+pub struct Opened {
+    pub follows: Follows,
     pub size: usize,
 }
 
@@ -155,18 +160,18 @@ fn answer_given(
     text: &mut [u8],
 ) -> Opened
     requires { ⌜ (length (now letters) ≡ 16384) × (length (now protein) ≡ 5462) × (length (now text) ≡ 8192) ⌝ }
-    ensures { λ r. ⌜ Opens (some (bare (now (given .entry)) (cdsOf cs ce table))) (r .phase) (r .size) (now (letters .exit)) (now (protein .exit)) (now (text .exit)) ⌝ }
+    ensures { λ r. ⌜ Opens (some (bare (now (given .entry)) (cdsOf cs ce table))) (r .follows) (r .size) (now (letters .exit)) (now (protein .exit)) (now (text .exit)) ⌝ }
 {
     match check_reference(given, cs, ce, table, no_exceptions(), 16384, protein) {
         Checked::Refused(n) => Opened {
-            phase: Phase::Ended,
+            follows: Follows::Nothing,
             size: print_refused(n, text),
         },
         Checked::Known(known) => {
             let residues = known.residues;
             let size = bytes::copy(given, letters);
             Opened {
-                phase: Phase::Editing { known, size },
+                follows: Follows::Edits { known, size },
                 size: print_reference(&protein[..residues], text),
             }
         }
@@ -174,25 +179,20 @@ fn answer_given(
 }
 
 // A first line.
-pub(crate) fn answer_first(
-    line: &[u8],
-    letters: &mut [u8],
-    protein: &mut [u8],
-    text: &mut [u8],
-) -> Opened
+pub fn answer_first(line: &[u8], letters: &mut [u8], protein: &mut [u8], text: &mut [u8]) -> Opened
     requires { ⌜ (length (now letters) ≡ 16384) × (length (now protein) ≡ 5462) × (length (now text) ≡ 8192) ⌝ }
-    ensures { λ r. ⌜ Opens (if fitsLine (now (line .entry)) then referenceLine (now (line .entry)) else none) (r .phase) (r .size) (now (letters .exit)) (now (protein .exit)) (now (text .exit)) ⌝ }
+    ensures { λ r. ⌜ Opens (if fitsLine (now (line .entry)) then referenceLine (now (line .entry)) else none) (r .follows) (r .size) (now (letters .exit)) (now (protein .exit)) (now (text .exit)) ⌝ }
 {
     if 20480 < line.len() {
         return Opened {
-            phase: Phase::Ended,
+            follows: Follows::Nothing,
             size: print_refused(30, text),
         };
     }
     let parsed = parse_reference(line);
     let ReferenceLine::Given { cs, ce, table, at } = parsed else {
         return Opened {
-            phase: Phase::Ended,
+            follows: Follows::Nothing,
             size: print_refused(30, text),
         };
     };

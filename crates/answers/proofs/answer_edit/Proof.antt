@@ -1,4 +1,4 @@
--- `lines::answers::answer_edit` meets its contract. Assumes nothing.
+-- `answers::answer_edit` meets its contract. Assumes nothing.
 use mathlib.Core.Path.{sym, ap, _∙_}
 use mathlib.Core.List.{List}
 use mathlib.Core.Option.{some}
@@ -10,10 +10,10 @@ use Rattle.rules.proofs.Over.{tail-is}
 use Rattle.positions.specs.Views.{bare, asked}
 use Rattle.forms.specs.Views.{askedAt}
 use Rattle.prints.proofs.Sizes.{refused-size}
-use Rattle.lines.proofs.Asking.{line-of, line-as, edit-long, edit-formless, edit-asked}
+use Rattle.answers.proofs.Asking.{line-of, line-as, edit-long, edit-formless, edit-asked}
 use borrow.Author.Needs.{needs}
-use Rattle.lines.proofs.answers.answer_edit.Statement.{statement}
-use Rattle.lines.proofs.answers.answer_edit.Tie as tie
+use Rattle.answers.proofs.answer_edit.Statement.{statement}
+use Rattle.answers.proofs.answer_edit.Tie as tie
 
 print-refused-requires : tie.Need-print-refused-requires
 print-refused-requires c κs =
