@@ -66,6 +66,12 @@ protein-short s k protein known =
     let r = protein-read 16384 (referenceOf s (k .cds) noExceptions) (known .accepted) in
     omega (arith, ap length (known .read), r .whole, a .fits, a .bounds .first, a .bounds .inside)
 
+-- the program's buffers hold the longest answers, so 11 and 12 never occur
+pub roomy : (r : Reference) (e : Asked) (t p q : List ℕ) → Ample t p q → refusal limits r e ≡ 0 → roomRefusal r e (roomOf t p q) ≡ 0
+unfolding residueCount
+roomy r e t p q ample z =
+    enough limits r e (roomOf t p q) z (omega (arith, ample .for-transcript)) (omega (arith, ample .for-reference)) (omega (arith, ample .for-altered))
+
 -- an edit of a reference, answered with room enough: which answer it is, and what is printed for it
 module _ (r : Reference) (e : Asked) (t p q t′ p′ q′ : List ℕ) (x : Answer) (h : Answers (outcome limits r e (roomOf t p q)) x t t′ p p′ q q′)
     (roomy : refusal limits r e ≡ 0 → roomRefusal r e (roomOf t p q) ≡ 0) where
@@ -122,21 +128,14 @@ module _ (x₀ : Exceptions) (are : x₀ ≡ noExceptions) (s : List ℕ) (k : K
     said : Answers (outcome limits (referenceOf s (k .cds) noExceptions) e (roomOf t p q)) x t t′ p p′ q q′
     said = subst (λ (x₀ : Exceptions). Answers (outcome limits (referenceOf s (k .cds) x₀) e (roomOf t p q)) x t t′ p p′ q q′) are h
 
-    -- 11 and 12 never apply
-    roomy : refusal limits (referenceOf s (k .cds) noExceptions) e ≡ 0 → roomRefusal (referenceOf s (k .cds) noExceptions) e (roomOf t p q) ≡ 0
-    unfolding residueCount
-    roomy z =
-        enough limits (referenceOf s (k .cds) noExceptions) e (roomOf t p q) z
-        (omega (arith, ample .for-transcript)) (omega (arith, ample .for-reference)) (omega (arith, ample .for-altered))
-
     pub asked-refused : (n : ℕ) → x ≡ answer.Refused n → editAnswer (bare s (k .cds)) (some e) ≡ refusedLine n
     unfolding exceptionList
-    asked-refused n is = refused-line (referenceOf s (k .cds) noExceptions) e t p q t′ p′ q′ x said roomy n is
+    asked-refused n is = refused-line (referenceOf s (k .cds) noExceptions) e t p q t′ p′ q′ x said (roomy (referenceOf s (k .cds) noExceptions) e t p q ample) n is
 
     module _ (u : Report) (is : x ≡ answer.Reported u) where
       reported : (u .altered ≤ length q′) × (editAnswer (bare s (k .cds)) (some e) ≡ recordLine (u .found) protein (take (u .altered) q′))
       unfolding exceptionList
-      reported = record-line (referenceOf s (k .cds) noExceptions) e t p q t′ p′ q′ x said roomy protein (known .read) u is
+      reported = record-line (referenceOf s (k .cds) noExceptions) e t p q t′ p′ q′ x said (roomy (referenceOf s (k .cds) noExceptions) e t p q ample) protein (known .read) u is
 
       pub asked-reported : editAnswer (bare s (k .cds)) (some e) ≡ recordLine (u .found) protein (take (u .altered) q′)
       asked-reported = reported .1

@@ -2,9 +2,12 @@
 pub mod Kept
 pub mod Pieces
 pub mod Whole
+pub mod Single
+pub mod Room
 mod Gathered
 mod Feeds
 mod Turns
 mod First
 mod Editing
 mod Stepping
+mod Last

@@ -4,9 +4,9 @@ use mathlib.Core.Path.{_≡_}
 use mathlib.Core.List.{List, [], _∷_, _++_}
 use mathlib.Core.Bool.{true, false}
 use mathlib.Core.Option.{Option, none, some}
-use lib.Dec.{eqb}
+use lib.Dec.{eqb, leb}
 use lib.ListN.{length, take}
-use Rattle.rules.specs.Bytes.{if_then_else_, isNone, over}
+use Rattle.rules.specs.Bytes.{if_then_else_, isNone, Result, given, refused, over}
 use Rattle.rules.specs.Reference.{Reference}
 use Rattle.rules.specs.Line.{referenceLine, fitsLine}
 use Rattle.rules.specs.Run.{editLineAnswer, answers, lineFeed, unlines}
@@ -67,6 +67,10 @@ printed x (b ∷ s) = elim (eqb b lineFeed) [ true ↦ answered x ++ printed (ne
 -- what is printed at the input's end: for a last line that no line feed ends
 unfoldable pub printedLast : Stage → List ℕ
 printedLast x = if isNone (lineOf x) then [] else answered x
+
+-- the same, or 15 where there is no room for it
+unfoldable pub last : Stage → ℕ → Result (List ℕ)
+last x room = if leb (length (printedLast x)) room then given (printedLast x) else refused 15
 
 -- A move over the first `taken` bytes of a piece of input prints what they are answered.
 pub record Moves (x x′ : Stage) (input : List ℕ) (taken used : ℕ) (out out′ : List ℕ) : Type 0 where

@@ -7,11 +7,14 @@ mod open;
 use answers::Follows;
 use edit::edit_some;
 use open::open_some;
+use rules::Written;
 ghost use mathlib.Core.Path.{_≡_};
 ghost use Prim.Native.Nat.{_≤_};
-ghost use lib.ListN.{take};
+ghost use lib.ListN.{length, take};
+ghost use Rattle.rules.specs.Bytes.{over};
+ghost use Rattle.rules.specs.Answer.{writtenOf, bytesOf};
 ghost use Rattle.answers.specs.Lines.{KnownIn};
-ghost use Rattle.lines.specs.Stages.{opening, Steps};
+ghost use Rattle.lines.specs.Stages.{opening, last, Steps};
 ghost use Rattle.lines.specs.Memory.{stageBehind, stageOf, Rooms, Holds};
 
 // Before the first line's end, or behind it.
@@ -128,4 +131,26 @@ pub fn step(
             step_on(follows, state.held, line, letters, protein, input, out)
         }
     }
+}
+
+// At the input's end: the answer to a last line that no line feed ends; 15 if there is no room for it.
+pub fn finish(
+    state: State,
+    line: &mut [u8],
+    letters: &mut [u8],
+    protein: &mut [u8],
+    out: &mut [u8],
+) -> Written
+    requires { ⌜ Holds state (now line) (now letters) (now protein) ⌝ }
+    ensures { λ r. ⌜ r ≡ writtenOf (last (stageOf state (now (line .entry)) (now (letters .entry))) (length (now (out .entry)))) ⌝ }
+    ensures { λ _. ⌜ now (out .exit) ≡ over (bytesOf (last (stageOf state (now (line .entry)) (now (letters .entry))) (length (now (out .entry))))) (now (out .entry)) ⌝ }
+{
+    if state.held == 0 {
+        return Written::Bytes(0);
+    }
+    let stepped = step(state, line, letters, protein, b"\n", out);
+    if stepped.taken == 0 {
+        return Written::Refused(15);
+    }
+    Written::Bytes(stepped.used)
 }
