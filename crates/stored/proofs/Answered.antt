@@ -4,6 +4,7 @@ use mathlib.Core.Path.{_≡_, refl, sym, ap, subst, _∙_}
 use mathlib.Core.List.{List}
 use Prim.Native.Nat.{ℕ, zero, suc}
 use native.Mathlib.Omega.{arith}
+use Rattle.rules.specs.declared.Exceptions.{Exceptions}
 use Rattle.rules.specs.declared.Limits.{Limits}
 use Rattle.rules.specs.declared.Answer.{Answer}
 use Rattle.rules.specs.declared.Answer.the-variants as answer
@@ -18,8 +19,10 @@ use Rattle.rules.proofs.Answers.{refused-by, Alike, single}
 use Rattle.fields.specs.declared.reference.StoredAt.{StoredAt}
 use Rattle.fields.specs.declared.reference.Stored.{Stored}
 use Rattle.fields.specs.declared.reference.Stored.the-variants.{At}
+use Rattle.fields.specs.Places.{bytesAt}
+use Rattle.fields.specs.Held.{exceptionsOf}
 use Rattle.fields.specs.Reading.{referenceAt, Reads, assembledIn}
-use Rattle.altseq.specs.Known.{roomOf}
+use Rattle.altseq.specs.Known.{cdsOf, referenceOf}
 use Rattle.altseq.proofs.Answering.{writes-nothing}
 use Rattle.stored.specs.Outcomes.{outcomeOf}
 use Rattle.stored.proofs.Judged.{takenAt, taken-refusal, taken-same, refused-at, given-at}
@@ -43,9 +46,12 @@ module _ (m : Limits) (s : List ℕ) (r : Stored) (found : Reads s (assembledIn 
           rw (refused-at (m .longest) s r found p h (suc n) e (λ z. omega arith))
           (refused-by m (takenAt s p) a room n (refused-reference m (takenAt s p) a n (taken-refusal s p (found .stands p h) (m .longest) ∙ sym e)))
 
-  pub answers : (y : Reference) (x : Answer) (t t′ q q′ u u′ : List ℕ) → y ≡ takenAt s p → Answers (outcome m y a room) x t t′ q q′ u u′
+  pub answers : (letters : List ℕ) (e : Exceptions) (x : Answer) (t t′ q q′ u u′ : List ℕ) → letters ≡ bytesAt s (p .letters) → e ≡ exceptionsOf (bytesAt s (p .exceptions))
+      → Answers (outcome m (referenceOf letters (cdsOf (p .cs) (p .ce) (p .table)) e) a room) x t t′ q q′ u u′
       → Answers (outcomeOf m (storedReference (m .longest) s) a room) x t t′ q q′ u u′
-  answers y x t t′ q q′ u u′ is k = subst (λ (o : Outcome). Answers o x t t′ q q′ u u′) (ap (λ (r : Reference). outcome m r a room) is ∙ taken-outcome) k
+  answers letters e x t t′ q q′ u u′ are is k =
+      let same : referenceOf letters (cdsOf (p .cs) (p .ce) (p .table)) e ≡ takenAt s p = rw (are, is) in
+      subst (λ (o : Outcome). Answers o x t t′ q q′ u u′) (ap (λ (r : Reference). outcome m r a room) same ∙ taken-outcome) k
 
 -- two answers to one call, with the same buffers lent, are the same, and so is every byte that they leave
 pub single-answer : (m : Limits) (x : Result Reference) (a : Asked) (room : Room) (a₁ a₂ : Answer) (t t₁ t₂ p p₁ p₂ q q₁ q₂ : List ℕ)

@@ -2,3 +2,4 @@
 pub mod Last
 pub mod Judged
 pub mod Answered
+pub mod Promised

@@ -1,6 +1,8 @@
 -- `stored::answer::build_altseq_stored` meets its contract. Assumes nothing.
+use mathlib.Core.Path.{ap, _∙_}
 use borrow.Author.Needs.{needs}
 use Rattle.rules.specs.Refusal.{limits}
+use Rattle.fields.specs.Held.{exceptionsOf}
 use Rattle.positions.specs.Views.{asked}
 use Rattle.altseq.specs.Known.{roomOf}
 use Rattle.stored.proofs.Judged.{unfound}
@@ -25,8 +27,9 @@ returns c =
 returns-2 : tie.Need-returns-2
 returns-2 c =
     let a = c .before .before .before .before .before .before .before .before .before .before .before .before .before .before .before .before .before .before .before .before .before .before .args in
-    answers limits (a .s .now) (c .before .before .before .before .before .before .before .before .before .before .before .before .before .before .before .before .find-stored .result) (c .before .before .before .before .before .before .before .before .before .before .before .before .before .before .before .before .find-stored .ensures) _ (c .before .before .before .before .before .before .before .before .before .before .before .before .before .before .p .given .1) (asked (a .edit) (a .new .now)) (roomOf (a .tx .now) (a .rp .now) (a .ap .now)) _ _ (a .tx .now) _ (a .rp .now) _ (a .ap .now) _
-    (rw (c .before .before .before .before .before .before .before .before .before .before .bytes-at2 .ensures, c .before .before .before .before .before .before .before .before .before .before .before .exceptions-in .ensures, c .before .before .before .before .before .before .before .before .before .before .before .before .bytes-at .ensures)) (c .before .before .before .before .before .before .build-altseq .ensures)
+    answers limits (a .s .now) (c .before .before .before .before .before .before .before .before .before .before .before .before .before .before .before .before .find-stored .result) (c .before .before .before .before .before .before .before .before .before .before .before .before .before .before .before .before .find-stored .ensures) (c .before .before .before .before .before .before .before .before .before .before .before .before .before .before .p .given .0 .0) (c .before .before .before .before .before .before .before .before .before .before .before .before .before .before .p .given .1) (asked (a .edit) (a .new .now)) (roomOf (a .tx .now) (a .rp .now) (a .ap .now))
+    (c .before .before .before .before .before .before .before .before .before .before .bytes-at2 .result .now) (c .before .before .before .before .before .before .before .before .before .before .before .exceptions-in .result) (c .before .before .before .before .before .before .build-altseq .result) (a .tx .now) _ (a .rp .now) _ (a .ap .now) _
+    (c .before .before .before .before .before .before .before .before .before .before .bytes-at2 .ensures) (c .before .before .before .before .before .before .before .before .before .before .before .exceptions-in .ensures ∙ ap exceptionsOf (c .before .before .before .before .before .before .before .before .before .before .before .before .bytes-at .ensures)) (c .before .before .before .before .before .before .build-altseq .ensures)
 
 pub build-altseq-stored-spec : {M : Type 1} → statement M
 build-altseq-stored-spec =
