@@ -14,7 +14,7 @@ pub printed-grows : (x : Stage) (input : List ℕ) (m n : ℕ) → m ≤ n → l
 printed-grows x input m n h =
     let all : n ≡ m + (n - m) = omega arith in
     let more : printed x (take n input) ≡ printed x (take m input) ++ printed (after x (take m input)) (take (n - m) (drop m input)) =
-        ap (λ (n : ℕ). printed x (take n input)) all ∙ ap (printed x) (take-add m (n - m) input) ∙ printed-append x (take m input) (take (n - m) (drop m input)) in
+    ap (λ (n : ℕ). printed x (take n input)) all ∙ ap (printed x) (take-add m (n - m) input) ∙ printed-append x (take m input) (take (n - m) (drop m input)) in
     omega (arith, ap length more, length-append (printed x (take m input)) (printed (after x (take m input)) (take (n - m) (drop m input))))
 
 -- no step takes less than another
