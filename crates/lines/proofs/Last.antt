@@ -1,15 +1,17 @@
 -- Laws of the input's end.
 -- Assumes nothing.
 use mathlib.Core.Path.{_≡_, refl, sym, ap, subst, _∙_}
+use mathlib.Core.Bool.{Bool, true, false}
 use mathlib.Core.List.{List, [], _∷_}
 use Prim.Native.Nat.{ℕ, _≤_, _<_}
 use native.Mathlib.Omega.{arith}
+use lib.Dec.{leb}
 use lib.ListN.{length, take}
 use lib.Seq.{length-take-le}
-use borrow.Author.Tests.{le-leb, lt-leb}
+use borrow.Author.Tests.{le-leb, lt-leb, leb-true}
 use Rattle.rules.specs.declared.Written.{Written}
 use Rattle.rules.specs.declared.Written.the-variants as written
-use Rattle.rules.specs.Bytes.{isNone, given, refused, over}
+use Rattle.rules.specs.Bytes.{if_then_else_, given, refused, over}
 use Rattle.rules.specs.Answer.{writtenOf, bytesOf}
 use Rattle.rules.specs.Run.{lineFeed}
 use Rattle.rules.proofs.Fills.{refuses, gives}
@@ -74,3 +76,12 @@ module _ (s : State) (line letters protein out : List ℕ) (h : Holds s line let
         gives (last (stageOf s line letters) (length out)) (answered (stageOf s line letters)) u out′ out
         (rw (is, le-leb (length (answered (stageOf s line letters))) (length out) (omega (arith, k .moves .fits))))
         size (k .moves .prints ∙ ap (λ (l : List ℕ). over l out) said)
+
+-- what is put out at the end has room
+pub last-within : (x : Stage) (room n : ℕ) (r : Written) → r ≡ writtenOf (last x room) → r ≡ written.Bytes n → n ≤ room
+unfolding last writtenOf
+last-within x room n r is h = by (leb (length (printedLast x)) room) refl (sym is ∙ h)
+  where
+    by : (t : Bool) → leb (length (printedLast x)) room ≡ t → writtenOf (if t then given (printedLast x) else refused 15) ≡ written.Bytes n → n ≤ room
+    by true e q = let same : length (printedLast x) ≡ n = cc in omega (arith, leb-true (length (printedLast x)) room e)
+    by false e q = let z : _≡_ {A = ℕ} 0 1 = cc in absurd (omega arith)

@@ -10,4 +10,4 @@ mod Turns
 mod First
 mod Editing
 mod Stepping
-mod Last
+pub mod Last

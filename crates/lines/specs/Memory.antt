@@ -1,6 +1,7 @@
 -- What is kept between two steps: a state, and the buffers that are lent to each.
 use Prim.Native.Nat.{ℕ, _≤_}
 use mathlib.Core.Path.{_≡_}
+use mathlib.Core.Bool.{Bool, true, false}
 use mathlib.Core.List.{List}
 use lib.ListN.{length, take}
 use Rattle.positions.specs.Views.{bare}
@@ -11,6 +12,12 @@ use Rattle.lines.specs.declared.Phase.{Phase}
 use Rattle.lines.specs.declared.Phase.the-variants.{Opening, Behind}
 use Rattle.lines.specs.declared.State.{State}
 use Rattle.lines.specs.Stages.{Stage, opening, editing, ended}
+
+-- the stage is `ended`
+abbrev pub isOver : Phase → Bool
+isOver Opening = false
+isOver (Behind (Edits k size)) = false
+isOver (Behind Nothing) = true
 
 -- the stage of what follows the first line, with the line so far and the letters' buffer
 abbrev pub stageBehind : Follows → List ℕ → List ℕ → Stage

@@ -15,7 +15,7 @@ ghost use Rattle.rules.specs.Bytes.{over};
 ghost use Rattle.rules.specs.Answer.{writtenOf, bytesOf};
 ghost use Rattle.answers.specs.Lines.{KnownIn};
 ghost use Rattle.lines.specs.Stages.{opening, last, Steps};
-ghost use Rattle.lines.specs.Memory.{stageBehind, stageOf, Rooms, Holds};
+ghost use Rattle.lines.specs.Memory.{isOver, stageBehind, stageOf, Rooms, Holds};
 
 // Before the first line's end, or behind it.
 pub enum Phase {
@@ -34,6 +34,20 @@ pub struct Stepped {
     pub state: State,
     pub taken: usize,
     pub used: usize,
+}
+
+// Whether the run has ended: whatever comes is answered nothing.
+pub fn is_over(state: State) -> bool
+    ensures { λ r. ⌜ r ≡ isOver (state .phase) ⌝ }
+{
+    let phase = state.phase;
+    match phase {
+        Phase::Opening => false,
+        Phase::Behind(follows) => match follows {
+            Follows::Edits { known: _, size: _ } => false,
+            Follows::Nothing => true,
+        },
+    }
 }
 
 // A step behind the first line.
