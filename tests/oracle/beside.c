@@ -41,8 +41,7 @@ static struct reference ref;
 static struct edit edit;
 static struct answer rust;
 static uint8_t tx[ROOM], rp[ROOM], ap[ROOM], rust_tx[ROOM], rust_ap[ROOM];
-static FILE *list;
-static uint64_t seed, edits, equal, unexplained, refusals[64], unknowns, plain_calls;
+static uint64_t edits, equal, unexplained, refusals[64], unknowns, plain_calls;
 
 /* ---- differences ---- */
 
@@ -133,35 +132,6 @@ static struct garumbott_answer ours_now(void)
 
 /* ---- the list: a line for each reference, and one for each edit with its answer ---- */
 
-static void put_bytes(const uint8_t *s, int64_t n)
-{
-    fprintf(list, n > 0 ? " %.*s" : " -", (int)n, s);
-}
-
-static void put_reference(void)
-{
-    if (!list)
-        return;
-    fprintf(list, "R %lu %lu %lu", (unsigned long)ref.cs, (unsigned long)ref.ce, (unsigned long)ref.table);
-    put_bytes(ref.letters, (int64_t)ref.len);
-    for (uint64_t i = 0; i < ref.exceptions_len; i += 3)
-        fprintf(list, " %d %c", ref.exceptions[i] * 256 + ref.exceptions[i + 1], ref.exceptions[i + 2]);
-    fprintf(list, "\n");
-}
-
-static void put_edit(void)
-{
-    if (!list)
-        return;
-    fprintf(list, "E %lu %lu %ld %lu %ld", (unsigned long)edit.kind, (unsigned long)edit.start_star, (long)edit.start, (unsigned long)edit.end_star,
-            (long)edit.end);
-    put_bytes(edit.bases, (int64_t)edit.bases_len);
-    fprintf(list, " %d %d %d %ld %ld %ld", rust.answered, rust.unknown, rust.frameshift, (long)rust.number, (long)rust.deleted_len, (long)rust.inserted_len);
-    put_bytes(rust_tx, rust.unknown ? 0 : rust.transcript_len);
-    put_bytes(rust_ap, rust.unknown ? 0 : rust.altered_len);
-    fprintf(list, "\n");
-}
-
 static uint64_t take_bytes(const char *word, uint8_t *out, uint64_t room)
 {
     uint64_t n = strcmp(word, "-") ? strlen(word) : 0;
@@ -228,6 +198,37 @@ static int replay(const char *path)
 /* ---- the Rust ---- */
 
 static struct oracle_reference *rust_ref;
+static FILE *list;
+static uint64_t seed;
+
+static void put_bytes(const uint8_t *s, int64_t n)
+{
+    fprintf(list, n > 0 ? " %.*s" : " -", (int)n, s);
+}
+
+static void put_reference(void)
+{
+    if (!list)
+        return;
+    fprintf(list, "R %lu %lu %lu", (unsigned long)ref.cs, (unsigned long)ref.ce, (unsigned long)ref.table);
+    put_bytes(ref.letters, (int64_t)ref.len);
+    for (uint64_t i = 0; i < ref.exceptions_len; i += 3)
+        fprintf(list, " %d %c", ref.exceptions[i] * 256 + ref.exceptions[i + 1], ref.exceptions[i + 2]);
+    fprintf(list, "\n");
+}
+
+static void put_edit(void)
+{
+    if (!list)
+        return;
+    fprintf(list, "E %lu %lu %ld %lu %ld", (unsigned long)edit.kind, (unsigned long)edit.start_star, (long)edit.start, (unsigned long)edit.end_star,
+            (long)edit.end);
+    put_bytes(edit.bases, (int64_t)edit.bases_len);
+    fprintf(list, " %d %d %d %ld %ld %ld", rust.answered, rust.unknown, rust.frameshift, (long)rust.number, (long)rust.deleted_len, (long)rust.inserted_len);
+    put_bytes(rust_tx, rust.unknown ? 0 : rust.transcript_len);
+    put_bytes(rust_ap, rust.unknown ? 0 : rust.altered_len);
+    fprintf(list, "\n");
+}
 
 static void ask_rust(void)
 {
