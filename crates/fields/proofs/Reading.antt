@@ -35,6 +35,10 @@ refused-fields s n e k = by (fields s) e
     by (given fs) h = absurd (k h)
     by (refused m) h = ap refused (sym h)
 
+-- none of them
+pub unrefused : (s : List ℕ) (n : ℕ) → n ≡ refusalIn (fields s) → n ≤ 0 → refusalIn (fields s) ≡ 0
+unrefused s n e h = omega arith
+
 -- the contents that are found
 module _ (s : List ℕ) (none-refused : refusalIn (fields s) ≡ 0) where
   are-assembled : assembledIn (fields s) ≡ assembled (contentOf 1 (taggedIn (fields s))) (contentOf 2 (taggedIn (fields s))) (contentOf 3 (taggedIn (fields s))) (orEmpty (contentOf 4 (taggedIn (fields s))))

@@ -42,7 +42,9 @@ pub fn two_bytes(s: &[u8], at: usize) -> usize
     requires { ⌜ at + 2 ≤ length (now s) ⌝ }
     ensures { λ r. ⌜ r ≡ twoBytes (getD (now (s .entry)) at 0) (getD (now (s .entry)) (at + 1) 0) ⌝ }
 {
-    256 * wide(s[at]) + wide(s[at + 1])
+    let high = wide(s[at]);
+    let low = wide(s[at + 1]);
+    256 * high + low
 }
 
 // The field at a place of the bytes.

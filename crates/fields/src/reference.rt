@@ -38,7 +38,7 @@ pub fn find_stored(s: &[u8]) -> Stored
     ensures { λ r. ⌜ Reads (now (s .entry)) (assembledIn (fields (now (s .entry)))) r ⌝ }
 {
     let refused = fields_refusal(s);
-    if refused != 0 {
+    if 0 < refused {
         return Stored::Refused(refused);
     }
     let one = content_of(s, 1);

@@ -3,6 +3,7 @@ use crate::reader::Field;
 use crate::reader::Span;
 use crate::reader::next_field;
 ghost use mathlib.Core.Path.{_≡_};
+ghost use Rattle.rules.specs.Bytes.{if_then_else_};
 ghost use Rattle.rules.specs.Stored.{isWrongTag, isWrongLength, fields};
 ghost use Rattle.fields.specs.Places.{placeOf};
 ghost use Rattle.fields.specs.Refusals.{fieldRefusal, refusalIn, taggedIn};
@@ -32,26 +33,23 @@ fn is_wrong_length(tag: u8, len: usize) -> bool
     }
 }
 
+// A number if a test holds, else another.
+fn refused_if(holds: bool, number: usize, other: usize) -> usize
+    ensures { λ r. ⌜ r ≡ (if holds then number else other) ⌝ }
+{
+    if holds { number } else { other }
+}
+
 // 21 before 20 before 23, in a field behind one with the tag `last`; 0 where none applies.
 fn field_refusal(last: u8, f: Field) -> usize
     ensures { λ r. ⌜ r ≡ fieldRefusal last f ⌝ }
 {
     match f {
         Field::End => 0,
-        Field::Cut { tag } => {
-            if is_wrong_tag(last, tag) {
-                return 21;
-            }
-            20
-        }
+        Field::Cut { tag } => refused_if(is_wrong_tag(last, tag), 21, 20),
         Field::Whole { tag, content } => {
-            if is_wrong_tag(last, tag) {
-                return 21;
-            }
-            if is_wrong_length(tag, content.len) {
-                return 23;
-            }
-            0
+            let fits = refused_if(is_wrong_length(tag, content.len), 23, 0);
+            refused_if(is_wrong_tag(last, tag), 21, fits)
         }
     }
 }
