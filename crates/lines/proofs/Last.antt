@@ -85,3 +85,7 @@ last-within x room n r is h = by (leb (length (printedLast x)) room) refl (sym i
     by : (t : Bool) → leb (length (printedLast x)) room ≡ t → writtenOf (if t then given (printedLast x) else refused 15) ≡ written.Bytes n → n ≤ room
     by true e q = let same : length (printedLast x) ≡ n = cc in omega (arith, leb-true (length (printedLast x)) room e)
     by false e q = let z : _≡_ {A = ℕ} 0 1 = cc in absurd (omega arith)
+
+pub last-fits : (x : Stage) (room : ℕ) → length (printedLast x) ≤ room → last x room ≡ given (printedLast x)
+unfolding last
+last-fits x room h = rw (le-leb (length (printedLast x)) room h)

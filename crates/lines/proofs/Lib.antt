@@ -6,7 +6,7 @@ pub mod Single
 pub mod Room
 mod Gathered
 mod Feeds
-mod Turns
+pub mod Turns
 mod First
 mod Editing
 mod Stepping

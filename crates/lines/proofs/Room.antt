@@ -9,7 +9,7 @@ use native.Mathlib.Omega.{arith}
 use lib.Dec.{eqb}
 use lib.ListN.{length, take, length-append}
 use borrow.Author.Tests.{eqb-true, eqb-false}
-use Rattle.rules.specs.Bytes.{bytes, if_then_else_, Result, given, refused, unless}
+use Rattle.rules.specs.Bytes.{bytes, if_then_else_, isNone, Result, given, refused, unless}
 use Rattle.rules.specs.Translation.{exceptionList, residueCount}
 use Rattle.rules.specs.Reference.{Reference, size, cdsSize, codons, referenceProtein}
 use Rattle.rules.specs.Edit.{Asked}
@@ -27,7 +27,7 @@ use Rattle.answers.specs.declared.Follows.the-variants.{Edits, Nothing}
 use Rattle.lines.specs.declared.Phase.{Phase}
 use Rattle.lines.specs.declared.Phase.the-variants.{Opening, Behind}
 use Rattle.lines.specs.declared.State.{State}
-use Rattle.lines.specs.Stages.{Stage, answered, printed, Steps}
+use Rattle.lines.specs.Stages.{Stage, lineOf, answered, printed, printedLast, Steps}
 use Rattle.lines.specs.Memory.{stageBy, stageOf, KnownBy, Holds}
 use Rattle.prints.proofs.Sizes.{refused-size, record-size}
 
@@ -79,6 +79,14 @@ line-size (Behind Nothing) l letters protein k = omega arith
 
 pub answered-size : (s : State) (line letters protein : List ℕ) → Holds s line letters protein → length (answered (stageOf s line letters)) ≤ 16415
 answered-size s line letters protein h = line-size (s .phase) (take (s .held) line) letters protein (h .known)
+
+pub last-size : (s : State) (line letters protein : List ℕ) → Holds s line letters protein → length (printedLast (stageOf s line letters)) ≤ 16415
+unfolding printedLast
+last-size s line letters protein h = by (isNone (lineOf (stageOf s line letters)))
+  where
+    by : (t : Bool) → length (if t then [] else answered (stageOf s line letters)) ≤ 16415
+    by true = omega arith
+    by false = answered-size s line letters protein h
 
 -- one byte prints no more than one line's answer
 one-byte : (x : Stage) (s : List ℕ) → length (printed x (take 1 s)) ≤ length (answered x)

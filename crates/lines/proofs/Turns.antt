@@ -137,10 +137,10 @@ module _ (x y : Stage) (input : List ℕ) (t : ℕ) (is : y ≡ after x (take t 
   row : take (t + n) input ≡ take t input ++ take n (drop t input)
   row = take-add t n input
 
-  row-reached : after y (take n (drop t input)) ≡ after x (take (t + n) input)
+  pub row-reached : after y (take n (drop t input)) ≡ after x (take (t + n) input)
   row-reached = sym (ap (after x) row ∙ after-append x (take t input) (take n (drop t input)) ∙ ap (λ (z : Stage). after z (take n (drop t input))) (sym is))
 
-  row-prints : printed x (take (t + n) input) ≡ printed x (take t input) ++ printed y (take n (drop t input))
+  pub row-prints : printed x (take (t + n) input) ≡ printed x (take t input) ++ printed y (take n (drop t input))
   row-prints =
       ap (printed x) row ∙ printed-append x (take t input) (take n (drop t input))
       ∙ ap (λ (z : Stage). printed x (take t input) ++ printed z (take n (drop t input))) (sym is)
