@@ -37,7 +37,7 @@
  *   Ownership. The library allocates nothing, frees nothing and keeps no pointer and no other thing between calls. What you lend stays yours.
  *   Threads. Any function may be called from any thread, and from several at once, as long as no two calls share a buffer that one of them
  *     writes. There is no setup, no state, no errno, no locale, no signal.
- *   Stack. No call needs more than GARUMBOTT_STACK bytes of it.
+ *   Stack. No call needs more than GARUMBOTT_STACK bytes of it, but for garumbott_run: GARUMBOTT_RUN_STACK.
  *   Refusals. Every other fault of the input is refused: the answer has the refusal's number, every other number in it is 0, and no byte of
  *     any buffer has changed. Where several faults apply, the lowest number is given, but where a function names another order.
  *   Bytes written stand at a buffer's start. What stands behind them is as it was before the call.
@@ -61,8 +61,9 @@ extern "C" {
 
 /* ---- Limits ------------------------------------------------------------------------------------------------------------------------- */
 
-/* Bytes of stack that a call needs at most. */
-#define GARUMBOTT_STACK 16384
+/* Bytes of stack that a call needs at most; garumbott_run alone needs more. */
+#define GARUMBOTT_STACK 24576
+#define GARUMBOTT_RUN_STACK 147456
 
 /* The longest reference transcript, and the most new bases of an edit. */
 #define GARUMBOTT_LONGEST 16384
@@ -248,6 +249,15 @@ struct garumbott_answer garumbott_edit(const uint8_t *letters, uint64_t letters_
  * Nothing is copied: the letters and the exceptions stay where they stand in data, which must stay as it is while they are used.
  * garumbott_reference_at, below, makes of the answer what garumbott_record_of and garumbott_edit_of take. */
 struct garumbott_stored garumbott_read_stored(const uint8_t *data, uint64_t data_len);
+
+/* ---- The text program --------------------------------------------------------------------------------------------------------------- */
+
+/* The text program over memory: the first line of the input is "ref CS CE TABLE LETTERS", each line behind it an edit ("8A>G", "5del", "4_6dup", "9_10insTAG",
+ * "4_6delinsTT", "4_6inv", "4="; positions "7", "-2", "*3"), and each is answered by a line: "reference MAKW*", "substitution 3 K R", "refused 7". A line
+ * ends at a line feed, the last perhaps without; lines that aren't in the form, empty ones and those above 20,480 bytes are answered "refused 30".
+ * A refused first line ends the run. An answer has at most 16,415 bytes, its line feed included.
+ * Refusal 15: the answers don't fit; then no byte of out has changed. Nothing else is refused. */
+struct garumbott_length garumbott_run(const uint8_t *input, uint64_t input_len, uint8_t *out, uint64_t out_len);
 
 /* ---- Byte strings ------------------------------------------------------------------------------------------------------------------- */
 

@@ -526,6 +526,17 @@ static void fuzz_strings(void)
         if (fill_table <= 2 && fill_exceptions_len % 3 != 0) check(a.refusal == 5, "5");
     }
 
+    doing = "garumbott_run";
+    n = 0;
+    if (!one_in(8)) memcpy(s, "ref 3 17 0 GGATGGCCAAATGGTAACCTGAC\n", n = 35);
+    n += some_bytes(s + n, 300, one_in(8) ? "" : "01234567_-*=>ACGT\n\ndelinsupv");
+    a = fill(garumbott_run, s, n, out, 3900);
+    for (uint64_t k = 0; k < n; k++) i += s[k] == '\n' || k + 1 == n;
+    for (uint64_t k = 0; k < a.len; k++) j += out[k] == '\n';
+    if (a.refusal == 0) check(j == (a.len >= 9 && memcmp(out, "reference", 9) == 0 ? i : i != 0), "a line for each line");
+    else check(a.refusal == 15, "refusal's number");
+    i = j = 0;
+
     doing = "garumbott_complement";
     n = some_bytes(s, 900, one_in(8) ? "" : "ACGTRYSWKMBDHVN");
     a = fill(garumbott_complement, s, n, out, 900);

@@ -115,7 +115,7 @@ for name in sorted(os.listdir(SPECS)):
 given = {v for n, v in constants.items() if n.startswith("REFUSAL_")}
 if given != refusals:
     fail(f"the refusals of the header and of the definitions differ in {sorted(given ^ refusals)}")
-rest = {n for n in constants if n not in wanted and not n.startswith("REFUSAL_")} - {"STACK"}
+rest = {n for n in constants if n not in wanted and not n.startswith("REFUSAL_")} - {"STACK", "RUN_STACK"}
 if rest:
     fail(f"nothing is known of {sorted(rest)}")
 

@@ -648,7 +648,7 @@ static void stored(void)
 
 /* ---- byte strings ------------------------------------------------------------------------------------------------------------------ */
 
-enum entry { TRANSLATE, COMPLEMENT, NAMES3, NAMES1 };
+enum entry { TRANSLATE, COMPLEMENT, NAMES3, NAMES1, RUN };
 
 static struct garumbott_length call(enum entry entry, const uint8_t *in, uint64_t len, uint64_t table, uint64_t full, const uint8_t *x,
                                     uint64_t x_len, uint8_t *out, uint64_t room)
@@ -657,6 +657,7 @@ static struct garumbott_length call(enum entry entry, const uint8_t *in, uint64_
     case TRANSLATE: return garumbott_translate(in, len, table, full, x, x_len, out, room);
     case COMPLEMENT: return garumbott_complement(in, len, out, room);
     case NAMES3: return garumbott_names3(in, len, out, room);
+    case RUN: return garumbott_run(in, len, out, room);
     default: return garumbott_names1(in, len, out, room);
     }
 }
@@ -795,6 +796,28 @@ static void trims(void)
 }
 
 /* NULL for every slice of length 0. */
+/* The text program over memory. */
+static void text(void)
+{
+    static const struct {
+        const char *name, *input, *output;
+    } all[] = {
+        {"no bytes", "", ""},
+        {"a line feed", "\n", "refused 30\n"},
+        {"document 01's lines", "ref 3 17 0 GGATGGCCAAATGGTAACCTGAC\n8A>G\n5del\n4_6dup\n12G>A\n13T>C\n6C>T\n4_6inv\n1A>G\n9_10insTAGC\n1_*6del\n1_*7del\n16del\n",
+         "reference MAKW*\nsubstitution 3 K R\nframeshift 3 KW* NGNLX\nduplication 3 - A 2\nstop-gained 4 W -\nextension 5 * QPD\nsilent 2 A A\n"
+         "substitution 2 A G\nstart-lost 1 M V\nstop-gained 4 W -\nno-protein\nunknown\nrefused 7\n"},
+        {"a last line without a line feed", "ref 1 6 0 ATGTAA\n1=", "reference M*\nsilent 1 M M\n"},
+        {"empty lines", "ref 1 6 0 ATGTAA\n\n\n1=\n", "reference M*\nrefused 30\nrefused 30\nsilent 1 M M\n"},
+        {"a refused first line", "ref 1 6 3 ATGTAA\n1=\n", "refused 4\n"},
+        {"no first line", "1=\n1=\n", "refused 30\n"},
+    };
+    for (size_t i = 0; i < sizeof all / sizeof *all; i++)
+        plain_case(RUN, all[i].name, (const uint8_t *)all[i].input, strlen(all[i].input), 0, 0, NULL, 0, strlen(all[i].output), 0, all[i].output, strlen(all[i].output));
+    struct garumbott_length none = garumbott_run(NULL, 0, NULL, 0);
+    check(none.refusal == 0 && none.len == 0, "run", "NULL");
+}
+
 static void nulls(void)
 {
     struct garumbott_reference none = {0};
@@ -915,6 +938,13 @@ static size_t touched(void *(*run)(void *), void *given)
     return SIZE - low;
 }
 
+static void *call_run(void *given)
+{
+    static const char input[] = "ref 3 17 0 GGATGGCCAAATGGTAACCTGAC\n8A>G\n4_6dup\n4_6inv\n9_10insTAGC\n5del";
+    garumbott_run((const uint8_t *)input, sizeof input - 1, on_t, sizeof on_t);
+    return given;
+}
+
 static void stack(void)
 {
     static struct garumbott_coding_edit edits[] = {STAR(DUPLICATION, 1, 1), TWO(INVERSION, 4, 9), TWO_NEW(INSERTION, 3, 4, "ACGTN"), ONE(DELETION, 5), ONE(DELETION, 0)};
@@ -929,8 +959,10 @@ static void stack(void)
         size_t n = touched(others[i], NULL) - base;
         most = n > most ? n : most;
     }
-    printf("stack: %zu bytes at most, of %d\n", most, GARUMBOTT_STACK);
+    size_t run = touched(call_run, NULL) - base;
+    printf("stack: %zu bytes at most, of %d; the text program %zu, of %d\n", most, GARUMBOTT_STACK, run, GARUMBOTT_RUN_STACK);
     check(most <= GARUMBOTT_STACK, "stack", "more than GARUMBOTT_STACK");
+    check(run <= GARUMBOTT_RUN_STACK, "stack", "more than GARUMBOTT_RUN_STACK");
 }
 
 /* With an argument the stack isn't measured: a memory checker minds the reading of a stack whose thread has ended. */
@@ -943,6 +975,7 @@ int main(int argc, char **argv)
     refusals();
     limits();
     stored();
+    text();
     nulls();
     trims();
     threads();

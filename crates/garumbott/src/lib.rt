@@ -3,5 +3,6 @@
 pub mod numbers;
 pub mod plain;
 pub mod reading;
+pub mod text;
 pub mod transcript;
 pub mod variant;

@@ -158,7 +158,7 @@ module _ (input out out′ : List ℕ) (room : length (run input) ≤ length out
       let left : length (take (length out′ - u) (drop u out′)) ≡ length out′ - u = length-take-le (length out′ - u) (drop u out′) (rw length-drop (omega arith)) in
       let end = printedLast x in
       let fits : length end ≤ length (take (length out′ - u) (drop u out′)) =
-          omega (arith, run-size input, ap (λ (x : Stage). length (printedLast x)) reached, k .moves .counts, ap length said, same-room) in
+      omega (arith, run-size input, ap (λ (x : Stage). length (printedLast x)) reached, k .moves .counts, ap length said, same-room) in
       let there : rest ≡ over end (take (length out′ - u) (drop u out′)) = q ∙ rw (last-fits x (length (take (length out′ - u) (drop u out′))) fits) in
       lent-on-by (printed start (take t input)) end out out′ rest u (k .moves .counts) (omega (arith, k .moves .counts, k .moves .fits)) (k .moves .prints) there
       ∙ ap (λ (l : List ℕ). over l out) (rw (said, reached) (sym (run-is input)))
