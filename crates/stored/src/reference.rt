@@ -1,5 +1,6 @@
 // Refusals 20 to 23, then 1 to 6, of a stored reference.
 use crate::stop::ends_in_stop;
+use altseq::reference::Early;
 use altseq::reference::early_refusal;
 use fields::Stored;
 use fields::StoredAt;
@@ -20,14 +21,15 @@ fn reference_refusal(letters: &[u8], c: Cds, e: Exceptions, longest: usize) -> u
     requires { ⌜ longest < 4294967296 ⌝ }
     ensures { λ r. ⌜ r ≡ referenceRefusal longest (referenceOf (now (letters .entry)) c e) ⌝ }
 {
-    let refused = early_refusal(letters, c, e, longest);
-    if refused != 0 {
-        return refused;
+    match early_refusal(letters, c, e, longest) {
+        Early::Refused(n) => n,
+        Early::Clear { plain: _ } => {
+            if ends_in_stop(letters, c, e) {
+                return 0;
+            }
+            6
+        }
     }
-    if ends_in_stop(letters, c, e) {
-        return 0;
-    }
-    6
 }
 
 // The same of a reference that stands in the bytes.
