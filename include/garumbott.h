@@ -1,8 +1,8 @@
 /* garumbott.h: the Garumbott variant module, for programs written in C.
  *
  * Given a reference transcript and one coding edit, the module builds the altered transcript, reads the altered protein from it and answers
- * one protein record, or the one numbered refusal that its rules give. Translation, residue names, the reverse complement and two trims
- * can be called by themselves.
+ * one protein record, or the one numbered refusal that its rules give. References can be read from a stored form. Translation, residue names,
+ * the reverse complement and two trims can be called by themselves.
  *
  * In ten minutes. Put this into first.c, and
  *     cc -std=c11 first.c $(pkg-config --cflags --libs garumbott) -o first && ./first
@@ -19,8 +19,8 @@
  *             .kind = GARUMBOTT_SUBSTITUTION, .start = 8, .end = 8, .bases = (const uint8_t *)"G", .bases_len = 1 };
  *         struct garumbott_buffers buffers = { transcript, sizeof transcript, R, sizeof R, A, sizeof A };
  *         struct garumbott_answer a = garumbott_record_of(&reference, &edit, &buffers);
- *         if (a.answer == GARUMBOTT_REFUSED) {
- *             printf("refused %d\n", (int)a.refusal);
+ *         if (a.answer != GARUMBOTT_CHANGED) {
+ *             printf("answer %d, refusal %d\n", (int)a.answer, (int)a.refusal);
  *             return 1;
  *         }
  *         printf("%s %d %.*s %.*s\n", garumbott_class_name(a.change), (int)a.number, (int)a.deleted_len, (const char *)R + a.deleted_at,
@@ -104,7 +104,7 @@ extern "C" {
 #define GARUMBOTT_CHANGE_FRAMESHIFT 4   /* the frameshift flag is set */
 #define GARUMBOTT_CHANGE_SUBSTITUTION 5 /* one residue for one */
 #define GARUMBOTT_CHANGE_DELETION 6     /* nothing inserted */
-#define GARUMBOTT_CHANGE_DUPLICATION 7  /* the inserted residues repeat those just before */
+#define GARUMBOTT_CHANGE_DUPLICATION 7  /* nothing deleted, and the inserted residues repeat those just before; not a copy from residue 1 */
 #define GARUMBOTT_CHANGE_INSERTION 8    /* nothing deleted */
 #define GARUMBOTT_CHANGE_DELINS 9
 
@@ -122,7 +122,7 @@ extern "C" {
 #define GARUMBOTT_REFUSAL_TRANSCRIPT_ROOM 11 /* the transcript buffer is too short */
 #define GARUMBOTT_REFUSAL_PROTEIN_ROOM 12    /* a protein buffer is too short */
 #define GARUMBOTT_REFUSAL_CODON 14           /* full codons were demanded and the length isn't divisible by 3 */
-#define GARUMBOTT_REFUSAL_OUTPUT 15          /* an output doesn't fit; a name is unknown */
+#define GARUMBOTT_REFUSAL_OUTPUT 15          /* an output doesn't fit; a name is unknown, or three-letter names aren't three each */
 #define GARUMBOTT_REFUSAL_CUT 20             /* stored: a field is cut off */
 #define GARUMBOTT_REFUSAL_TAG 21             /* stored: a tag is unknown, repeated or not rising */
 #define GARUMBOTT_REFUSAL_MISSING 22         /* stored: letters, bounds or table are missing */
@@ -152,17 +152,30 @@ struct garumbott_length {
 struct garumbott_answer {
     uint64_t answer;         /* GARUMBOTT_REFUSED .. GARUMBOTT_CHANGED */
     uint64_t refusal;        /* GARUMBOTT_REFUSAL_.., or 0 */
-    uint64_t frameshift;     /* 1 if the edit shifts the reading frame, else 0 */
+    uint64_t frameshift;     /* the frameshift flag, 1 or 0: see garumbott_record */
     uint64_t transcript_len; /* bytes written to each buffer */
     uint64_t reference_len;
     uint64_t altered_len;
     uint64_t change;       /* GARUMBOTT_CHANGE_.., or 0 */
-    uint64_t number;       /* of the first residue that changes; silent: of the residue at the edit */
+    uint64_t number;       /* of the first residue that changes; silent: of the edited codon, or the one behind a duplication, within R */
     uint64_t deleted_at;   /* the residues of R that go: R[deleted_at] .. R[deleted_at + deleted_len - 1] */
     uint64_t deleted_len;  /* may be 0 */
     uint64_t inserted_at;  /* the residues of A that come: A[inserted_at] .. A[inserted_at + inserted_len - 1] */
     uint64_t inserted_len; /* may be 0 */
     uint64_t first;        /* duplication: the number of the first residue that is repeated, else 0 */
+};
+
+/* What garumbott_read_stored answers: a refusal's number and every other number 0, or 0, the reference's numbers, and where its letters and its
+ * exceptions stand in the bytes that were read. Places count from 0. */
+struct garumbott_stored {
+    uint64_t refusal; /* GARUMBOTT_REFUSAL_.., or 0 */
+    uint64_t cs;
+    uint64_t ce;
+    uint64_t table;
+    uint64_t letters_at; /* the letters: data[letters_at] .. data[letters_at + letters_len - 1] */
+    uint64_t letters_len;
+    uint64_t exceptions_at; /* the exceptions, likewise; without a field for them, 0 bytes at 0 */
+    uint64_t exceptions_len;
 };
 
 /* ---- Edits -------------------------------------------------------------------------------------------------------------------------- */
@@ -173,20 +186,29 @@ struct garumbott_answer {
  *   letters, letters_len         the transcript, 1 to 16,384 upper-case letters (1, 2)
  *   cs, ce                       first and last base of the CDS, counted from 1, both included (3)
  *   table                        0: the standard code; 1: TGA is U; 2: TGA is W, ATA is M, AGA and AGG are '*' (4)
- *   exceptions, exceptions_len   at most 16, three bytes each as above, codon numbers rising and within the CDS; none: length 0.
+ *   exceptions, exceptions_len   at most 16, three bytes each as above, codon numbers strictly rising and within the CDS; none: length 0.
  *                                A length that isn't divisible by three is refused like any other fault of theirs (5)
  * The edit:
  *   kind                         GARUMBOTT_SUBSTITUTION .. GARUMBOTT_IDENTITY
  *   start_star, start            the first position: start_star 0 and start = p, or start_star 1 and start = q.
  *   end_star, end                the last position, the same as the first where there is only one.
  *                                p > 0 is base p of the CDS, p < 0 the base -p before it, q > 0 base q behind it ("*q"), at most 65,535.
- *                                Every other pair of numbers is no position (7)
+ *                                A base behind the CDS is only ever a star. Every other pair of numbers is no position (7)
  *   bases, bases_len             the new bases, upper-case letters: one for a substitution, 1 to 4,096 for delins and insertion, none for
  *                                the other kinds (10)
  * The buffers, each with its length:
  *   transcript                   gets the altered transcript (11)
  *   reference                    gets R (12)
  *   altered                      gets A (12)
+ *
+ * What it does:
+ *   An edit that begins before the CDS changes bases from base 1 of the CDS on: the bases before it stay.
+ *   New bases of an insertion, and the copy of a duplication, end with the first stop codon that they make: what they have behind it is dropped,
+ *     and such an edit is no frameshift. So the transcript may be shorter than you would count.
+ *   The frameshift flag is set where the change of length, before that, isn't divisible by 3, and where a deletion, delins or substitution begins in the
+ *     CDS and ends behind it; never where the bases are put back as they were, nor in an inversion or an identity.
+ *   A is read from base 1 of the CDS through the first '*', to the transcript's end where there is none, with 'X' for one or two bases that are left. An
+ *     exception stays with its codon where the edit leaves that codon as it was and in frame, and is dropped otherwise.
  *
  * Refusals 1 to 12, the lowest that applies; but Unknown is decided before 11, so that it needs no room. Refused and Unknown write nothing;
  * every other answer writes all three buffers. */
@@ -203,12 +225,37 @@ struct garumbott_answer garumbott_edit(const uint8_t *letters, uint64_t letters_
                                        int64_t start, uint64_t end_star, int64_t end, const uint8_t *bases, uint64_t bases_len,
                                        uint8_t *transcript, uint64_t transcript_len);
 
+/* ---- Stored references -------------------------------------------------------------------------------------------------------------- */
+
+/* Reads a reference from its stored form, and judges it: 1 to 6 are tested here as in garumbott_record.
+ *
+ * The stored form is fields, one behind the other, with nothing else between or behind them. A field is a tag of one byte, a length of two
+ * bytes and as many bytes of content as the length says. Every number of two bytes has its high byte first. Tags rise, so none comes twice:
+ *   1   letters      the transcript
+ *   2   bounds       cs, then ce, two bytes each
+ *   3   table        one byte
+ *   4   exceptions   three bytes each, as above; the field may be empty, or absent
+ * The reference of the example above is "\1\0\27GGATGGCCAAATGGTAACCTGAC" "\2\0\4\0\3\0\21" "\3\0\1\0".
+ *
+ * Refusals, the first that applies:
+ *   20, 21, 23   met in the order of the fields; in one field 21 before 20 before 23.
+ *                20: the bytes end within the field.
+ *                21: the tag isn't 1 to 4, or isn't above the tag before it.
+ *                23: the length isn't 4 for tag 2, 1 for tag 3, or divisible by three for tag 4; tag 1 may have any length here
+ *   22           tag 1, 2 or 3 is missing
+ *   1 to 6       the lowest
+ *
+ * Nothing is copied: the letters and the exceptions stay where they stand in data, which must stay as it is while they are used.
+ * garumbott_reference_at, below, makes of the answer what garumbott_record_of and garumbott_edit_of take. */
+struct garumbott_stored garumbott_read_stored(const uint8_t *data, uint64_t data_len);
+
 /* ---- Byte strings ------------------------------------------------------------------------------------------------------------------- */
 
 /* Translates codon by codon: one residue a codon, then one 'X' if one or two bytes remain. Letters may be of either case, and U is T. A codon
  * of ambiguous letters reads as its residue if all its plain codons agree, else 'X'. A remaining byte isn't looked at.
  *   full         not 0: a length that isn't divisible by 3 is refused (14)
- *   exceptions   as in garumbott_record, but codon numbers may come in any order and lie behind the last codon; the last one for a codon counts
+ *   exceptions   as in garumbott_record, but codon numbers may come in any order, and the last one for a codon counts; one behind the whole codons does
+ *                nothing. The letters of its codon must be good all the same
  *   out          needs (seq_len + 2) / 3 bytes (15)
  * The first of these that applies is given: 4, 5, 14, 15, 2. */
 struct garumbott_length garumbott_translate(const uint8_t *seq, uint64_t seq_len, uint64_t table, uint64_t full, const uint8_t *exceptions,
@@ -261,6 +308,20 @@ struct garumbott_buffers {
     uint64_t altered_len;
 };
 
+/* The reference that garumbott_read_stored found in data; it points into data. Of a refusal: a reference without letters, refused with 1. */
+static inline struct garumbott_reference garumbott_reference_at(const struct garumbott_stored *s, const uint8_t *data)
+{
+    struct garumbott_reference r;
+    r.letters = s->letters_len == 0 ? NULL : data + s->letters_at;
+    r.letters_len = s->letters_len;
+    r.cs = s->cs;
+    r.ce = s->ce;
+    r.table = s->table;
+    r.exceptions = s->exceptions_len == 0 ? NULL : data + s->exceptions_at;
+    r.exceptions_len = s->exceptions_len;
+    return r;
+}
+
 static inline struct garumbott_answer garumbott_record_of(const struct garumbott_reference *r, const struct garumbott_coding_edit *e,
                                                           const struct garumbott_buffers *b)
 {
@@ -278,8 +339,8 @@ static inline struct garumbott_answer garumbott_edit_of(const struct garumbott_r
 }
 
 /* Room that is enough for any edit of a kind with so many new bases. Less may do: 11 and 12 ask for the altered length itself, and for a
- * residue of each of its codons from cs on. The numbers are those of a reference and an edit that aren't refused; of others they mean
- * nothing. */
+ * residue of each of its codons from cs on. The numbers are those of a reference and an edit that aren't refused; garumbott_record with three buffers
+ * of length 0 tells whether they are: it answers 11 or 12 to one that is accepted. */
 static inline uint64_t garumbott_transcript_room(uint64_t letters_len, uint64_t kind, uint64_t bases_len)
 {
     return letters_len + (kind == GARUMBOTT_DUPLICATION ? letters_len : bases_len);
@@ -288,13 +349,13 @@ static inline uint64_t garumbott_transcript_room(uint64_t letters_len, uint64_t 
 /* Exactly what 12 asks for R. */
 static inline uint64_t garumbott_reference_room(uint64_t cs, uint64_t ce)
 {
-    return (ce + 1 - cs) / 3;
+    return ce < cs ? 0 : (ce + 1 - cs) / 3;
 }
 
 /* Of an altered transcript of so many bases, exactly what 12 asks for A. */
 static inline uint64_t garumbott_altered_room(uint64_t transcript_len, uint64_t cs)
 {
-    return (transcript_len + 3 - cs) / 3;
+    return transcript_len + 3 < cs ? 0 : (transcript_len + 3 - cs) / 3;
 }
 
 /* ---- Words -------------------------------------------------------------------------------------------------------------------------- */

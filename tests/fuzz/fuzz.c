@@ -1,7 +1,7 @@
 /* fuzz SECONDS SEED: calls every entry point on random bytes, on good input and on damaged copies of it, through fenced memory, and holds each
  * answer to what can be told without a second account of the rules: no byte changes that shouldn't, every number is in its range, the answers of
- * different entry points fit together, the altered transcript is what the edit makes of the letters, and the record carried out on one protein gives
- * the other. In the end every answer, class and refusal must have come up. Prints the call's seed where a check fails, and exits 1. */
+ * different entry points fit together, the altered transcript is what the edit makes of the letters, the record carried out on one protein gives the
+ * other, and a stored reference is what its fields, read plainly, and garumbott_record make of it. In the end every answer, class and refusal must have come up. Prints the call's seed where a check fails, and exits 1. */
 #define _DEFAULT_SOURCE
 #include "../host/fence.h"
 #include "garumbott.h"
@@ -44,7 +44,7 @@ static uint64_t strange(void)
 
 /* ---- checks ------------------------------------------------------------------------------------------------------------------------- */
 
-static unsigned long checks, faults, answers[5], classes[10], refusals[64];
+static unsigned long checks, faults, found, answers[5], classes[10], refusals[64];
 static const char *doing = "";
 
 static void check(int good, const char *what)
@@ -57,7 +57,7 @@ static void check(int good, const char *what)
     }
 }
 
-enum { LETTERS, EXCEPTIONS, BASES, TRANSCRIPT, REFERENCE, ALTERED, FENCES };
+enum { LETTERS, EXCEPTIONS, BASES, TRANSCRIPT, REFERENCE, ALTERED, STORED, FENCES };
 static struct fence small[FENCES], large[FENCES], *fences;
 
 static const uint8_t *lend(int which, enum fence_side side, const uint8_t *from, uint64_t len)
@@ -357,6 +357,113 @@ static void fuzz_edit(void)
     check_proteins(&wide);
 }
 
+/* ---- stored references -------------------------------------------------------------------------------------------------------------- */
+
+static uint8_t form[GARUMBOTT_LONGEST + 256];
+static uint64_t form_len;
+
+static void put_field(uint8_t tag, const void *content, uint64_t len)
+{
+    uint8_t head[3] = {tag, (uint8_t)(len >> 8), (uint8_t)len};
+    if (form_len + 3 + len > sizeof form) return;
+    memcpy(form + form_len, head, 3);
+    memcpy(form + form_len + 3, content, len);
+    form_len += 3 + len;
+}
+
+/* The reference in its stored form; `order` has the tags. */
+static void store(const char *order)
+{
+    uint8_t bounds[4] = {(uint8_t)(ref.cs >> 8), (uint8_t)ref.cs, (uint8_t)(ref.ce >> 8), (uint8_t)ref.ce}, table = (uint8_t)ref.table;
+    form_len = 0;
+    for (; *order != 0; order++) {
+        switch (*order) {
+        case '1': put_field(1, letters, ref.letters_len); break;
+        case '2': put_field(2, bounds, 4); break;
+        case '3': put_field(3, &table, 1); break;
+        default: put_field(4, exceptions, ref.exceptions_len); break;
+        }
+    }
+}
+
+static void make_stored(void)
+{
+    static const char *const orders[] = {"123", "1234", "1324", "2134", "12344", "11234", "12234", "12334", "124", "134", "234", "12", "4", "34"};
+    make_reference();
+    for (uint64_t i = one_in(2) ? 0 : 1 + below(2); i != 0; i--) damage_call();
+    if (one_in(100)) {
+        ref.letters_len = GARUMBOTT_LONGEST + below(3);
+        for (uint64_t i = 0; i < ref.letters_len; i++) letters[i] = letter();
+    }
+    store(one_in(6) ? orders[below(sizeof orders / sizeof *orders)] : one_in(2) && ref.exceptions_len == 0 ? "123" : "1234");
+    for (uint64_t i = one_in(2) ? 0 : 1 + below(3); i != 0; i--) damage(form, &form_len, sizeof form);
+    if (form_len >= 3 && one_in(10)) form[one_in(2) ? 2 : below(form_len)] += (uint8_t)(one_in(2) ? 1 : 255);
+    if (one_in(10)) { /* bytes of any kind, mostly small */
+        form_len = below(40);
+        for (uint64_t i = 0; i < form_len; i++) form[i] = one_in(4) ? (uint8_t)chance() : (uint8_t)below(6);
+    }
+}
+
+/* The form read in the plainest way: its refusal but for 1 to 6, or its parts. */
+static struct garumbott_stored plain_stored(void)
+{
+    struct garumbott_stored s = {0}, no = {0};
+    uint64_t at = 0, last = 0, seen = 0;
+    while (at < form_len && no.refusal == 0) {
+        uint64_t tag = form[at], len = form_len - at < 3 ? UINT64_MAX : form[at + 1] * UINT64_C(256) + form[at + 2];
+        const uint8_t *content = form + at + 3;
+        if (tag > 4 || tag <= last) no.refusal = 21;
+        else if (len > form_len || at + 3 + len > form_len) no.refusal = 20;
+        else if ((tag == 2 && len != 4) || (tag == 3 && len != 1) || (tag == 4 && len % 3 != 0)) no.refusal = 23;
+        else if (tag == 1) s.letters_at = at + 3, s.letters_len = len;
+        else if (tag == 2) s.cs = content[0] * UINT64_C(256) + content[1], s.ce = content[2] * UINT64_C(256) + content[3];
+        else if (tag == 3) s.table = content[0];
+        else s.exceptions_at = at + 3, s.exceptions_len = len;
+        seen |= UINT64_C(1) << (tag & 7);
+        last = tag;
+        at += 3 + len;
+    }
+    if (no.refusal == 0 && (seen & 14) != 14) no.refusal = 22;
+    return no.refusal == 0 ? s : no;
+}
+
+/* What garumbott_record says of the parts alone: 1 to 6, or 0. The edit changes nothing, and there is no room. */
+static uint64_t judged(const struct garumbott_stored *s, const uint8_t *data)
+{
+    static const struct garumbott_coding_edit nothing = {.kind = GARUMBOTT_IDENTITY, .start = 1, .end = 1};
+    static const struct garumbott_buffers none;
+    struct garumbott_reference r = garumbott_reference_at(s, data);
+    struct garumbott_answer a = garumbott_record_of(&r, &nothing, &none);
+    check(a.answer == GARUMBOTT_UNKNOWN || a.refusal == 11 || (a.refusal >= 1 && a.refusal <= 6), "garumbott_record on the parts");
+    return a.refusal <= 6 ? a.refusal : 0;
+}
+
+static void fuzz_stored(void)
+{
+    make_stored();
+    fences = form_len > 3000 ? large : small;
+    doing = "garumbott_read_stored";
+    struct garumbott_stored plain = plain_stored(), want = plain, got[2];
+    for (int side = FENCE_END; side <= FENCE_START; side++) {
+        const uint8_t *data = lend(STORED, side, form, form_len);
+        got[side] = garumbott_read_stored(data, form_len);
+        check(unchanged(STORED, data), "input changed");
+        const struct garumbott_stored *g = &got[side], none = {.refusal = g->refusal};
+        check(g->refusal <= 6 || (g->refusal >= 20 && g->refusal <= 23), "refusal's number");
+        if (g->refusal != 0) check(memcmp(g, &none, sizeof none) == 0, "a refusal tells more");
+        check(g->letters_at <= form_len && g->letters_len <= form_len - g->letters_at, "letters outside the bytes");
+        check(g->exceptions_at <= form_len && g->exceptions_len <= form_len - g->exceptions_at, "exceptions outside the bytes");
+        if (plain.refusal == 0) {
+            uint64_t n = judged(&plain, data);
+            if (n != 0) want = (struct garumbott_stored){.refusal = n};
+            check(unchanged(STORED, data), "input changed");
+        }
+        check(memcmp(g, &want, sizeof want) == 0, "the form read plainly, judged by garumbott_record, says otherwise");
+    }
+    refusals[got[0].refusal]++;
+    if (got[0].refusal == 0) found++;
+}
+
 /* ---- byte strings ------------------------------------------------------------------------------------------------------------------- */
 
 static uint64_t some_bytes(uint8_t *s, uint64_t most, const char *of)
@@ -458,17 +565,19 @@ int main(int argc, char **argv)
 {
     double seconds = argc > 1 ? strtod(argv[1], NULL) : 30;
     uint64_t seed = argc > 2 ? strtoull(argv[2], NULL, 10) : 1, calls = 0;
-    static const int wanted[] = {1, 2, 3, 4, 5, 6, 7, 8, 9, 10, 11, 12, 14, 15};
+    static const int wanted[] = {1, 2, 3, 4, 5, 6, 7, 8, 9, 10, 11, 12, 14, 15, 20, 21, 22, 23};
     time_t until = time(NULL) + (time_t)seconds;
     for (int i = 0; i < FENCES; i++) fence_make(&small[i], 4000), fence_make(&large[i], 40000);
     do {
         for (int i = 0; i < 100; i++, calls++) {
             case_seed = state = seed + calls * UINT64_C(0x1000003);
             if (i % 4 == 3) fuzz_strings();
+            else if (i % 4 == 1) fuzz_stored();
             else fuzz_edit();
         }
     } while (time(NULL) < until);
     for (int i = 0; i < 5; i++) printf("answer %d: %lu\n", i, answers[i]), check(answers[i] != 0, "an answer never came up");
+    printf("stored references found: %lu\n", found), check(found != 0, "no stored reference was found");
     for (int i = 1; i < 10; i++) printf("%s: %lu\n", garumbott_class_name((uint64_t)i), classes[i]), check(classes[i] != 0, "a class never came up");
     for (size_t i = 0; i < sizeof wanted / sizeof *wanted; i++) printf("refused %d: %lu\n", wanted[i], refusals[wanted[i]]), check(refusals[wanted[i]] != 0, "a refusal never came up");
     printf("%" PRIu64 " inputs, %lu checks, %lu failed\n", calls, checks, faults);

@@ -28,7 +28,7 @@ static const uint8_t *bytes(const char *s)
 
 /* ---- edits ------------------------------------------------------------------------------------------------------------------------- */
 
-enum { LETTERS, EXCEPTIONS, BASES, TRANSCRIPT, REFERENCE, ALTERED, FENCES };
+enum { LETTERS, EXCEPTIONS, BASES, TRANSCRIPT, REFERENCE, ALTERED, STORED, FENCES };
 static struct fence fences[FENCES];
 
 struct row {
@@ -126,6 +126,58 @@ static struct garumbott_answer alone(const struct garumbott_answer *a)
     return w;
 }
 
+static void put_field(uint8_t **to, uint8_t tag, const void *content, size_t len)
+{
+    uint8_t head[3] = {tag, (uint8_t)(len >> 8), (uint8_t)len};
+    memcpy(*to, head, 3);
+    if (len != 0) memcpy(*to + 3, content, len);
+    *to += 3 + len;
+}
+
+/* The stored form of a reference whose numbers fit, and its length. No exceptions: no field for them. */
+static size_t store(uint8_t *form, const struct garumbott_reference *r)
+{
+    uint8_t *to = form;
+    uint8_t bounds[4] = {(uint8_t)(r->cs >> 8), (uint8_t)r->cs, (uint8_t)(r->ce >> 8), (uint8_t)r->ce}, table = (uint8_t)r->table;
+    put_field(&to, 1, r->letters, r->letters_len);
+    put_field(&to, 2, bounds, 4);
+    put_field(&to, 3, &table, 1);
+    if (r->exceptions_len != 0) put_field(&to, 4, r->exceptions, r->exceptions_len);
+    return (size_t)(to - form);
+}
+
+static int same_stored(const struct garumbott_stored *a, const struct garumbott_stored *b)
+{
+    return memcmp(a, b, sizeof *a) == 0;
+}
+
+/* An edit of a reference that is read from its stored form: refused there with 1 to 6, or answered as it is with the reference itself. */
+static void edit_stored(const char *name, const struct garumbott_reference *reference, const struct garumbott_coding_edit *edit,
+                        const struct garumbott_answer *want, const void *t, const void *r, const void *a)
+{
+    static uint8_t form[66000];
+    if (reference->cs > 65535 || reference->ce > 65535 || reference->table > 255) return;
+    size_t len = store(form, reference), x = reference->exceptions_len, room[3] = {GARUMBOTT_TRANSCRIPT_ROOM, GARUMBOTT_REFERENCE_ROOM, GARUMBOTT_ALTERED_ROOM};
+    uint64_t refusal = x % 3 != 0 ? GARUMBOTT_REFUSAL_FIELD : want->refusal <= 6 ? want->refusal : 0;
+    for (int side = FENCE_END; side <= FENCE_START; side++) {
+        const uint8_t *data = fence_fill(&fences[STORED], side, form, len);
+        struct garumbott_stored got = garumbott_read_stored(data, len), no = {.refusal = refusal},
+                                good = {.cs = reference->cs, .ce = reference->ce, .table = reference->table, .letters_at = 3,
+                                        .letters_len = reference->letters_len, .exceptions_at = x == 0 ? 0 : len - x, .exceptions_len = x};
+        check(same_stored(&got, refusal == 0 ? &good : &no), name, "read_stored's answer");
+        struct garumbott_reference found = garumbott_reference_at(&got, data);
+        struct garumbott_buffers b = {fence_fill(&fences[TRANSCRIPT], side, NULL, room[0]), room[0], fence_fill(&fences[REFERENCE], side, NULL, room[1]),
+                                      room[1], fence_fill(&fences[ALTERED], side, NULL, room[2]), room[2]};
+        struct garumbott_answer one = {.refusal = 1}, answer = garumbott_record_of(&found, edit, &b);
+        const struct garumbott_answer *w = refusal == 0 ? want : &one;
+        check(same(&answer, w), name, "record's answer to the stored reference");
+        check(fence_check(&fences[TRANSCRIPT], t, w->transcript_len), name, "transcript of the stored reference");
+        check(fence_check(&fences[REFERENCE], r, w->reference_len), name, "reference protein of the stored reference");
+        check(fence_check(&fences[ALTERED], a, w->altered_len), name, "altered protein of the stored reference");
+        check(fence_check(&fences[STORED], NULL, 0), name, "stored bytes changed");
+    }
+}
+
 /* A row with exactly the room that its answer asks for, with plenty, and with a byte too little in each buffer. */
 static void row_case(const struct row *x, const char *r)
 {
@@ -135,6 +187,7 @@ static void row_case(const struct row *x, const char *r)
     size_t plenty[3] = {GARUMBOTT_TRANSCRIPT_ROOM, GARUMBOTT_REFERENCE_ROOM, GARUMBOTT_ALTERED_ROOM};
     edit_case(x->name, x->reference, &x->edit, plenty, &w, &e, x->transcript, r, x->altered);
     edit_case(x->name, x->reference, &x->edit, exact, &w, &e, x->transcript, r, x->altered);
+    edit_stored(x->name, x->reference, &x->edit, &w, x->transcript, r, x->altered);
     if (w.answer < GARUMBOTT_NO_PROTEIN) {
         size_t none[3] = {0, 0, 0};
         edit_case(x->name, x->reference, &x->edit, none, &w, &e, "", "", "");
@@ -319,6 +372,7 @@ static void refusals(void)
     for (size_t i = 0; i < sizeof all / sizeof *all; i++) {
         struct garumbott_answer w = {.refusal = all[i].number};
         for (int j = 0; j < 2; j++) edit_case(all[i].name, &all[i].reference, &all[i].edit, rooms[j], &w, &w, "", "", "");
+        edit_stored(all[i].name, &all[i].reference, &all[i].edit, &w, "", "", "");
     }
 }
 
@@ -356,6 +410,7 @@ static void limits(void)
     /* the longest altered transcript fills GARUMBOTT_TRANSCRIPT_ROOM, and 12 asks for GARUMBOTT_ALTERED_ROOM */
     struct garumbott_coding_edit copy = STAR(DUPLICATION, 1, 1);
     edit_case("16,384 letters, all of them copied", &r, &copy, rooms, &w, &e, doubled, protein, protein);
+    edit_stored("16,384 letters, all of them copied", &r, &copy, &w, doubled, protein, protein);
     check(garumbott_transcript_room(GARUMBOTT_LONGEST, GARUMBOTT_DUPLICATION, 0) == GARUMBOTT_TRANSCRIPT_ROOM, "transcript_room", "longest");
     check(garumbott_reference_room(1, 16383) == GARUMBOTT_REFERENCE_ROOM, "reference_room", "longest");
     check(garumbott_altered_room(32768, 1) == GARUMBOTT_ALTERED_ROOM, "altered_room", "longest");
@@ -371,6 +426,7 @@ static void limits(void)
     struct garumbott_coding_edit same_place = ONE(IDENTITY, 1);
     r.letters_len = GARUMBOTT_LONGEST + 1;
     edit_case("16,385 letters", &r, &same_place, rooms, &one, &one, "", "", "");
+    edit_stored("16,385 letters", &r, &same_place, &one, "", "", "");
 
     /* 4,096 new bases, and one more */
     static uint8_t bases[GARUMBOTT_MOST_BASES + 1];
@@ -402,6 +458,192 @@ static void limits(void)
                                     .number = 1, .deleted_len = 1, .inserted_len = 1},
                             kept_alone = alone(&kept);
     edit_case("sixteen exceptions", &r, &same_place, rooms, &kept, &kept_alone, longest, excepted, excepted);
+    edit_stored("sixteen exceptions", &r, &same_place, &kept, longest, excepted, excepted);
+}
+
+/* ---- stored references ------------------------------------------------------------------------------------------------------------- */
+
+#define LETTERS_FIELD "\1\0\27GGATGGCCAAATGGTAACCTGAC"
+#define BOUNDS_FIELD "\2\0\4\0\3\0\21"
+#define TABLE_FIELD "\3\0\1\0"
+#define ALL_FIELDS LETTERS_FIELD BOUNDS_FIELD TABLE_FIELD
+
+static void stored_case(const char *name, const void *data, size_t len, const struct garumbott_stored *want)
+{
+    for (int side = FENCE_END; side <= FENCE_START; side++) {
+        struct garumbott_stored got = garumbott_read_stored(fence_fill(&fences[STORED], side, data, len), len);
+        check(same_stored(&got, want), name, "read_stored's answer");
+        check(fence_check(&fences[STORED], NULL, 0), name, "stored bytes changed");
+    }
+}
+
+static void stored_refused(const char *name, const void *data, size_t len, uint64_t refusal)
+{
+    struct garumbott_stored no = {.refusal = refusal};
+    stored_case(name, data, len, &no);
+}
+
+/* Faults of the form, and of the reference behind it. */
+static void stored_refusals(void)
+{
+#define S(name, data, refusal) {name, data, sizeof(data) - 1, refusal}
+    static const struct {
+        const char *name, *data;
+        size_t len;
+        uint64_t refusal;
+    } all[] = {
+        /* a cut header: its tag is judged first */
+        S("tag 1 alone", "\1", 20),
+        S("tag 1 and a byte of its length", "\1\0", 20),
+        S("tag 0 alone", "\0", 21),
+        S("tag 5 alone", "\5", 21),
+        S("a last byte 3", ALL_FIELDS "\3", 21),
+        S("a last byte 4", ALL_FIELDS "\4", 20),
+        S("a last byte 5", ALL_FIELDS "\5", 21),
+        S("a last byte 0", ALL_FIELDS "\0", 21),
+        S("a line feed behind", ALL_FIELDS "\n", 21),
+        S("two bytes of tag 4", ALL_FIELDS "\4\0", 20),
+        S("a last byte behind tag 4", ALL_FIELDS "\4\0\3\0\2U\4", 21),
+        S("a zero byte behind tag 4", ALL_FIELDS "\4\0\0\0", 21),
+        /* 21 */
+        S("tag 0", "\0\0\0" ALL_FIELDS, 21),
+        S("tag 5 first", "\5\0\0" ALL_FIELDS, 21),
+        S("tag 255", ALL_FIELDS "\377\0\0", 21),
+        S("tag 5 last", ALL_FIELDS "\5\0\0", 21),
+        S("letters twice", LETTERS_FIELD ALL_FIELDS, 21),
+        S("bounds twice", LETTERS_FIELD BOUNDS_FIELD BOUNDS_FIELD TABLE_FIELD, 21),
+        S("table twice", ALL_FIELDS TABLE_FIELD, 21),
+        S("exceptions twice", ALL_FIELDS "\4\0\0\4\0\0", 21),
+        S("bounds before letters", BOUNDS_FIELD LETTERS_FIELD TABLE_FIELD, 21),
+        S("table before bounds", LETTERS_FIELD TABLE_FIELD BOUNDS_FIELD, 21),
+        S("exceptions before table", LETTERS_FIELD BOUNDS_FIELD "\4\0\0" TABLE_FIELD, 21),
+        S("letters last", BOUNDS_FIELD TABLE_FIELD LETTERS_FIELD, 21),
+        /* lengths wrong by one */
+        S("letters' length one more", "\1\0\30GGATGGCCAAATGGTAACCTGAC" BOUNDS_FIELD TABLE_FIELD, 21),
+        S("letters' length one more, nothing behind", "\1\0\30GGATGGCCAAATGGTAACCTGAC", 20),
+        S("letters' length one less", "\1\0\26GGATGGCCAAATGGTAACCTGAC" BOUNDS_FIELD TABLE_FIELD, 21),
+        S("letters' length low byte first", "\1\27\0GGATGGCCAAATGGTAACCTGAC" BOUNDS_FIELD TABLE_FIELD, 20),
+        S("letters' length 65,535", "\1\377\377GGATGGCCAAATGGTAACCTGAC" BOUNDS_FIELD TABLE_FIELD, 20),
+        S("bounds of three bytes", LETTERS_FIELD "\2\0\3\0\3\0" TABLE_FIELD, 23),
+        S("bounds of five bytes", LETTERS_FIELD "\2\0\5\0\3\0\21\0" TABLE_FIELD, 23),
+        S("bounds of no byte", LETTERS_FIELD "\2\0\0" TABLE_FIELD, 23),
+        S("bounds of 260 bytes, of which four are there", LETTERS_FIELD "\2\1\4\0\3\0\21", 20),
+        S("bounds of five bytes, four left", LETTERS_FIELD "\2\0\5\0\3\0\21", 20),
+        S("bounds of five bytes, five left", LETTERS_FIELD "\2\0\5\0\3\0\21\0", 23),
+        S("table of no byte", LETTERS_FIELD BOUNDS_FIELD "\3\0\0", 23),
+        S("table of two bytes", LETTERS_FIELD BOUNDS_FIELD "\3\0\2\0\0", 23),
+        S("table of one byte, none left", LETTERS_FIELD BOUNDS_FIELD "\3\0\1", 20),
+        S("exceptions of one byte", ALL_FIELDS "\4\0\1\0", 23),
+        S("exceptions of two bytes", ALL_FIELDS "\4\0\2\0\2", 23),
+        S("exceptions of four bytes", ALL_FIELDS "\4\0\4\0\2U\0", 23),
+        S("exceptions of three bytes, two left", ALL_FIELDS "\4\0\3\0\2", 20),
+        /* the order of the fields, and of faults in one */
+        S("23, then 21", LETTERS_FIELD "\2\0\0" "\2\0\0", 23),
+        S("23, then 20", LETTERS_FIELD "\2\0\0" "\3", 23),
+        S("21, then 23", LETTERS_FIELD "\1\0\0" "\2\0\0", 21),
+        S("21 with 20", LETTERS_FIELD "\1\0\7", 21),
+        S("21 with 23", LETTERS_FIELD BOUNDS_FIELD "\2\0\5\0\0\0\0\0", 21),
+        S("20 with 23", LETTERS_FIELD "\2\0\7\0\3\0\21", 20),
+        /* 22, behind these and before 1 to 6 */
+        S("no byte", "", 22),
+        S("letters alone", LETTERS_FIELD, 22),
+        S("bounds alone", BOUNDS_FIELD, 22),
+        S("exceptions alone", "\4\0\0", 22),
+        S("no letters", BOUNDS_FIELD TABLE_FIELD, 22),
+        S("no bounds", LETTERS_FIELD TABLE_FIELD, 22),
+        S("no table", LETTERS_FIELD BOUNDS_FIELD, 22),
+        S("no table, exceptions", LETTERS_FIELD BOUNDS_FIELD "\4\0\0", 22),
+        S("no table, empty letters", "\1\0\0" BOUNDS_FIELD, 22),
+        S("no letters, 23", BOUNDS_FIELD "\3\0\0", 23),
+        S("no letters, 20", BOUNDS_FIELD "\3", 20),
+        S("no letters, 21", BOUNDS_FIELD TABLE_FIELD "\3", 21),
+        /* 1 to 6 */
+        S("empty letters", "\1\0\0" BOUNDS_FIELD TABLE_FIELD, 1),
+        S("empty letters, bounds of 0, table 3", "\1\0\0" "\2\0\4\0\0\0\0" "\3\0\1\3", 1),
+        S("a lower-case letter", "\1\0\6ATGtAA" "\2\0\4\0\1\0\6" TABLE_FIELD, 2),
+        S("a letter U, bounds of 0", "\1\0\6AUGTAA" "\2\0\4\0\0\0\0" TABLE_FIELD, 2),
+        S("ce past L", "\1\0\6ATGTAA" "\2\0\4\0\1\0\11" TABLE_FIELD, 3),
+        S("bounds of 0", LETTERS_FIELD "\2\0\4\0\0\0\0" TABLE_FIELD, 3),
+        S("bounds of 65,535", LETTERS_FIELD "\2\0\4\377\377\377\377" TABLE_FIELD, 3),
+        S("bounds low byte first", LETTERS_FIELD "\2\0\4\3\0\21\0" TABLE_FIELD, 3),
+        S("ce, then cs", LETTERS_FIELD "\2\0\4\0\21\0\3" TABLE_FIELD, 3),
+        S("bounds of 0, table 3", LETTERS_FIELD "\2\0\4\0\0\0\0" "\3\0\1\3", 3),
+        S("table 3", LETTERS_FIELD BOUNDS_FIELD "\3\0\1\3", 4),
+        S("table 255", LETTERS_FIELD BOUNDS_FIELD "\3\0\1\377", 4),
+        S("table 3, codon 0", LETTERS_FIELD BOUNDS_FIELD "\3\0\1\3" "\4\0\3\0\0A", 4),
+        S("codon 0", ALL_FIELDS "\4\0\3\0\0A", 5),
+        S("codon 6 of 5", ALL_FIELDS "\4\0\3\0\6A", 5),
+        S("codon low byte first", ALL_FIELDS "\4\0\3\2\0A", 5),
+        S("codon twice", ALL_FIELDS "\4\0\6\0\2A\0\2A", 5),
+        S("residue a", ALL_FIELDS "\4\0\3\0\2a", 5),
+        S("seventeen exceptions", ALL_FIELDS "\4\0\63" SEVENTEEN, 5),
+        S("codon 0, no stop", "\1\0\6ATGAAA" "\2\0\4\0\1\0\6" TABLE_FIELD "\4\0\3\0\0A", 5),
+        S("no stop", "\1\0\6ATGAAA" "\2\0\4\0\1\0\6" TABLE_FIELD, 6),
+        S("stop away by exception", ALL_FIELDS "\4\0\3\0\5W", 6),
+        S("TGA in table 1", "\1\0\6ATGTGA" "\2\0\4\0\1\0\6" "\3\0\1\1", 6),
+    };
+#undef S
+    for (size_t i = 0; i < sizeof all / sizeof *all; i++) stored_refused(all[i].name, all[i].data, all[i].len, all[i].refusal);
+}
+
+static void stored(void)
+{
+    static const char plain[] = ALL_FIELDS, empty[] = ALL_FIELDS "\4\0\0", excepted[] = ALL_FIELDS "\4\0\6\0\2U\0\5*";
+    static const struct garumbott_stored good = {.cs = 3, .ce = 17, .letters_at = 3, .letters_len = 23};
+    struct garumbott_stored got = garumbott_read_stored(NULL, 0), none = {.refusal = 22}, want = good;
+    check(same_stored(&got, &none), "NULL stored", "read_stored's answer");
+    stored_refusals();
+    stored_case("the example", plain, sizeof plain - 1, &good);
+    want.exceptions_at = 40;
+    stored_case("an empty tag 4", empty, sizeof empty - 1, &want);
+    want.exceptions_len = 6;
+    stored_case("two exceptions", excepted, sizeof excepted - 1, &want);
+
+    /* cut behind each byte */
+    for (size_t n = 0; n < sizeof excepted - 1; n++) {
+        char name[32];
+        snprintf(name, sizeof name, "cut behind byte %zu", n);
+        if (n == sizeof plain - 1) stored_case(name, excepted, n, &good);
+        else stored_refused(name, excepted, n, n == 0 || n == 26 || n == 33 ? 22 : 20);
+    }
+
+    /* every byte for the first tag, and for the last */
+    for (int tag = 0; tag < 256; tag++) {
+        char name[32], form[sizeof excepted];
+        snprintf(name, sizeof name, "tag %d", tag);
+        memcpy(form, excepted, sizeof form);
+        form[0] = (char)tag;
+        if (tag != 1) stored_refused(name, form, sizeof form - 1, tag > 1 && tag < 5 ? 23 : 21);
+        form[0] = 1;
+        form[37] = (char)tag;
+        if (tag != 4) stored_refused(name, form, sizeof form - 1, 21);
+    }
+
+    /* lengths: sixteen and seventeen exceptions, 16,384 letters, one more, and as many as a length can say */
+    static uint8_t form[66000], many[65535], seventeen[51];
+    for (uint8_t i = 0; i < 17; i++) {
+        seventeen[3 * i] = 0;
+        seventeen[3 * i + 1] = (uint8_t)(i + 2);
+        seventeen[3 * i + 2] = 'U';
+    }
+    struct garumbott_reference r = longest_reference();
+    r.exceptions = seventeen;
+    r.exceptions_len = 48;
+    want = (struct garumbott_stored){.cs = 1, .ce = 16383, .letters_at = 3, .letters_len = GARUMBOTT_LONGEST, .exceptions_at = GARUMBOTT_LONGEST + 17, .exceptions_len = 48};
+    stored_case("16,384 letters and sixteen exceptions", form, store(form, &r), &want);
+    r.exceptions_len = 51;
+    stored_refused("16,384 letters and seventeen exceptions", form, store(form, &r), 5);
+    r.letters_len++;
+    stored_refused("16,385 letters", form, store(form, &r), 1);
+    memset(many, 'A', sizeof many);
+    r.letters = many;
+    r.letters_len = sizeof many;
+    r.exceptions_len = 0;
+    stored_refused("65,535 letters", form, store(form, &r), 1);
+    uint8_t *to = form;
+    put_field(&to, 1, many, sizeof many);
+    stored_refused("65,535 letters alone", form, (size_t)(to - form), 22);
+    stored_refused("65,535 letters less one", form, (size_t)(to - form) - 1, 20);
 }
 
 /* ---- byte strings ------------------------------------------------------------------------------------------------------------------ */
@@ -627,6 +869,16 @@ static void *call_edit(void *given)
     return NULL;
 }
 
+static void *call_stored(void *given)
+{
+    static uint8_t form[GARUMBOTT_LONGEST + 64];
+    struct garumbott_reference r = longest_reference();
+    r.exceptions = bytes("\0\2U");
+    r.exceptions_len = 3;
+    garumbott_read_stored(form, store(form, &r));
+    return given;
+}
+
 static void *call_translate(void *given)
 {
     longest[5] = 'N';
@@ -672,9 +924,11 @@ static void stack(void)
         most = r > most ? r : most;
         most = e > most ? e : most;
     }
-    size_t t = touched(call_translate, NULL) - base, s = touched(call_strings, NULL) - base;
-    most = t > most ? t : most;
-    most = s > most ? s : most;
+    static void *(*const others[])(void *) = {call_stored, call_translate, call_strings};
+    for (size_t i = 0; i < sizeof others / sizeof *others; i++) {
+        size_t n = touched(others[i], NULL) - base;
+        most = n > most ? n : most;
+    }
     printf("stack: %zu bytes at most, of %d\n", most, GARUMBOTT_STACK);
     check(most <= GARUMBOTT_STACK, "stack", "more than GARUMBOTT_STACK");
 }
@@ -683,11 +937,12 @@ static void stack(void)
 int main(int argc, char **argv)
 {
     (void)argv;
-    for (int i = 0; i < FENCES; i++) fence_make(&fences[i], 40960);
+    for (int i = 0; i < FENCES; i++) fence_make(&fences[i], i == STORED ? 66000 : 40960);
     make_longest();
     rows();
     refusals();
     limits();
+    stored();
     nulls();
     trims();
     threads();

@@ -3,3 +3,4 @@ pub mod Signed
 pub mod Given
 pub mod Editing
 pub mod Excepted
+pub mod Keeping

@@ -2,5 +2,6 @@
 // that is there and doesn't overlap: every other fault is a refusal, and a refusal changes no byte.
 pub mod numbers;
 pub mod plain;
+pub mod reading;
 pub mod transcript;
 pub mod variant;
