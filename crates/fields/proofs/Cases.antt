@@ -1,18 +1,16 @@
 -- The cases of a field at a place of the bytes, and the tests of a tag and of a length.
 -- Assumes nothing.
-use mathlib.Core.Path.{_≡_, refl, ap, _∙_}
-use mathlib.Core.Bool.{Bool, true, false, _&&_, _||_, not}
+use mathlib.Core.Path.{_≡_, refl}
+use mathlib.Core.Bool.{Bool, true, false, _||_, not}
 use mathlib.Core.List.{List, [], _∷_}
-use Prim.Native.Nat.{ℕ, suc, _+_, _*_, _-_, _%_, _≤_, _<_}
+use Prim.Native.Nat.{ℕ, suc, _+_, _-_, _≤_, _<_}
 use native.Mathlib.Numerals.{add-one}
 use native.Mathlib.Omega.{arith}
-use lib.Dec.{eqb, leb, ltb}
-use lib.ListN.{length, take, drop, getD, length-drop, drop-of-length-le}
+use lib.Dec.{leb, ltb}
+use lib.ListN.{length, drop, getD, length-drop, drop-of-length-le}
 use lib.Seq.{drop-cons, length-take-le}
 use borrow.Author.Tests.{le-leb, lt-leb, ltb-true, ltb-false, ne-eqb}
-use Rattle.rules.specs.Bytes.{if_then_else_}
 use Rattle.rules.specs.Stored as stored
-use Rattle.fields.specs.declared.reader.Field.{Field}
 use Rattle.fields.specs.declared.reader.Field.the-variants.{Whole, Cut, End}
 use Rattle.fields.specs.Places.{placed, fieldAt}
 

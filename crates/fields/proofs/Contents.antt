@@ -1,19 +1,18 @@
 -- Laws of contents: what stands at the place of a tag's content is that content, and its length fits the tag.
 -- Assumes nothing.
 use mathlib.Core.Path.{_≡_, refl, sym, ap, _∙_}
-use mathlib.Core.Bool.{Bool, true, false, _&&_, _||_, not}
+use mathlib.Core.Bool.{Bool, true, false, _||_, not}
 use mathlib.Core.List.{List, [], _∷_}
 use mathlib.Core.Option.{Option, none, some}
-use Prim.Native.Nat.{ℕ, zero, suc, _+_, _%_, _≤_, _<_}
+use Prim.Native.Nat.{ℕ, _+_, _%_, _≤_, _<_}
 use native.Mathlib.Omega.{arith}
 use lib.Dec.{eqb}
-use lib.ListN.{length, take, drop, getD, length-drop}
+use lib.ListN.{length, drop, getD, length-drop}
 use lib.Seq.{length-take-le, getD-take, getD-drop}
 use borrow.Author.Tests.{eqb-true, not-false}
-use Rattle.rules.specs.Bytes.{if_then_else_, Result, given, refused}
-use Rattle.rules.specs.Reference.{Reference}
-use Rattle.rules.specs.Stored.{twoBytes, isWrongTag, isWrongLength, Tagged, fields, contentOf, exceptionsIn, orEmpty, assembled}
-use Rattle.rules.proofs.Tests.{or-left, or-right}
+use Rattle.rules.specs.Bytes.{if_then_else_, given}
+use Rattle.rules.specs.Stored.{isWrongTag, isWrongLength, Tagged, fields, contentOf}
+use Rattle.rules.proofs.Tests.{or-left}
 use Rattle.fields.specs.declared.reader.Span.{Span}
 use Rattle.fields.specs.declared.reader.Field.{Field}
 use Rattle.fields.specs.declared.reader.Field.the-variants.{Whole, Cut, End}
@@ -21,7 +20,7 @@ use Rattle.fields.specs.declared.tags.Content.{Content}
 use Rattle.fields.specs.declared.tags.Content.the-variants.{At, Missing}
 use Rattle.fields.specs.Places.{bytesAt, fieldAt, placeOf}
 use Rattle.fields.specs.Refusals.{fieldRefusal, refusalIn, taggedIn}
-use Rattle.fields.proofs.Order.{Holds, fieldsAfter, from-start, given-fields, passes, none-here, whole-here, goes-on, Behind, behind-first}
+use Rattle.fields.proofs.Order.{fieldsAfter, from-start, given-fields, passes, none-here, whole-here, goes-on, behind-first}
 
 -- a place within the bytes, of a length that fits the tag
 pub record Found (t : ℕ) (s : List ℕ) (p : Span) : Type 0 where

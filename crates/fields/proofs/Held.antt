@@ -1,21 +1,17 @@
 -- Laws of stored exceptions: what a call takes them for.
 -- Assumes nothing.
 use mathlib.Core.Path.{_≡_, refl, sym, ap, _∙_}
-use mathlib.Core.Bool.{Bool, true, false}
 use mathlib.Core.List.{List, [], _∷_, _++_, append-assoc}
 use Prim.Native.Nat.{ℕ, zero, suc, _+_, _*_, _/_, _%_, _≤_, _<_}
 use native.Mathlib.Numerals.{add-one}
 use native.Mathlib.Decide.{decLt}
 use native.Mathlib.Omega.{arith}
-use lib.Dec.{eqb, leb}
-use lib.ListN.{length, take, drop, getD, set, replicate, length-replicate}
+use lib.ListN.{length, drop, getD, set, replicate}
 use lib.Seq.{take-length, take-append-seam, paste, paste-suc}
 use borrow.Author.Tests.{eq-eqb, ne-eqb, le-leb, lt-leb}
 use Rattle.rules.specs.declared.Exception.{Exception}
-use Rattle.rules.specs.declared.Exceptions.{Exceptions}
-use Rattle.rules.specs.Bytes.{if_then_else_}
 use Rattle.rules.specs.Translation.{noException, exceptionList}
-use Rattle.rules.specs.Stored.{twoBytes, exceptionsIn}
+use Rattle.rules.specs.Stored.{exceptionsIn}
 use Rattle.rules.proofs.Translation.{length-exceptions}
 use Rattle.fields.specs.Held.{exceptionAt, held, counted, exceptionsOf}
 

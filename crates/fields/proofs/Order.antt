@@ -3,9 +3,9 @@
 use mathlib.Core.Path.{_≡_, refl, sym, ap, _∙_}
 use mathlib.Core.Bool.{Bool, true, false}
 use mathlib.Core.List.{List, [], _∷_}
-use Prim.Native.Nat.{ℕ, zero, suc, _+_, _-_, _≤_, _<_}
+use Prim.Native.Nat.{ℕ, zero, suc, _+_, _≤_, _<_}
 use native.Mathlib.Omega.{arith}
-use lib.Dec.{eqb, leb}
+use lib.Dec.{leb}
 use lib.ListN.{length, take, drop, length-drop}
 use lib.Seq.{length-take-le, drop-drop}
 use denote.Enum.Declared.{tagOf}
@@ -18,7 +18,6 @@ use Rattle.fields.specs.declared.reader.Span.{Span}
 use Rattle.fields.specs.declared.reader.Field.{Field}
 use Rattle.fields.specs.declared.reader.Field.the-variants.{Whole, Cut, End}
 use Rattle.fields.proofs.reader.Field.{the-type}
-use Rattle.fields.specs.declared.tags.Content.{Content}
 use Rattle.fields.specs.declared.tags.Content.the-variants.{At, Missing}
 use Rattle.fields.specs.Places.{bytesAt, placed, fieldAt, placeOf}
 use Rattle.fields.specs.Refusals.{fieldRefusal, refusalIn, taggedIn}

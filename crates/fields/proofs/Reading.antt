@@ -1,9 +1,8 @@
 -- Laws of reading a stored reference: what each answer tells, and that there is a single answer.
 -- Assumes nothing.
-use mathlib.Core.Path.{_≡_, refl, sym, ap, ap₂, _∙_}
-use mathlib.Core.Bool.{false}
-use mathlib.Core.List.{List, [], _∷_}
-use mathlib.Core.Option.{Option, none, some}
+use mathlib.Core.Path.{_≡_, refl, sym, ap, _∙_}
+use mathlib.Core.List.{List}
+use mathlib.Core.Option.{none}
 use Prim.Native.Nat.{ℕ, _+_, _%_, _≤_, _<_}
 use native.Mathlib.Omega.{arith}
 use lib.ListN.{length, getD}
@@ -13,14 +12,13 @@ use Rattle.rules.specs.Stored.{twoBytes, Tagged, fields, contentOf, exceptionsI
 use Rattle.fields.specs.declared.reader.Span.{Span}
 use Rattle.fields.specs.declared.tags.Content.{Content}
 use Rattle.fields.specs.declared.tags.Content.the-variants as content
-use Rattle.fields.specs.declared.reference.StoredAt.{StoredAt}
 use Rattle.fields.specs.declared.reference.Stored.{Stored}
 use Rattle.fields.specs.declared.reference.Stored.the-variants.{Refused, At}
 use Rattle.fields.specs.Places.{bytesAt, placeOf}
 use Rattle.fields.specs.Refusals.{refusalIn, taggedIn}
-use Rattle.fields.specs.Reading.{referenceIn, spanOf, Placed, Reads, assembledIn}
+use Rattle.fields.specs.Reading.{referenceIn, spanOf, Reads, assembledIn}
 use Rattle.fields.proofs.Order.{given-fields}
-use Rattle.fields.proofs.Contents.{Found, contentIn, Stands, stands, byte-of, bounds-length, table-length, exceptions-length}
+use Rattle.fields.proofs.Contents.{Found, contentIn, stands, byte-of, bounds-length, table-length, exceptions-length}
 
 pub refuses : (s : List ℕ) (x : Result Reference) (n : ℕ) → x ≡ refused n → Reads s x (Refused n)
 unfolding referenceIn

@@ -76,18 +76,21 @@ pub struct Fields<'a> {
 }
 
 impl<'a> Fields<'a> {
+    // At the bytes' start.
     pub fn new(src: &'a [u8]) -> Fields<'a>
         ensures { λ r. ⌜ (r .src ≡ src .entry) × (r .at ≡ 0) ⌝ }
     {
         Fields { src, at: 0 }
     }
 
+    // At another place.
     pub fn moved(self, at: usize) -> Fields<'a>
         ensures { λ q. ⌜ (q .src ≡ self .entry .src) × (q .at ≡ at) ⌝ }
     {
         Fields { src: self.src, at }
     }
 
+    // The field there.
     pub fn next(self) -> Field
         ensures { λ f. ⌜ f ≡ fieldAt (now (self .entry .src)) (self .entry .at) ⌝ }
     {

@@ -13,7 +13,7 @@ use Rattle.rules.specs.Reference.{Reference}
 use Rattle.rules.specs.Edit.{Asked}
 use Rattle.rules.specs.Refusal.{referenceRefusal, Room}
 use Rattle.rules.specs.Stored.{fields, storedReference}
-use Rattle.rules.specs.Answer.{Outcome, writesNothing, outcome, Answers}
+use Rattle.rules.specs.Answer.{Outcome, outcome, Answers}
 use Rattle.rules.proofs.Refusal.{refused-reference}
 use Rattle.rules.proofs.Answers.{refused-by, Alike, single}
 use Rattle.fields.specs.declared.reference.StoredAt.{StoredAt}

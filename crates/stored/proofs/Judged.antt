@@ -2,16 +2,15 @@
 -- Assumes nothing.
 use mathlib.Core.Path.{_≡_, refl, sym, ap, _∙_}
 use mathlib.Core.Bool.{Bool, true, false}
-use mathlib.Core.List.{List, []}
-use Prim.Native.Nat.{ℕ, zero, suc, _+_, _%_, _≤_, _<_}
+use mathlib.Core.List.{List}
+use Prim.Native.Nat.{ℕ, zero, suc, _%_, _≤_, _<_}
 use native.Mathlib.Decide.{decLt}
 use native.Mathlib.Omega.{arith}
-use lib.Dec.{leb}
 use lib.ListN.{length}
 use borrow.Author.Tests.{lt-leb}
 use Rattle.rules.specs.declared.Exception.{Exception}
 use Rattle.rules.specs.declared.Exceptions.{Exceptions}
-use Rattle.rules.specs.Bytes.{if_then_else_, firstOf, Result, given, refused, unless}
+use Rattle.rules.specs.Bytes.{if_then_else_, firstOf, given, refused, unless}
 use Rattle.rules.specs.Translation.{exceptionList}
 use Rattle.rules.specs.Reference.{Reference, size, cdsSize, areBounds, fitExceptions, endsInStop, referenceTests}
 use Rattle.rules.specs.Refusal.{referenceRefusal}
@@ -25,9 +24,8 @@ use Rattle.fields.specs.Held.{exceptionsOf}
 use Rattle.fields.specs.Reading.{referenceAt, referenceIn, Placed, Reads, assembledIn}
 use Rattle.fields.proofs.Contents.{length-bytes}
 use Rattle.fields.proofs.Held.{list-few, list-length}
-use Rattle.fields.proofs.Reading.{refuses, stored-is}
+use Rattle.fields.proofs.Reading.{stored-is}
 use Rattle.positions.specs.declared.Cds.{Cds}
-use Rattle.altseq.specs.declared.reference.Checked.the-variants as known
 use Rattle.altseq.specs.Known.{cdsOf, referenceOf, earlyRefusal, knownOf, readOf}
 use Rattle.altseq.proofs.References.{read-refused, read-accepted}
 

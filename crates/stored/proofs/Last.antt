@@ -1,8 +1,8 @@
 -- Laws of the last CDS codon: its residue, exceptions applied, is the last of the reference protein.
 -- Assumes nothing.
 use mathlib.Core.Path.{_≡_, refl, sym, ap, _∙_}
-use mathlib.Core.List.{List, [], _∷_, _++_}
-use Prim.Native.Nat.{ℕ, suc, _+_, _-_, _*_, _/_, _%_, _≤_, _<_}
+use mathlib.Core.List.{List, _++_}
+use Prim.Native.Nat.{ℕ, _+_, _-_, _*_, _/_, _≤_, _<_}
 use native.Mathlib.Numerals.{add-one}
 use native.Mathlib.Omega.{arith}
 use lib.Dec.{eqb}
@@ -14,7 +14,7 @@ use Rattle.rules.specs.Bytes.{byte, if_then_else_}
 use Rattle.rules.specs.Letters.{letterSet, isLetter}
 use Rattle.rules.specs.Codons.{codonRule, codon}
 use Rattle.rules.specs.Translation.{noException, exceptionList, excepted, residuesFrom, translated, residueCount}
-use Rattle.rules.specs.Reference.{Reference, size, cdsSize, cds, codons, referenceProtein, endsInStop}
+use Rattle.rules.specs.Reference.{size, cdsSize, cds, codons, referenceProtein, endsInStop}
 use Rattle.rules.proofs.Lists.{all-at}
 use Rattle.rules.proofs.Translation.{length-translated}
 use Rattle.rules.proofs.Reading.{residues-more, translated-append}

@@ -1,6 +1,7 @@
 // Stored references of standard input, a line each: what is read, or the refusal, or what an edit of the reference is answered. The gate runs it
-// on the file stdin beside src/ and holds what it prints to the file stdout. Both are written by tests/stored/account.py, an account of
-// document 01 in another language.
+// on the file stdin beside src/ and holds the file stdout to what it prints.
+//
+// Where these files come from: tests/stored makes the cases and, by an account of document 01 in another language (tests/account), the answers.
 //
 // The input is strings, each behind the two bytes of its length, high byte first: a name, the stored bytes, and an edit, or nothing.
 mod answers;

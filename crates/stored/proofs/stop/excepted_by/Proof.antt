@@ -1,5 +1,4 @@
 -- `stored::stop::excepted_by` meets its contract. Assumes nothing.
-use borrow.Author.Needs.{needs}
 use borrow.Author.Tests.{eq-eqb, ne-eqb}
 use Rattle.stored.proofs.stop.excepted_by.Statement.{statement}
 use Rattle.stored.proofs.stop.excepted_by.Tie as tie
