@@ -1,8 +1,10 @@
 /* Times the module (with -DOURS), the Rust and plain C in one process, by turns, and prints the best of many rounds. All is timed in several passes, so that
  * no row has its whole time while something else runs. Before anything is timed the answers are held to each other. */
 #include "baseline.h"
-#include "ours.h"
 #include "oracle.h"
+#ifdef OURS
+#include "garumbott.h"
+#endif
 #include <stdio.h>
 #include <stdlib.h>
 #include <string.h>
@@ -93,60 +95,49 @@ static void c_known(void)
 }
 
 #ifdef OURS
-enum { TIMES = 16 };
-
-static uint64_t ours_edit(uint64_t times)
+static uint64_t ours_translated(uint8_t *to, uint64_t room)
 {
-    if (times == 0)
-        return bench_edit(letters, ref.len, ref.cs, ref.ce, 0, edit.kind, edit.start, edit.end, edit.bases, edit.bases_len, tx, sizeof tx, rp, sizeof rp, ap,
-                          sizeof ap);
-    return bench_edit_known(letters, ref.len, ref.cs, ref.ce, 0, edit.kind, edit.start, edit.end, edit.bases, edit.bases_len, times, tx, sizeof tx, rp,
-                            sizeof rp, ap, sizeof ap);
+    return garumbott_translate(letters, ref.len, 0, 0, NULL, 0, to, room).len;
 }
 
 static void ours_translate(void)
 {
-    sink += bench_translate(letters, ref.len, 0, out, sizeof out);
-}
-
-static void ours_inner_once(void)
-{
-    sink += bench_inner(letters, ref.len, 0, 1, out, sizeof out);
-}
-
-static void ours_inner_more(void)
-{
-    sink += bench_inner(letters, ref.len, 0, 1 + TIMES, out, sizeof out);
+    sink += ours_translated(out, sizeof out);
 }
 
 static void ours_prefix(void)
 {
-    sink += bench_prefix(letters, ref.len, other, ref.len);
+    sink += garumbott_common_prefix(letters, ref.len, other, ref.len);
+}
+
+static struct garumbott_answer ours_record(uint64_t table, int64_t start)
+{
+    return garumbott_record(letters, ref.len, ref.cs, ref.ce, table, NULL, 0, edit.kind, 0, start, 0, edit.end, edit.bases, edit.bases_len, tx, sizeof tx, rp,
+                            sizeof rp, ap, sizeof ap);
 }
 
 static void ours_anew(void)
 {
-    sink += ours_edit(0);
+    sink += ours_record(0, edit.start).number;
 }
 
-static void ours_known_once(void)
+/* Refused at the edit's positions: the reference was checked and R read. */
+static void ours_check(void)
 {
-    sink += ours_edit(1);
+    sink += ours_record(0, 0).refusal;
 }
 
-static void ours_known_more(void)
+/* Refused at the table: the letters were looked at. */
+static void ours_letters(void)
 {
-    sink += ours_edit(1 + TIMES);
+    sink += ours_record(3, 0).refusal;
 }
 #else
-enum { TIMES = 1 };
 #define ours_translate NULL
-#define ours_inner_once NULL
-#define ours_inner_more NULL
 #define ours_prefix NULL
 #define ours_anew NULL
-#define ours_known_once NULL
-#define ours_known_more NULL
+#define ours_check NULL
+#define ours_letters NULL
 #endif
 
 /* ---- timing ---- */
@@ -204,13 +195,11 @@ static void head(const char *what)
 {
     if (pass < PASSES)
         return;
-    printf("\n%-38s%10s%10s%10s%10s%10s%10s%10s\n", what, "ours", "Rust", "Rust u.s.", "C", "Rust/ours", "C/ours", "Rust/C");
+    printf("\n%-38s%10s%10s%10s%10s%10s%10s%10s\n", what, "ours", "Rust", "Rust u.s.", "C", "ours/Rust", "ours/u.s.", "ours/C");
 }
 
-/* The Rust's faster way counts in the ratios. */
 static void row(const char *what, double ours, double rust, double until, double c)
 {
-    double faster = until > 0 && until < rust ? until : rust;
     if (pass < PASSES)
         return;
     printf("%-38s", what);
@@ -218,9 +207,9 @@ static void row(const char *what, double ours, double rust, double until, double
     cell(rust);
     cell(until);
     cell(c);
-    ratio(faster, ours);
-    ratio(c, ours);
-    ratio(faster, c);
+    ratio(ours, rust);
+    ratio(ours, until);
+    ratio(ours, c);
     printf("\n");
     fflush(stdout);
 }
@@ -230,7 +219,7 @@ static void row(const char *what, double ours, double rust, double until, double
 static void make_letters(uint64_t len)
 {
     seed = 1;
-    ref = (struct base_reference){letters, len, 1, len, 0, NULL, 0};
+    ref = (struct base_reference){letters, len, 1, len / 3 * 3, 0, NULL, 0};
     for (uint64_t i = 0; i < len; i++)
         letters[i] = "ACGT"[next() & 3];
 }
@@ -284,11 +273,8 @@ static void check_translation(void)
         fail("translation, the Rust");
 #ifdef OURS
     memset(theirs, 0, sizeof theirs);
-    if (bench_translate(letters, ref.len, 0, theirs, sizeof theirs) != n || memcmp(out, theirs, n) || theirs[n])
+    if (ours_translated(theirs, sizeof theirs) != n || memcmp(out, theirs, n) || theirs[n])
         fail("translation, ours");
-    memset(theirs, 0, sizeof theirs);
-    if (bench_inner(letters, ref.len, 0, 2, theirs, sizeof theirs) != n || memcmp(out, theirs, n) || theirs[n])
-        fail("inner translation, ours");
 #endif
 }
 
@@ -311,23 +297,21 @@ static void check_edit(void)
     memcpy(tx3, tx, sizeof tx);
     memcpy(rp3, rp, sizeof rp);
     memcpy(ap3, ap, sizeof ap);
-    for (uint64_t times = 0; times < 3; times++) {
-        memset(tx, 0, sizeof tx);
-        memset(rp, 0, sizeof rp);
-        memset(ap, 0, sizeof ap);
-        if (ours_edit(times) != mine.number || memcmp(tx, tx3, mine.transcript_len) || tx[mine.transcript_len] || memcmp(rp, rp3, mine.reference_len)
-            || rp[mine.reference_len] || memcmp(ap, ap3, mine.altered_len) || ap[mine.altered_len])
-            fail("edit, ours");
-    }
+    memset(tx, 0, sizeof tx);
+    memset(rp, 0, sizeof rp);
+    memset(ap, 0, sizeof ap);
+    if (ours_record(0, edit.start).number != mine.number || memcmp(tx, tx3, mine.transcript_len) || tx[mine.transcript_len] || memcmp(rp, rp3, mine.reference_len)
+        || rp[mine.reference_len] || memcmp(ap, ap3, mine.altered_len) || ap[mine.altered_len])
+        fail("edit, ours");
 #endif
 }
 
 /* ---- the tables ---- */
 
-/* What one of the inner times took. */
-static double inner(double once, double more)
+/* What the whole takes beside a part of it. */
+static double beside(double whole, double part)
 {
-    return once > 0 ? (more - once) / TIMES : 0;
+    return whole > part ? whole - part : 0;
 }
 
 static void translations(uint64_t len, int strewn)
@@ -337,11 +321,11 @@ static void translations(uint64_t len, int strewn)
     if (strewn)
         strew(len);
     check_translation();
-    const double *best = best_of((call[]){ours_translate, rust_translate, c_translate, ours_inner_once, ours_inner_more}, 5);
+    const double *best = best_of((call[]){ours_translate, rust_translate, c_translate, ours_check, ours_letters}, 5);
     snprintf(what, sizeof what, "%lu %s", (unsigned long)len, strewn ? "with ambiguous letters" : "plain");
     row(what, best[0], best[1], 0, best[2]);
 #ifdef OURS
-    row("  letters and room known", inner(best[3], best[4]), best[1], 0, best[2]);
+    row("  letters known", beside(best[3], best[4]), best[1], 0, best[2]);
 #endif
 }
 
@@ -352,7 +336,7 @@ static void prefixes(uint64_t len)
     if (oracle_prefix(letters, len, other, len) != len || base_prefix(letters, len, other, len) != len)
         fail("prefix");
 #ifdef OURS
-    if (bench_prefix(letters, len, other, len) != len)
+    if (garumbott_common_prefix(letters, len, other, len) != len)
         fail("prefix, ours");
 #endif
     const double *best = best_of((call[]){ours_prefix, rust_prefix, c_prefix}, 3);
@@ -373,11 +357,12 @@ static void edits(uint64_t len)
         const char *base = letters[ref.cs - 1 + middle - 1] == 'C' ? "G" : "C";
         make_edit(kinds[k].kind, middle, middle + kinds[k].more, kinds[k].kind == 1 ? base : "");
         check_edit();
-        const double *best = best_of((call[]){ours_anew, rust_anew, rust_anew_until, c_anew}, 4);
+        const double *best = best_of((call[]){ours_anew, rust_anew, rust_anew_until, c_anew, ours_check}, 5);
         snprintf(what, sizeof what, "%lu %s", (unsigned long)len, kinds[k].name);
         row(what, best[0], best[1], best[2], best[3]);
-        best = best_of((call[]){ours_known_once, rust_known, rust_known_until, c_known, ours_known_more}, 5);
-        row("  reference known", inner(best[0], best[4]), best[1], best[2], best[3]);
+        double ours = beside(best[0], best[4]);
+        best = best_of((call[]){NULL, rust_known, rust_known_until, c_known}, 4);
+        row("  reference known", ours, best[1], best[2], best[3]);
         oracle_edit_free(rust_edit);
         oracle_reference_free(rust_ref);
     }
@@ -387,7 +372,7 @@ int main(void)
 {
     static const uint64_t lengths[] = {16384, 3000, 30};
     base_init();
-    printf("nanoseconds a call, the best of %d rounds; u.s. is until_stop; a ratio above 1 says that the first is slower\n", PASSES * ROUNDS);
+    printf("nanoseconds a call, the best of %d rounds; u.s. is until_stop\n", PASSES * ROUNDS);
     for (pass = 1; pass <= PASSES; pass++) {
         at = 0;
         head("translation");

@@ -1,154 +1,351 @@
-#!/usr/bin/env python3
-"""account.py < INPUT: what document 01's text program prints, by an account of its own: written from document 01, not from the definitions."""
-import re
+"""A second account of document 01, in Python, written from its text and not from the definitions or the code.
+
+What the programs print is compared with it. It is only as good as its reading of document 01: where it and the proved module differ, one of
+the two is wrong. `python3 account.py < input` prints what the text program prints.
+"""
 import sys
 
-SETS = dict(A="A", C="C", G="G", T="T", R="AG", Y="CT", S="CG", W="AT", K="GT", M="AC", B="CGT", D="AGT", H="ACT", V="ACG", N="ACGT")
-PAIRS = dict(zip("ATCGRYKMBVDHSWN", "TAGCYRMKVBHDSWN"))
-CODE = "FFLLSSSSYY**CC*WLLLLPPPPHHQQRRRRIIIMTTTTNNKKSSRRVVVVAAAADDEEGGGG"
-OTHER = {0: {}, 1: {"TGA": "U"}, 2: {"TGA": "W", "ATA": "M", "AGA": "*", "AGG": "*"}}
-NUMBER = r"(0|[1-9][0-9]{0,4})"
-REF = re.compile(rf"ref {NUMBER} {NUMBER} {NUMBER} ([A-Z]+)")
-EDIT = re.compile(rf"([-*]?){NUMBER}(?:_([-*]?){NUMBER})?(?:(del|dup|inv|=)|(delins|ins)([A-Z]+)|[A-Z](>)([A-Z]))")
+LETTERS = {"A": "A", "C": "C", "G": "G", "T": "T", "R": "AG", "Y": "CT", "S": "CG", "W": "AT", "K": "GT", "M": "AC",
+           "B": "CGT", "D": "AGT", "H": "ACT", "V": "ACG", "N": "ACGT"}
+COMPLEMENTS = dict(zip("ACGTRYKMBVDHSWN", "TGCAYRMKVBHDSWN"))
+TABLE_0 = "FFLLSSSSYY**CC*WLLLLPPPPHHQQRRRRIIIMTTTTNNKKSSRRVVVVAAAADDEEGGGG"
+OTHER_CODONS = [{}, {"TGA": "U"}, {"TGA": "W", "ATA": "M", "AGA": "*", "AGG": "*"}]
+KINDS = ["substitution", "deletion", "delins", "insertion", "duplication", "inversion", "identity"]
+WITH_BASES = ["substitution", "delins", "insertion"]
+LONGEST, MOST_BASES, MOST_EXCEPTIONS, LONGEST_LINE = 16384, 4096, 16, 20480
 
 
-def codon(table, letters):
-    found = set()
-    for plain in (x + y + z for x in SETS[letters[0]] for y in SETS[letters[1]] for z in SETS[letters[2]]):
-        place = 16 * "TCAG".index(plain[0]) + 4 * "TCAG".index(plain[1]) + "TCAG".index(plain[2])
-        found.add(OTHER[table].get(plain, CODE[place]))
-    return found.pop() if len(found) == 1 else "X"
+class Refused(Exception):
+    """One numbered refusal."""
+
+    def __init__(self, number):
+        super().__init__(number)
+        self.number = number
 
 
-def translate(table, s):
-    whole = len(s) // 3 * 3
-    return "".join(codon(table, s[i:i + 3]) for i in range(0, whole, 3)) + ("X" if len(s) > whole else "")
+def refuse(number, wrong):
+    if wrong:
+        raise Refused(number)
 
 
-def reference_refusal(cs, ce, table, s):
-    if not 1 <= len(s) <= 16384:
-        return 1
-    if not set(s) <= set(SETS):
-        return 2
-    if not (1 <= cs <= ce <= len(s) and (ce - cs + 1) % 3 == 0 and ce - cs + 1 >= 6):
-        return 3
-    if table > 2:
-        return 4
-    return 0 if translate(table, s[cs - 1:ce])[-1] == "*" else 6
+# Letters and codons
 
+def plain_codon(table, codon):
+    place = ["TCAG".index(base) for base in codon]
+    return OTHER_CODONS[table].get(codon, TABLE_0[place[0] * 16 + place[1] * 4 + place[2]])
+
+
+codons = {}
+
+
+def residue(table, codon):
+    if (table, codon) not in codons:
+        a, b, c = (LETTERS[letter] for letter in codon)
+        found = {plain_codon(table, x + y + z) for x in a for y in b for z in c}
+        codons[table, codon] = found.pop() if len(found) == 1 else "X"
+    return codons[table, codon]
+
+
+def translated(table, letters, exceptions=()):
+    whole = len(letters) // 3
+    residues = [residue(table, letters[3 * i:3 * i + 3]) for i in range(whole)]
+    for number, other in exceptions:
+        if number <= whole:
+            residues[number - 1] = other
+    return "".join(residues) + ("X" if len(letters) % 3 else "")
+
+
+def reverse_complement(letters):
+    return "".join(COMPLEMENTS[letter] for letter in reversed(letters))
+
+
+def shared_first(a, b):
+    return next((i for i, (x, y) in enumerate(zip(a, b)) if x != y), min(len(a), len(b)))
+
+
+def shared_last(a, b):
+    return shared_first(a[::-1], b[::-1])
+
+
+# Reference
 
 class Reference:
-    def __init__(self, cs, ce, table, s):
-        self.cs, self.ce, self.table, self.s, self.size = cs, ce, table, s, len(s)
-        self.protein = translate(table, s[cs - 1:ce])
+    def __init__(self, letters, cs, ce, table, exceptions=()):
+        self.letters, self.cs, self.ce, self.table, self.exceptions = letters, cs, ce, table, list(exceptions)
 
-    def place(self, sign, n):
-        return {"": self.cs + n - 2, "-": self.cs - 1 - n, "*": self.ce + n - 1}[sign]
-
-    def index(self, sign, n):
-        return {"": self.cs + n - 2, "-": self.cs - 1, "*": min(self.ce + n - 1, self.size)}[sign]
-
-    def outside(self, sign, n):
-        most = {"": self.ce - self.cs + 1, "-": self.cs - 1, "*": 65535}[sign]
-        return not 1 <= n <= most
-
-    def refusal(self, kind, start, end, new):
-        first, last = self.place(*start), self.place(*end)
-        if self.outside(*start) or self.outside(*end) or (kind == "dup" and last >= self.size):
-            return 7
-        if first > last or (kind == "ins" and last != first + 1) or (kind == ">" and last != first):
-            return 8
-        if start[0] == end[0] == "-" or start[0] == end[0] == "*" or (kind == "ins" and start[0] == "-"):
-            return 9
-        if kind in ("delins", "ins", ">") and not (len(new) <= 4096 and set(new) <= set(SETS)):
-            return 10
-        return 0
-
-    def swap(self, kind, start, end, new):
-        """Bases a..b give way to `put`; whether it has a stop, and how much of it stays."""
-        a, b = self.index(*start), min(self.index(*end) + 1, self.size)
-        if kind == "ins":
-            a = b = a + 1
-        put = {"del": "", "dup": self.s[a:b], "inv": "".join(PAIRS[x] for x in reversed(self.s[a:b])), "=": self.s[a:b]}.get(kind, new)
-        if kind == "dup":
-            a = b
-        if kind not in ("ins", "dup"):
-            return a, b, put, False, len(put)
-        before = (a - (self.cs - 1)) % 3
-        stop = translate(self.table, "N" * before + put).find("*")
-        return a, b, put, stop >= 0, len(put) if stop < 0 else 3 * stop + 3 - before
-
-    def answer(self, kind, start, end, new):
-        refused = self.refusal(kind, start, end, new)
-        if refused:
-            return f"refused {refused}"
-        if self.protein.count("*") > 1 or self.place(*end) >= self.size:
-            return "unknown"
-        a, b, put, stop, stay = self.swap(kind, start, end, new)
-        shift = (len(put) - (b - a)) % 3 != 0 or (kind in ("del", "delins", ">") and a < self.ce < b)
-        shift = shift and not (stop or self.s[a:b] == put or kind in ("inv", "="))
-        altered = self.s[:a] + put[:stay] + self.s[b:]
-        protein = translate(self.table, altered[self.cs - 1:])
-        if "*" in protein:
-            protein = protein[:protein.index("*") + 1]
-        if not protein:
-            return "no-protein"
-        if protein == self.protein:
-            number = end[1] // 3 + 1 if kind == "dup" else 1 if start[0] == "-" else (start[1] + 2) // 3
-            number = max(1, min(number, len(self.protein)))
-            return f"silent {number} {self.protein[number - 1]} {self.protein[number - 1]}"
-        return changed(self.protein, protein, shift)
+    def check(self):
+        size, codon_count = self.ce - self.cs + 1, (self.ce - self.cs + 1) // 3
+        refuse(1, not 1 <= len(self.letters) <= LONGEST)
+        refuse(2, any(letter not in LETTERS for letter in self.letters))
+        refuse(3, not (1 <= self.cs <= self.ce <= len(self.letters) and size % 3 == 0 and size >= 6))
+        refuse(4, self.table not in (0, 1, 2))
+        numbers = [number for number, _ in self.exceptions]
+        refuse(5, len(numbers) > MOST_EXCEPTIONS or numbers != sorted(set(numbers)))
+        refuse(5, any(not (1 <= number <= codon_count and is_residue(x)) for number, x in self.exceptions))
+        self.protein = translated(self.table, self.letters[self.cs - 1:self.ce], self.exceptions)
+        refuse(6, self.protein[-1] != "*")
+        return self
 
 
-def changed(r, a, shift):
-    s = 0
-    while s < min(len(r), len(a)) and r[s] == a[s]:
-        s += 1
-    e = 0
-    while not shift and e < min(len(r), len(a)) - s and r[-1 - e] == a[-1 - e]:
-        e += 1
-    deleted, inserted = r[s:len(r) - e], a[s:len(a) - e]
+def is_residue(x):
+    return x == "*" or "A" <= x <= "Z"
+
+
+# Positions and edits: a position is a sign ("" for none) and a number
+
+class Edit:
+    def __init__(self, kind, start, end, bases=""):
+        self.kind, self.start, self.end, self.bases = kind, start, end, bases
+
+
+def is_outside(ref, position):
+    sign, n = position
+    if sign == "*":
+        return not 1 <= n <= 65535
+    return n == 0 or (n > ref.ce - ref.cs + 1 if sign == "" else ref.cs - 1 - n < 0)
+
+
+def place(ref, position):
+    sign, n = position
+    return {"": ref.cs + n - 2, "-": ref.cs - 1 - n, "*": ref.ce + n - 1}[sign]
+
+
+def index(ref, position):
+    sign, n = position
+    return {"": ref.cs + n - 2, "-": ref.cs - 1, "*": min(ref.ce + n - 1, len(ref.letters))}[sign]
+
+
+def check_edit(ref, edit):
+    refuse(7, is_outside(ref, edit.start) or is_outside(ref, edit.end))
+    first, last = place(ref, edit.start), place(ref, edit.end)
+    refuse(7, edit.kind == "duplication" and last >= len(ref.letters))
+    refuse(8, first > last or edit.kind == "insertion" and last != first + 1 or edit.kind == "substitution" and first != last)
+    signs = edit.start[0] + edit.end[0]
+    refuse(9, signs in ("--", "**") or edit.kind == "insertion" and edit.start[0] == "-")
+    refuse(10, edit.kind not in KINDS)
+    most = {"substitution": 1}.get(edit.kind, MOST_BASES) if edit.kind in WITH_BASES else 0
+    refuse(10, not (edit.kind in WITH_BASES) <= len(edit.bases) <= most or any(base not in LETTERS for base in edit.bases))
+
+
+class Altered:
+    """What an accepted edit makes: the transcript, whether it is a frameshift, and the altered protein."""
+
+    def __init__(self, ref, edit):
+        letters = ref.letters
+        start, end = index(ref, edit.start), min(index(ref, edit.end) + 1, len(letters))
+        at, to, put = start, end, edit.bases
+        if edit.kind == "insertion":
+            at = to = start + 1
+        elif edit.kind == "duplication":
+            at = to = end
+            put = letters[start:end]
+        elif edit.kind == "inversion":
+            put = reverse_complement(letters[start:end])
+        elif edit.kind == "identity":
+            put = letters[start:end]
+        kept, stops = put, False
+        if edit.kind in ("insertion", "duplication"):
+            frame = (at - (ref.cs - 1)) % 3
+            stop = translated(ref.table, "N" * frame + put).find("*")
+            if stop >= 0:
+                kept, stops = put[:3 * (stop + 1) - frame], True
+        self.transcript = letters[:at] + kept + letters[to:]
+        gives_way = edit.kind in ("deletion", "delins", "substitution")
+        self.flag = (len(put) - (to - at)) % 3 != 0 or gives_way and start < ref.ce < end
+        if letters[at:to] == put or stops or edit.kind in ("inversion", "identity"):
+            self.flag = False
+        self.protein = translated(ref.table, self.transcript[ref.cs - 1:], self.moved(ref))
+        self.protein = self.protein[:self.protein.find("*") + 1] or self.protein
+
+    def moved(self, ref):
+        old, new, first = ref.letters, self.transcript, ref.cs - 1
+        prefix = shared_first(old, new)
+        suffix = shared_last(old[prefix:], new[prefix:])
+        for number, x in ref.exceptions:
+            codon = first + 3 * (number - 1)
+            to = codon + len(new) - len(old)
+            if codon + 3 <= prefix:
+                yield number, x
+            elif codon >= len(old) - suffix and to >= first and (to - first) % 3 == 0:
+                yield (to - first) // 3 + 1, x
+
+
+# The record: a word, a number, the deleted and the inserted part by place and length, and a duplication's first residue
+
+class Record:
+    def __init__(self, word, number=0, deleted=(0, 0), inserted=(0, 0), first=0):
+        self.word, self.number, self.deleted, self.inserted, self.first = word, number, deleted, inserted, first
+
+
+def is_unknown(ref, edit):
+    return ref.protein.count("*") > 1 or place(ref, edit.end) >= len(ref.letters)
+
+
+def silent_number(ref, edit):
+    sign, n = edit.end if edit.kind == "duplication" else edit.start
+    n = 1 if sign == "-" else n
+    number = n // 3 + 1 if edit.kind == "duplication" else -(-n // 3)
+    return max(1, min(number, len(ref.protein)))
+
+
+def record_of(ref, edit, altered):
+    r, a = ref.protein, altered.protein
+    if not a:
+        return Record("no-protein")
+    if r == a:
+        n = silent_number(ref, edit)
+        return Record("silent", n, (n - 1, 1), (n - 1, 1))
+    s = shared_first(r, a)
+    ending = 0 if altered.flag else shared_last(r[s:], a[s:])
+    deleted, inserted = r[s:len(r) - ending], a[s:len(a) - ending]
     number, n = s + 1, len(inserted)
-    copied = not deleted and n + 1 < number and r[s - n:s] == inserted
-    classes = [
-        (number == 1, "start-lost"),
-        (deleted != "" and r[s] == "*", "extension"),
-        (a[s:s + 1] == "*", "stop-gained"),
-        (shift, "frameshift"),
-        (len(deleted) == n == 1, "substitution"),
-        (n == 0, "deletion"),
-        (copied, "duplication"),
-        (not deleted, "insertion"),
-        (True, "delins"),
-    ]
-    name = next(name for holds, name in classes if holds)
-    line = f"{name} {number} {deleted or '-'} {inserted or '-'}"
-    return line + f" {number - n}" if name == "duplication" else line
+    copies = not deleted and n + 1 < number and r[s - n:s] == inserted
+    if number == 1:
+        word = "start-lost"
+    elif deleted and r[s] == "*":
+        word = "extension"
+    elif a[s:s + 1] == "*":
+        word = "stop-gained"
+    elif altered.flag:
+        word = "frameshift"
+    elif len(deleted) == n == 1:
+        word = "substitution"
+    elif n == 0:
+        word = "deletion"
+    elif copies:
+        word = "duplication"
+    elif not deleted:
+        word = "insertion"
+    else:
+        word = "delins"
+    return Record(word, number, (s, len(deleted)), (s, n), number - n if word == "duplication" else 0)
 
 
-def run(text):
-    lines = text.split(b"\n")
-    if lines[-1] == b"":
+def answer(ref, edit):
+    """The record of an edit of a checked reference, and what it makes; None for Unknown."""
+    check_edit(ref, edit)
+    if is_unknown(ref, edit):
+        return Record("unknown"), None
+    altered = Altered(ref, edit)
+    return record_of(ref, edit, altered), altered
+
+
+def check_room(ref, altered, transcript, reference, protein):
+    refuse(11, transcript < len(altered.transcript))
+    behind = len(altered.transcript) - ref.cs + 1
+    refuse(12, reference < (ref.ce - ref.cs + 1) // 3 or protein < -(-behind // 3))
+
+
+# Stored reference
+
+def stored(data):
+    fields, last, at = {}, 0, 0
+    while at < len(data):
+        tag, header = data[at], data[at + 1:at + 3]
+        refuse(21, not last < tag <= 4)
+        refuse(20, len(header) < 2)
+        size = header[0] * 256 + header[1]
+        content = data[at + 3:at + 3 + size]
+        refuse(20, len(content) < size)
+        refuse(23, tag == 2 and size != 4 or tag == 3 and size != 1 or tag == 4 and size % 3 != 0)
+        fields[tag], last, at = content, tag, at + 3 + size
+    refuse(22, not {1, 2, 3} <= fields.keys())
+    bounds, exceptions = fields[2], fields.get(4, b"")
+    listed = [(exceptions[i] * 256 + exceptions[i + 1], chr(exceptions[i + 2])) for i in range(0, len(exceptions), 3)]
+    return Reference(fields[1].decode("latin-1"), bounds[0] * 256 + bounds[1], bounds[2] * 256 + bounds[3], fields[3][0], listed).check()
+
+
+# Text program
+
+def number(text, at):
+    """A number in the form, and the place behind it; None otherwise."""
+    end = at
+    while end < len(text) and "0" <= text[end] <= "9":
+        end += 1
+    digits = text[at:end]
+    if not 1 <= len(digits) <= 5 or len(digits) > 1 and digits[0] == "0":
+        return None
+    return int(digits), end
+
+
+def are_capitals(text):
+    return text != "" and all("A" <= c <= "Z" for c in text)
+
+
+def reference_line(text):
+    if not text.startswith("ref "):
+        return None
+    values, at = [], 4
+    for _ in range(3):
+        found = number(text, at)
+        if found is None or text[found[1]:found[1] + 1] != " ":
+            return None
+        values.append(found[0])
+        at = found[1] + 1
+    return Reference(text[at:], *values) if are_capitals(text[at:]) else None
+
+
+def position(text, at):
+    sign = text[at:at + 1] if text[at:at + 1] in ("-", "*") else ""
+    found = number(text, at + len(sign))
+    return found and ((sign, found[0]), found[1])
+
+
+def edit_line(text):
+    found = position(text, 0)
+    if found is None:
+        return None
+    start, at = found
+    end = start
+    if text[at:at + 1] == "_":
+        found = position(text, at + 1)
+        if found is None:
+            return None
+        end, at = found
+    verb = text[at:]
+    alone = {"del": "deletion", "dup": "duplication", "inv": "inversion", "=": "identity"}
+    if verb in alone:
+        return Edit(alone[verb], start, end)
+    for word, kind in (("delins", "delins"), ("ins", "insertion")):
+        if verb.startswith(word) and are_capitals(verb[len(word):]):
+            return Edit(kind, start, end, verb[len(word):])
+    if len(verb) == 3 and verb[1] == ">" and are_capitals(verb[0] + verb[2]):
+        return Edit("substitution", start, end, verb[2])
+    return None
+
+
+def answer_line(ref, edit):
+    record, altered = answer(ref, edit)
+    if record.word in ("unknown", "no-protein"):
+        return record.word
+    part = lambda protein, where: protein[where[0]:where[0] + where[1]] or "-"
+    words = [record.word, str(record.number), part(ref.protein, record.deleted), part(altered.protein, record.inserted)]
+    return " ".join(words + ([str(record.first)] if record.first else []))
+
+
+def run(data):
+    """What the text program prints on an input."""
+    if not data:
+        return b""
+    lines = data.decode("latin-1").split("\n")
+    if lines[-1] == "":
         lines.pop()
-    reference = None
-    for i, line in enumerate(lines):
-        found = (REF if i == 0 else EDIT).fullmatch(line.decode("latin-1")) if len(line) <= 20480 else None
-        if i == 0:
-            given = found and (int(found[1]), int(found[2]), int(found[3]), found[4])
-            refused = reference_refusal(*given) if given else 30
-            if refused:
-                yield f"refused {refused}"
-                return
-            reference = Reference(*given)
-            yield f"reference {reference.protein}"
-        elif found:
-            start = (found[1], int(found[2]))
-            end = (found[3], int(found[4])) if found[4] else start
-            yield reference.answer(found[5] or found[6] or found[8], start, end, found[7] or found[9] or "")
-        else:
-            yield "refused 30"
+    ref, out = None, []
+    for line in lines:
+        try:
+            parsed = None if len(line) > LONGEST_LINE else reference_line(line) if ref is None else edit_line(line)
+            refuse(30, parsed is None)
+            if ref is None:
+                ref = parsed.check()
+                out.append("reference " + ref.protein)
+            else:
+                out.append(answer_line(ref, parsed))
+        except Refused as refusal:
+            out.append(f"refused {refusal.number}")
+            if ref is None:
+                break
+    return ("\n".join(out) + "\n").encode()
 
 
 if __name__ == "__main__":
-    for line in run(sys.stdin.buffer.read()):
-        print(line)
+    sys.stdout.buffer.write(run(sys.stdin.buffer.read()))

@@ -87,13 +87,13 @@ module _ (m : Limits) (s : List ℕ) (k : Known) (e : Exceptions) (protein : Lis
   few-bases = omega (arith, known .small)
 
   module _ (a : Asked) where
-    unknown-is : isUnknown (referenceOf s (k .cds) e) a ≡ (k .several || endsPast (bare s (k .cds)) a)
+    pub unknown-is : isUnknown (referenceOf s (k .cds) e) a ≡ (k .several || endsPast (bare s (k .cds)) a)
     unfolding isUnknown knownOf
     unknown-is =
         let several = ap (λ (k : Known). k .several) (known .is) in
         rw (several, past-bare s (k .cds) e a)
 
-    allowed-is : refusal m (referenceOf s (k .cds) e) a ≡ firstOf (editTests (m .most) (bare s (k .cds)) a)
+    pub allowed-is : refusal m (referenceOf s (k .cds) e) a ≡ firstOf (editTests (m .most) (bare s (k .cds)) a)
     allowed-is = refused-edit m (referenceOf s (k .cds) e) a (known .accepted) ∙ sym (tests-bare s (k .cds) e a (m .most))
 
     module _ (d : Decision) (is : d ≡ decisionOf (m .most) (k .several) (bare s (k .cds)) a) (t p q : List ℕ) where
@@ -117,10 +117,10 @@ module _ (m : Limits) (s : List ℕ) (k : Known) (e : Exceptions) (protein : Lis
 
       -- the edit goes
       module _ (plan : Plan) (goes : d ≡ decision.Goes plan) where
-        none-refused : refusal m (referenceOf s (k .cds) e) a ≡ 0
+        pub none-refused : refusal m (referenceOf s (k .cds) e) a ≡ 0
         none-refused = allowed-is ∙ decided-plan (m .most) (k .several) (bare s (k .cds)) a plan (sym is ∙ goes) .0
 
-        not-unknown : isUnknown (referenceOf s (k .cds) e) a ≡ false
+        pub not-unknown : isUnknown (referenceOf s (k .cds) e) a ≡ false
         not-unknown = unknown-is ∙ decided-plan (m .most) (k .several) (bare s (k .cds)) a plan (sym is ∙ goes) .1
 
         pub plan-is : plan ≡ planOf (referenceOf s (k .cds) e) a

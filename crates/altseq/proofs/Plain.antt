@@ -1,6 +1,6 @@
--- A transcript of bases stays one where bases go in.
+-- Plain letters, and that a transcript of bases stays one where bases go in.
 -- Assumes nothing.
-use mathlib.Core.Path.{_≡_, refl, ap, _∙_}
+use mathlib.Core.Path.{_≡_, refl, sym, ap, _∙_}
 use mathlib.Core.Bool.{Bool, true, false, _&&_, _||_, not}
 use mathlib.Core.List.{List, [], _∷_, _++_, map}
 use Prim.Native.Nat.{ℕ, _-_}
@@ -16,27 +16,24 @@ use Rattle.rules.specs.Altered.{part, carried, swapBy, swap, kept, cutSwap, alt
 use Rattle.rules.proofs.Tests.{and-left, and-right, and-both, all-take, all-drop, all-both, all-reverse, all-map}
 use Rattle.rules.proofs.Complement.{of-letters}
 use Rattle.rules.proofs.Altered.{kept-is}
-use Rattle.codons.specs.Tables.{isBase}
+use Rattle.codons.specs.Tables.{isBase, isPlain}
 
--- A, C, G and T
-abbrev isPlain : ℕ → Bool
-isPlain b = isLetter b && isBase b
-
-plain-of : (s : List ℕ) → all isLetter s ≡ true → all isBase s ≡ true → all isPlain s ≡ true
+-- plain letters are of the fifteen, and of the fifteen those are plain that are one base
+pub plain-letters : (s : List ℕ) → all isPlain s ≡ true → all isLetter s ≡ true
 unfolding all
-plain-of [] l b = refl
-plain-of (x ∷ s) l b =
-    and-both (isPlain x) (all isPlain s)
-    (and-both (isLetter x) (isBase x) (and-left (isLetter x) (all isLetter s) l) (and-left (isBase x) (all isBase s) b))
-    (plain-of s (and-right (isLetter x) (all isLetter s) l) (and-right (isBase x) (all isBase s) b))
+plain-letters [] h = refl
+plain-letters (x ∷ s) h =
+    and-both (isLetter x) (all isLetter s)
+    (and-left (isLetter x) (isBase x) (and-left (isPlain x) (all isPlain s) h))
+    (plain-letters s (and-right (isPlain x) (all isPlain s) h))
+
+pub plain-bases : (s : List ℕ) → all isLetter s ≡ true → all isPlain s ≡ all isBase s
+unfolding all
+plain-bases [] l = refl
+plain-bases (x ∷ s) l = rw (and-left (isLetter x) (all isLetter s) l, plain-bases s (and-right (isLetter x) (all isLetter s) l))
 
 bases-of : (s : List ℕ) → all isPlain s ≡ true → all isBase s ≡ true
-unfolding all
-bases-of [] h = refl
-bases-of (x ∷ s) h =
-    and-both (isBase x) (all isBase s)
-    (and-right (isLetter x) (isBase x) (and-left (isPlain x) (all isPlain s) h))
-    (bases-of s (and-right (isPlain x) (all isPlain s) h))
+bases-of s h = sym (plain-bases s (plain-letters s h)) ∙ h
 
 implied : (a b : Bool) → (not a || b) ≡ true → a ≡ true → b ≡ true
 implied true b h k = h
@@ -78,7 +75,7 @@ unfolding alteredTranscript cutSwap carried
 bases-stay r e l m b n =
     let s = r .letters in
     let w = swap r e in
-    let plain = plain-of s l b in
+    let plain = plain-bases s l ∙ b in
     bases-of (alteredTranscript r e)
     (all-both isPlain (take (w .from) s) (kept r e ++ drop (w .to) s) (all-take isPlain (w .from) s plain)
-    (all-both isPlain (kept r e) (drop (w .to) s) (plain-kept r e plain (plain-of (e .new) m n)) (all-drop isPlain (w .to) s plain)))
+    (all-both isPlain (kept r e) (drop (w .to) s) (plain-kept r e plain (plain-bases (e .new) m ∙ n)) (all-drop isPlain (w .to) s plain)))

@@ -28,11 +28,13 @@ use Rattle.codons.specs.Tables.{isBase}
 use Rattle.positions.specs.declared.Cds.{Cds}
 use Rattle.positions.specs.Views.{bare, Sound}
 use Rattle.altseq.specs.declared.reference.Known.{Known}
+use Rattle.altseq.specs.declared.reference.Early.{Early}
+use Rattle.altseq.specs.declared.reference.Early.the-variants as early
 use Rattle.altseq.specs.declared.reference.Checked.{Checked}
 use Rattle.altseq.specs.declared.reference.Checked.the-variants as checked
 use Rattle.translation.specs.Residues.{areBases}
 use Rattle.translation.proofs.Strict.{strict-letters, strict-translated, whole-bases}
-use Rattle.altseq.specs.Known.{referenceOf, isException, earlyRefusal, proteinUnless, knownOf, checkedBy, readOf, checkedOf, Readable, Knows}
+use Rattle.altseq.specs.Known.{referenceOf, isException, earlyRefusal, earlyBy, earlyOf, proteinUnless, knownOf, checkedBy, readOf, checkedOf, Readable, Knows}
 
 -- one test by the other
 above-is : (a b : ℕ) → leb a b ≡ not (ltb b a)
@@ -128,11 +130,11 @@ module _ (e : Exceptions) (most : ℕ) where
   few-rising n h = rw (length-exceptions e, le-leb (e .count) 16 h, first-exceptions e n h)
 
 -- 1 to 5 by the code's tests
-abbrev earlyBy : Bool → Bool → Bool → Bool → Bool → ℕ
-earlyBy a b c d f = if a then 1 else if b then 2 else if c then 3 else if d then 4 else if f then 5 else 0
+abbrev oneToFive : Bool → Bool → Bool → Bool → Bool → ℕ
+oneToFive a b c d f = if a then 1 else if b then 2 else if c then 3 else if d then 4 else if f then 5 else 0
 
 pub early-by : (longest : ℕ) (s : List ℕ) (c : Cds) (e : Exceptions) → earlyRefusal longest (referenceOf s c e)
-    ≡ earlyBy (ltb (length s) 1 || ltb longest (length s)) (not (all isLetter s)) (not (areBounds (bare s c))) (ltb 2 (c .table)) (not (fitExceptions (referenceOf s c e)))
+    ≡ oneToFive (ltb (length s) 1 || ltb longest (length s)) (not (all isLetter s)) (not (areBounds (bare s c))) (ltb 2 (c .table)) (not (fitExceptions (referenceOf s c e)))
 unfolding earlyRefusal referenceTests firstOf areBounds size cdsSize
 early-by longest s c e = rw (size-test longest (length s), table-test (c .table))
 
@@ -194,6 +196,24 @@ module _ (longest : ℕ) (s : List ℕ) (c : Cds) (e : Exceptions) where
       by : (t : Bool) → firstOf (not t ↯ 6 ∷ []) ≡ (if t then 0 else 6)
       by true = refl
       by false = refl
+
+  -- what the enum tells
+  module _ (x : Early) (is : x ≡ earlyOf longest s c e) where
+    pub was-refused : (n : ℕ) → x ≡ early.Refused n → (n ≡ earlyRefusal longest (referenceOf s c e)) × (n ≡ 0 → ⊥)
+    unfolding earlyOf earlyBy
+    was-refused n h = by (earlyRefusal longest (referenceOf s c e)) (sym is ∙ h)
+      where
+        by : (m : ℕ) → earlyBy m (all isBase s) ≡ early.Refused n → (n ≡ m) × (n ≡ 0 → ⊥)
+        by zero q = let z : _≡_ {A = ℕ} 0 1 = cc in absurd (omega arith)
+        by (suc m) q = let same : n ≡ suc m = cc in (same, λ z. omega arith)
+
+    pub was-clear : (plain : Bool) → x ≡ early.Clear plain → (earlyRefusal longest (referenceOf s c e) ≡ 0) × (plain ≡ all isBase s)
+    unfolding earlyOf earlyBy
+    was-clear plain h = by (earlyRefusal longest (referenceOf s c e)) (sym is ∙ h)
+      where
+        by : (m : ℕ) → earlyBy m (all isBase s) ≡ early.Clear plain → (m ≡ 0) × (plain ≡ all isBase s)
+        by zero q = (refl, cc)
+        by (suc m) q = let z : _≡_ {A = ℕ} 0 1 = cc in absurd (omega arith)
 
   -- one of 1 to 5 applies
   module _ (n : ℕ) (is : n ≡ earlyRefusal longest (referenceOf s c e)) (some : n ≡ 0 → ⊥) where

@@ -16,6 +16,8 @@ use Rattle.codons.specs.Tables.{isBase}
 use Rattle.positions.specs.declared.Cds.{Cds}
 use Rattle.positions.specs.Views.{Sound}
 use Rattle.altseq.specs.declared.reference.Known.{Known}
+use Rattle.altseq.specs.declared.reference.Early.{Early}
+use Rattle.altseq.specs.declared.reference.Early.the-variants as early
 use Rattle.altseq.specs.declared.reference.Checked.{Checked}
 use Rattle.altseq.specs.declared.reference.Checked.the-variants as checked
 
@@ -36,6 +38,14 @@ isException last most x = ltb last (x .codon) && leb (x .codon) most && isResidu
 -- 1 to 5, for which R needn't be read, and 0 where none applies
 unfoldable pub earlyRefusal : ℕ → Reference → ℕ
 earlyRefusal longest r = firstOf (take 5 (referenceTests longest r))
+
+unfoldable pub earlyBy : ℕ → Bool → Early
+earlyBy zero plain = early.Clear plain
+earlyBy (suc n) plain = early.Refused (suc n)
+
+-- 1 to 5, else whether each letter is one base
+unfoldable pub earlyOf : ℕ → List ℕ → Cds → Exceptions → Early
+earlyOf longest s c e = earlyBy (earlyRefusal longest (referenceOf s c e)) (all isBase s)
 
 -- what the check writes: R, unless one of 1 to 5 applies
 unfoldable pub proteinUnless : ℕ → Reference → List ℕ

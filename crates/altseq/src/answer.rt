@@ -2,6 +2,7 @@
 use crate::decision::Decision;
 use crate::decision::decide;
 use crate::reference::Checked;
+use crate::reference::Early;
 use crate::reference::Known;
 use crate::reference::early_refusal;
 use crate::reference::read_reference;
@@ -170,35 +171,36 @@ pub fn build_altseq(
         longest: 16384,
         most: 4096,
     };
-    let refused = early_refusal(letters, c, e, limits.longest);
-    if refused != 0 {
-        return Answer::Refused(refused);
-    }
-    let sets = plain_sets();
-    let lut = residues_of(table);
-    let code = plain_code(table);
-    let pairs = complements();
-    let mut protein = [0u8; 5462];
-    match read_reference(letters, c, e, &sets, &lut, &code, &mut protein) {
-        Checked::Refused(n) => Answer::Refused(n),
-        Checked::Known(known) => {
-            let residues = known.residues;
-            build_altseq_in(
-                letters,
-                known,
-                e,
-                &protein[..residues],
-                limits,
-                edit,
-                new,
-                &sets,
-                &lut,
-                &code,
-                &pairs,
-                tx,
-                rp,
-                ap,
-            )
+    match early_refusal(letters, c, e, limits.longest) {
+        Early::Refused(n) => Answer::Refused(n),
+        Early::Clear { plain } => {
+            let sets = plain_sets();
+            let lut = residues_of(table);
+            let code = plain_code(table);
+            let pairs = complements();
+            let mut protein = [0u8; 5462];
+            match read_reference(letters, c, e, plain, &sets, &lut, &code, &mut protein) {
+                Checked::Refused(n) => Answer::Refused(n),
+                Checked::Known(known) => {
+                    let residues = known.residues;
+                    build_altseq_in(
+                        letters,
+                        known,
+                        e,
+                        &protein[..residues],
+                        limits,
+                        edit,
+                        new,
+                        &sets,
+                        &lut,
+                        &code,
+                        &pairs,
+                        tx,
+                        rp,
+                        ap,
+                    )
+                }
+            }
         }
     }
 }

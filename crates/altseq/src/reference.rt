@@ -7,7 +7,7 @@ use positions::places::least;
 use rules::Exception;
 use rules::Exceptions;
 use sequences::all_strict;
-use translation::all_bases;
+use translation::all_plain;
 use translation::write_translated;
 ghost use mathlib.Core.Path.{_≡_};
 ghost use mathlib.Core.Bool.{_&&_};
@@ -15,12 +15,13 @@ ghost use mathlib.Core.List.{[], _∷_};
 ghost use Prim.Native.Nat.{_≤_, _<_};
 ghost use lib.Dec.{leb, ltb};
 ghost use lib.ListN.{length};
-ghost use Rattle.rules.specs.Bytes.{byte, count, over};
+ghost use Rattle.rules.specs.Bytes.{byte, all, count, over};
+ghost use Rattle.rules.specs.Letters.{isLetter};
 ghost use Rattle.rules.specs.Translation.{exceptionList, residueCount};
 ghost use Rattle.rules.specs.Reference.{areBounds, codons, areRising, referenceProtein};
-ghost use Rattle.codons.specs.Tables.{plainSet, HoldsSets, HoldsCode, HoldsPlain};
+ghost use Rattle.codons.specs.Tables.{plainSet, isBase, isPlain, HoldsSets, HoldsCode, HoldsPlain};
 ghost use Rattle.positions.specs.Views.{bare};
-ghost use Rattle.altseq.specs.Known.{cdsOf, referenceOf, isException, earlyRefusal, proteinUnless, readOf, checkedOf, Readable};
+ghost use Rattle.altseq.specs.Known.{cdsOf, referenceOf, isException, earlyRefusal, earlyOf, proteinUnless, readOf, checkedOf, Readable};
 
 // What is known of a reference that isn't refused; its letters, its exceptions and R are lent beside it. `residues` is R's length. The letters
 // are plain if each is one base. `several` is whether R has more than one stop.
@@ -29,6 +30,12 @@ pub struct Known {
     pub residues: usize,
     pub plain: bool,
     pub several: bool,
+}
+
+// What 1 to 5 leave: a refusal, or whether the letters are plain.
+pub enum Early {
+    Refused(usize),
+    Clear { plain: bool },
 }
 
 pub enum Checked {
@@ -77,26 +84,38 @@ fn fit_exceptions(e: Exceptions, most: usize) -> bool
     true
 }
 
-// The lowest of 1 to 5 that applies, or 0.
-pub fn early_refusal(letters: &[u8], c: Cds, e: Exceptions, longest: usize) -> usize
-    ensures { λ r. ⌜ r ≡ earlyRefusal longest (referenceOf (now (letters .entry)) c e) ⌝ }
+// Whether each letter is of the fifteen. Plain ones are, and needn't be looked at again.
+fn are_letters(letters: &[u8], plain: bool) -> bool
+    requires { ⌜ plain ≡ all isPlain (now letters) ⌝ }
+    ensures { λ r. ⌜ r ≡ all isLetter (now (letters .entry)) ⌝ }
+{
+    if plain {
+        return true;
+    }
+    all_strict(letters)
+}
+
+// The lowest of 1 to 5 that applies, or whether the letters are plain.
+pub fn early_refusal(letters: &[u8], c: Cds, e: Exceptions, longest: usize) -> Early
+    ensures { λ r. ⌜ r ≡ earlyOf longest (now (letters .entry)) c e ⌝ }
 {
     if (letters.len() < 1) | (longest < letters.len()) {
-        return 1;
+        return Early::Refused(1);
     }
-    if !all_strict(letters) {
-        return 2;
+    let plain = all_plain(letters);
+    if !are_letters(letters, plain) {
+        return Early::Refused(2);
     }
     if !are_bounds(letters, c) {
-        return 3;
+        return Early::Refused(3);
     }
     if 2 < c.table {
-        return 4;
+        return Early::Refused(4);
     }
     if !fit_exceptions(e, (c.ce - (c.cs - 1)) / 3) {
-        return 5;
+        return Early::Refused(5);
     }
-    0
+    Early::Clear { plain }
 }
 
 fn wide(b: u8) -> usize
@@ -147,12 +166,14 @@ pub fn read_reference(
     letters: &[u8],
     c: Cds,
     e: Exceptions,
+    plain: bool,
     sets: &[u8; 256],
     lut: &[u8; 4096],
     code: &[u8; 64],
     protein: &mut [u8],
 ) -> Checked
     requires { ⌜ Readable (now letters) c e ⌝ }
+    requires { ⌜ plain ≡ all isBase (now letters) ⌝ }
     requires { ⌜ codons (bare (now letters) c) ≤ length (now protein) ⌝ }
     requires { ⌜ HoldsSets plainSet (now sets) ⌝ }
     requires { ⌜ HoldsCode (c .table) (now lut) ⌝ }
@@ -163,7 +184,6 @@ pub fn read_reference(
     let first = c.cs - 1;
     let end = c.ce;
     let residues = (end - first) / 3;
-    let plain = all_bases(letters);
     write_translated(
         &letters[first..end],
         c.table,
@@ -202,12 +222,13 @@ pub fn check_reference(
     ensures { λ _. ⌜ now (protein .exit) ≡ over (proteinUnless (earlyRefusal longest (referenceOf (now (letters .entry)) (cdsOf cs ce table) e)) (referenceOf (now (letters .entry)) (cdsOf cs ce table) e)) (now (protein .entry)) ⌝ }
 {
     let c = Cds { cs, ce, table };
-    let refused = early_refusal(letters, c, e, longest);
-    if refused != 0 {
-        return Checked::Refused(refused);
+    match early_refusal(letters, c, e, longest) {
+        Early::Refused(n) => Checked::Refused(n),
+        Early::Clear { plain } => {
+            let sets = plain_sets();
+            let lut = residues_of(table);
+            let code = plain_code(table);
+            read_reference(letters, c, e, plain, &sets, &lut, &code, protein)
+        }
     }
-    let sets = plain_sets();
-    let lut = residues_of(table);
-    let code = plain_code(table);
-    read_reference(letters, c, e, &sets, &lut, &code, protein)
 }

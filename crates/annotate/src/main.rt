@@ -1,4 +1,6 @@
-// The text program: reads a reference and edits from standard input, and writes what they are answered to standard output.
+// The text program: reads a reference and edits from standard input, and writes what they are answered to standard output. The file stdin beside src/
+// has document 01's thirteen lines, lines that tell readings of it apart, long lines and some fourteen thousand random edits; the file stdout was written by an
+// account of document 01 in another language (tests/account).
 use libc::STDIN_FILENO;
 use libc::STDOUT_FILENO;
 use lines::Phase;

@@ -1,11 +1,11 @@
 -- A byte's reading in plain translation, and what the tables of letter sets, of residues and of complements hold. Assumes nothing: these are definitions.
 use Prim.Native.Nat.{ℕ, _+_, _*_, _<_}
 use mathlib.Core.List.{List, [], _∷_}
-use mathlib.Core.Bool.{Bool}
+use mathlib.Core.Bool.{Bool, _&&_}
 use mathlib.Core.Path.{_≡_}
 use lib.Dec.{ltb}
 use lib.ListN.{getD}
-use Rattle.rules.specs.Letters.{valueOf, bases, letterSet, plainLetter}
+use Rattle.rules.specs.Letters.{valueOf, bases, letterSet, isLetter, plainLetter}
 use Rattle.rules.specs.Codons.{codonRule}
 use Rattle.rules.specs.Complement.{complement}
 
@@ -16,6 +16,10 @@ plainSet b = letterSet (plainLetter b)
 -- plain translation takes the byte for one base
 unfoldable pub isBase : ℕ → Bool
 isBase b = ltb 0 (valueOf (plainLetter b) bases)
+
+-- one of the fifteen, and one base: A, C, G, T
+abbrev pub isPlain : ℕ → Bool
+isPlain b = isLetter b && isBase b
 
 -- the set that a reading of letters gives each byte stands at the byte, and is below 16
 pub record HoldsSets (read : ℕ → ℕ) (xs : List ℕ) : Type 0 where

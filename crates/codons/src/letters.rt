@@ -2,7 +2,7 @@
 ghost use mathlib.Core.Path.{_≡_};
 ghost use Prim.Native.Nat.{_<_};
 ghost use Rattle.rules.specs.Letters.{letterSet, isLetter, upper, plainLetter};
-ghost use Rattle.codons.specs.Tables.{HoldsSets, plainSet, isBase};
+ghost use Rattle.codons.specs.Tables.{HoldsSets, plainSet, isBase, isPlain};
 
 // The set of an upper-case letter, and 0 of any other byte.
 pub fn letter_set(b: u8) -> usize
@@ -83,6 +83,13 @@ pub fn is_strict(b: u8) -> bool
     ensures { λ r. ⌜ r ≡ isLetter b ⌝ }
 {
     (b / 32 == 2) & (b != b'U') & is_letter(b)
+}
+
+// Whether a byte is one of A, C, G and T, which transcripts and edits take for one base.
+pub fn is_plain(b: u8) -> bool
+    ensures { λ r. ⌜ r ≡ isPlain b ⌝ }
+{
+    (b == b'A') | (b == b'C') | (b == b'G') | (b == b'T')
 }
 
 // The sets of all bytes in plain translation.

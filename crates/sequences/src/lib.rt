@@ -1,13 +1,10 @@
 // Byte strings of letters and residues, without a reference: each file a part of document 01's "Letters and codons".
 mod complement;
-mod names;
 mod trims;
 
 pub use complement::all_strict;
 pub use complement::revcomp;
 pub use complement::write_revcomp;
-pub use names::aa1_to_aa3;
-pub use names::aa3_to_aa1;
 pub use trims::common_prefix_len;
 pub use trims::common_suffix_len;
 pub use trims::equals;

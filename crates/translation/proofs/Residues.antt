@@ -1,17 +1,17 @@
 -- Laws of residues that a loop has still to write, a turn at a time. Assumes nothing.
 use mathlib.Core.Path.{_≡_, refl, sym, ap, _∙_}
-use mathlib.Core.Bool.{Bool, true, false}
+use mathlib.Core.Bool.{Bool, true, false, and-eq-true-iff}
 use mathlib.Core.List.{List, [], _∷_, _++_, map}
 use Prim.Native.Nat.{ℕ, zero, suc, _+_, _-_, _*_, _/_, _%_, _≤_, _<_}
 use native.Mathlib.Omega.{arith}
-use lib.ListN.{length, getD, take, drop, set, length-map, List·getD-map}
-use lib.Seq.{getD-take, length-take-le}
+use lib.ListN.{length, getD, take, drop, set, length-map, length-drop, List·getD-map}
+use lib.Seq.{getD-take, length-take-le, take-add}
 use Rattle.rules.specs.declared.Exception.{Exception}
 use Rattle.rules.specs.Bytes.{byte, all, over}
 use Rattle.rules.specs.Letters.{isLetter, upper, plainLetter}
 use Rattle.rules.specs.Codons.{codonRule, codon}
 use Rattle.rules.specs.Translation.{excepted, residuesFrom, translated, residueCount, plainTranslated, wholeCodons, areLetters}
-use Rattle.rules.proofs.Lists.{all-at, all-map}
+use Rattle.rules.proofs.Lists.{all-at, all-append, all-map}
 use Rattle.rules.proofs.Over.{overFrom, from-end, from-turn}
 use Rattle.rules.proofs.Translation.{length-residues}
 use Rattle.rules.proofs.Reading.{restOf, residues-more, residues-rest, length-whole}
@@ -73,6 +73,33 @@ module _ (t : ℕ) (es : List Exception) (s : List ℕ) where
 pub left-codon : (t : ℕ) (s : List ℕ) (i : ℕ) → i < length s / 3 → leftFrom t [] s i ≡ codonAt t (map plainLetter s) i ∷ leftFrom t [] s (i + 1)
 unfolding excepted
 left-codon t s i h = left-more t [] s i h
+
+-- without exceptions it doesn't matter at which number the codons begin
+any-number : (t n m : ℕ) (s : List ℕ) → residuesFrom t [] n s ≡ residuesFrom t [] m s
+unfolding excepted residuesFrom
+any-number t n m [] = refl
+any-number t n m (a ∷ []) = refl
+any-number t n m (a ∷ b ∷ []) = refl
+any-number t n m (a ∷ b ∷ c ∷ s) = ap (λ (l : List ℕ). codon t a b c ∷ l) (any-number t (suc n) (suc m) s)
+
+map-drop : (f : ℕ → ℕ) (k : ℕ) (s : List ℕ) → map f (drop k s) ≡ drop k (map f s)
+map-drop f zero s = refl
+map-drop f (suc k) [] = refl
+map-drop f (suc k) (x ∷ s) = map-drop f k s
+
+-- the part from codon i on
+pub left-part : (t : ℕ) (s : List ℕ) (i : ℕ) → plainTranslated t [] (drop (i * 3) s) ≡ leftFrom t [] s i
+unfolding plainTranslated translated leftFrom
+left-part t s i = ap (residuesFrom t [] 1) (map-drop plainLetter (i * 3) s) ∙ any-number t 1 (i + 1) (drop (i * 3) (map plainLetter s))
+
+pub bases-part : (s : List ℕ) (i : ℕ) → i ≤ length s / 3 → areBases s ≡ true → areBases (drop (i * 3) s) ≡ true
+unfolding areBases wholeCodons
+bases-part s i h e =
+    let u : List ℕ = drop (i * 3) s in
+    let n : ℕ = length u - length u % 3 in
+    let whole : length s - length s % 3 ≡ i * 3 + n = omega (arith, length-drop (i * 3) s) in
+    let split : take (length s - length s % 3) s ≡ take (i * 3) s ++ take n u = ap (λ (k : ℕ). take k s) whole ∙ take-add (i * 3) n s in
+    and-eq-true-iff (all isBase (take (i * 3) s)) (all isBase (take n u)) .0 (sym (all-append isBase (take (i * 3) s) (take n u)) ∙ ap (all isBase) (sym split) ∙ e) .1
 
 -- the buffer where no byte remains, and where one does
 rest-some : (r : ℕ) → (r ≡ 0 → ⊥) → restOf r ≡ byte "X" ∷ []

@@ -1,19 +1,20 @@
 -- Laws of a walk to the first stop, a turn at a time. Assumes nothing.
 use mathlib.Core.Path.{_≡_, refl, sym, ap, _∙_}
-use mathlib.Core.List.{List, [], _∷_, map}
+use mathlib.Core.List.{List, [], _∷_, _++_, map, append-assoc, append-nil}
 use Prim.Native.Nat.{ℕ, zero, suc, _+_, _-_, _*_, _/_, _%_, _≤_, _<_}
 use native.Mathlib.Omega.{arith}
-use lib.ListN.{length, getD, take, set, length-set}
-use lib.Seq.{getD-take}
+use lib.ListN.{length, getD, take, drop, set, length-set, length-drop, drop-of-length-le}
+use lib.Seq.{getD-take, length-take-le, take-append-add, drop-append-add}
+use borrow.Rule.Slice.PartMut.{putMid}
 use Rattle.rules.specs.declared.Exception.{Exception}
 use Rattle.rules.specs.declared.Exceptions.{Exceptions}
 use Rattle.rules.specs.Bytes.{byte, over}
 use Rattle.rules.specs.Letters.{plainLetter}
 use Rattle.rules.specs.Translation.{exceptionList, excepted, plainTranslated, beforeStop, throughStop, wholeCodons}
-use Rattle.rules.proofs.Over.{overFrom, from-start, from-end, from-turn}
+use Rattle.rules.proofs.Over.{overFrom, from-start, from-end, from-turn, tail-is}
 use Rattle.rules.proofs.Reading.{restOf, before-here, before-later, through-here, through-later, through-rest, length-whole}
 use Rattle.translation.specs.Residues.{codonAt, nextFrom, WalkedTo}
-use Rattle.translation.proofs.Residues.{plain-at, leftFrom, left-all, left-more, left-rest}
+use Rattle.translation.proofs.Residues.{plain-at, leftFrom, left-all, left-more, left-rest, left-part}
 use Rattle.translation.proofs.Excepted.{Clear, next-clear, still-clear}
 
 -- the residue of codon i, exceptions applied
@@ -67,6 +68,7 @@ module _ (t : ℕ) (es : List Exception) (s A old out : List ℕ) (i v : ℕ) (w
   walk-stop z =
       let e : throughStop (leftFrom t es s i) ≡ v ∷ [] = ap throughStop next ∙ through-here v (leftFrom t es s (i + 1)) z in
       record {
+        within = omega arith;
         stopped = λ _. (omega (arith, ap (λ (l : List ℕ). length l) e, w .long), sym (from-end (i + 1) (set out i v)) ∙ from-turn i v (throughStop (leftFrom t es s i)) [] out (over A old) k e (w .left));
         ended = λ past. absurd (omega arith);
       }
@@ -83,9 +85,46 @@ pub walk-end : (t : ℕ) (es : List Exception) (s A old out : List ℕ) (i : ℕ
 walk-end t es s A old out i w h =
     let e : throughStop (leftFrom t es s i) ≡ restOf (length s % 3) = ap throughStop (left-rest t es s i h) ∙ through-rest (length s % 3) in
     record {
+      within = omega arith;
       stopped = λ less. absurd (omega arith);
       ended = λ _. (omega (arith, w .long, ap (λ (l : List ℕ). length l) e, length-rest (length s)), rw (← e, ← h) (w .left));
     }
+
+behind : (f p r : List ℕ) (k : ℕ) → overFrom (length f + k) r (f ++ p) ≡ f ++ overFrom k r p
+unfolding overFrom
+behind f p r k = rw (take-append-add f p k, drop-append-add f p k, append-assoc)
+
+-- the walk goes on in the part from codon i on
+module _ (t : ℕ) (s A old out : List ℕ) (i : ℕ) (w : Walk t [] s A old out i) (h : i ≤ length s / 3) (fits : i ≤ length out) where
+  put-on : take i out ++ over (throughStop (plainTranslated t [] (drop (i * 3) s))) (drop i out) ≡ over A old
+  unfolding overFrom
+  put-on = ap (λ (l : List ℕ). take i out ++ over (throughStop l) (drop i out)) (left-part t s i) ∙ w .left
+
+  on : (part : List ℕ) (j : ℕ) → WalkedTo (throughStop (plainTranslated t [] (drop (i * 3) s))) (length (drop (i * 3) s)) (drop i out) part j
+      → WalkedTo A (length s) old (take i out ++ part) (i + j)
+  on part j x =
+      let u : List ℕ = drop (i * 3) s in
+      let long : length (take i out) ≡ i = length-take-le i out fits in
+      let size : length u ≡ length s - i * 3 = length-drop (i * 3) s in
+      let many : i + length (throughStop (plainTranslated t [] u)) ≡ length A = ap (λ (l : List ℕ). i + length (throughStop l)) (left-part t s i) ∙ w .long in
+      let at : length s / 3 ≡ length (take i out) + length u / 3 = omega arith in
+      let rest : length s % 3 ≡ length u % 3 = omega arith in
+      record {
+        within = omega (arith, x .within);
+        stopped = λ less.
+            let done = x .stopped (omega arith) in
+            (omega (arith, done .0), rw (done .1) put-on);
+        ended = λ past.
+            let done = x .ended (omega arith) in
+            (omega (arith, done .0), rw (at, rest, behind (take i out) part (restOf (length u % 3)) (length u / 3), done .1) put-on);
+      }
+
+  pub walk-on : (part : List ℕ) (j : ℕ)
+      → WalkedTo (throughStop (plainTranslated t [] (take (length s - i * 3) (drop (i * 3) s)))) (length (take (length s - i * 3) (drop (i * 3) s))) (take (length out - i) (drop i out)) part j
+      → WalkedTo A (length s) old (putMid i (length out - i) out part) (i + j)
+  walk-on part j x =
+      let none : drop (length out - i) (drop i out) ≡ [] = drop-of-length-le (drop i out) {i = length out - i} (rw length-drop (omega arith)) in
+      simp (none, append-nil) (on part j (rw (tail-is (i * 3) s, tail-is i out) at x))
 
 -- the first stop among the whole codons
 whole-codon : (t : ℕ) (s : List ℕ) (i : ℕ) → i < length s / 3 → codonAt t (map plainLetter (wholeCodons s)) i ≡ codonAt t (map plainLetter s) i

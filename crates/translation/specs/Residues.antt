@@ -52,5 +52,6 @@ eightAt s k = fourAt s k + fourAt s (k + 4) * 4294967296
 
 -- a walk over n bases that ended at the stop codon r has written the protein A; one that met none has still to write the X for a rest
 pub record WalkedTo (A : List ℕ) (n : ℕ) (old out : List ℕ) (r : ℕ) : Type 0 where
+  pub within : r ≤ n / 3
   pub stopped : r < n / 3 → (r + 1 ≡ length A) × (out ≡ over A old)
   pub ended : n / 3 ≤ r → ((n + 2) / 3 ≡ length A) × (overFrom (n / 3) (restOf (n % 3)) out ≡ over A old)

@@ -58,8 +58,7 @@ pub(crate) fn put_exceptions(e: Exceptions, whole: usize, out: &mut [u8])
     let count = e.count;
     let mut k = 0;
     while k < count {
-        let x = e.all[k];
-        put_exception(x, whole, out);
+        put_exception(e.all[k], whole, out);
         k += 1;
     }
 }

@@ -6,7 +6,9 @@ mod stops;
 mod translate;
 
 pub use bases::all_bases;
+pub use bases::all_plain;
 pub use stops::first_stop;
 pub use stops::write_through_stop;
 pub use translate::translate_cds;
+pub use translate::translate_cds_with_exceptions;
 pub use translate::write_translated;

@@ -69,7 +69,7 @@ fn four_at(s: &[u8], k: usize) -> usize
 
 // The places of plain codons i and i + 1 among the 64: from bit 17 on, and from bit 41 on, six bits each. The mask keeps each letter's number
 // b / 2 % 4, and the product brings the three of a codon together.
-fn pair_at(seq: &[u8], i: usize) -> usize
+pub(crate) fn pair_at(seq: &[u8], i: usize) -> usize
     requires { ⌜ i * 3 + 8 ≤ length (now seq) ⌝ }
     ensures { λ r. ⌜ r / 131072 % 64 ≡ placeAt (now (seq .entry)) i ⌝ }
     ensures second { λ r. ⌜ r / 2199023255552 % 64 ≡ placeAt (now (seq .entry)) (i + 1) ⌝ }

@@ -2,6 +2,7 @@
 use crate::exceptions::excepted_at;
 use crate::exceptions::next_exception;
 use crate::reading::codon_at;
+use crate::reading::pair_at;
 use crate::reading::place_at;
 use rules::Exceptions;
 ghost use mathlib.Core.Path.{_≡_};
@@ -87,7 +88,7 @@ fn write_to_stop(
 }
 
 // The same of bases without exceptions.
-fn write_plain_to_stop(seq: &[u8], table: usize, code: &[u8; 64], out: &mut [u8]) -> usize
+fn write_codons_to_stop(seq: &[u8], table: usize, code: &[u8; 64], out: &mut [u8]) -> usize
     requires { ⌜ HoldsPlain table (now code) ⌝ }
     requires { ⌜ areBases (now seq) ≡ true ⌝ }
     requires { ⌜ residueCount (length (now seq)) ≤ length (now out) ⌝ }
@@ -108,6 +109,34 @@ fn write_plain_to_stop(seq: &[u8], table: usize, code: &[u8; 64], out: &mut [u8]
         i += 1;
     };
     stop
+}
+
+// The same, two codons at a time, then those that are left.
+fn write_plain_to_stop(seq: &[u8], table: usize, code: &[u8; 64], out: &mut [u8]) -> usize
+    requires { ⌜ HoldsPlain table (now code) ⌝ }
+    requires { ⌜ areBases (now seq) ≡ true ⌝ }
+    requires { ⌜ residueCount (length (now seq)) ≤ length (now out) ⌝ }
+    ensures { λ r. ⌜ WalkedTo (throughStop (plainTranslated table [] (now (seq .entry)))) (length (now (seq .entry))) (now (out .entry)) (now (out .exit)) r ⌝ }
+{
+    let mut i = 0;
+    while i * 3 + 8 <= seq.len() {
+        let pair = pair_at(seq, i);
+        let first = pair / 131072 % 64;
+        let r = code[first];
+        out[i] = r;
+        if r == b'*' {
+            return i;
+        }
+        let second = pair / 2199023255552 % 64;
+        let next = code[second];
+        out[i + 1] = next;
+        if next == b'*' {
+            return i + 1;
+        }
+        i += 2;
+    }
+    let at = i * 3;
+    i + write_codons_to_stop(&seq[at..], table, code, &mut out[i..])
 }
 
 // The walk to the first stop, the faster way where all letters are bases and there are no exceptions.

@@ -1,4 +1,4 @@
-// Plain translation of a byte string with exceptions.
+// Plain translation of a byte string, without and with exceptions.
 use crate::bases::all_bases;
 use crate::bases::all_letters;
 use crate::exceptions::are_exceptions;
@@ -13,6 +13,7 @@ use rules::Exceptions;
 use rules::Written;
 ghost use mathlib.Core.Path.{_≡_};
 ghost use mathlib.Core.Bool.{true};
+ghost use mathlib.Core.List.{[]};
 ghost use Prim.Native.Nat.{_≤_};
 ghost use lib.ListN.{length};
 ghost use Rattle.rules.specs.Bytes.{over};
@@ -46,9 +47,45 @@ pub fn write_translated(
     put_exceptions(e, whole, out);
 }
 
-// Writes one residue a whole codon, with the exceptions, then one X if one or two bytes remain, unless full codons are demanded, to the
-// buffer's start. A refusal changes no byte.
-pub fn translate_cds(seq: &[u8], table: usize, e: Exceptions, full: bool, out: &mut [u8]) -> Written
+// Writes one residue a whole codon, then one X if one or two bytes remain, unless full codons are demanded, to the buffer's start. A refusal
+// changes no byte.
+pub fn translate_cds(seq: &[u8], table: usize, full: bool, out: &mut [u8]) -> Written
+    ensures answer { λ r. ⌜ r ≡ writtenOf (translation table [] full (now (seq .entry)) (length (now (out .entry)))) ⌝ }
+    ensures written { λ _. ⌜ now (out .exit) ≡ over (bytesOf (translation table [] full (now (seq .entry)) (length (now (out .entry))))) (now (out .entry)) ⌝ }
+{
+    if 2 < table {
+        return Written::Refused(4);
+    }
+    if full & (0 < seq.len() % 3) {
+        return Written::Refused(14);
+    }
+    let n = (seq.len() + 2) / 3;
+    if out.len() < n {
+        return Written::Refused(15);
+    }
+    let end = seq.len() - seq.len() % 3;
+    if all_bases(&seq[..end]) {
+        let code = plain_code(table);
+        write_plain(seq, table, &code, out);
+        return Written::Bytes(n);
+    }
+    if all_letters(&seq[..end]) {
+        let sets = plain_sets();
+        let lut = residues_of(table);
+        write_any(seq, table, &sets, &lut, out);
+        return Written::Bytes(n);
+    }
+    Written::Refused(2)
+}
+
+// The same with exceptions, which are put over the residues of their codons.
+pub fn translate_cds_with_exceptions(
+    seq: &[u8],
+    table: usize,
+    e: Exceptions,
+    full: bool,
+    out: &mut [u8],
+) -> Written
     ensures answer { λ r. ⌜ r ≡ writtenOf (translation table (exceptionList e) full (now (seq .entry)) (length (now (out .entry)))) ⌝ }
     ensures written { λ _. ⌜ now (out .exit) ≡ over (bytesOf (translation table (exceptionList e) full (now (seq .entry)) (length (now (out .entry))))) (now (out .entry)) ⌝ }
 {
@@ -58,27 +95,11 @@ pub fn translate_cds(seq: &[u8], table: usize, e: Exceptions, full: bool, out: &
     if !are_exceptions(e) {
         return Written::Refused(5);
     }
-    if full & (0 < seq.len() % 3) {
-        return Written::Refused(14);
+    match translate_cds(seq, table, full, out) {
+        Written::Refused(n) => Written::Refused(n),
+        Written::Bytes(n) => {
+            put_exceptions(e, seq.len() / 3, out);
+            Written::Bytes(n)
+        }
     }
-    let n = (seq.len() + 2) / 3;
-    if out.len() < n {
-        return Written::Refused(15);
-    }
-    let whole = seq.len() / 3;
-    let end = seq.len() - seq.len() % 3;
-    if all_bases(&seq[..end]) {
-        let code = plain_code(table);
-        write_plain(seq, table, &code, out);
-        put_exceptions(e, whole, out);
-        return Written::Bytes(n);
-    }
-    if all_letters(&seq[..end]) {
-        let sets = plain_sets();
-        let lut = residues_of(table);
-        write_any(seq, table, &sets, &lut, out);
-        put_exceptions(e, whole, out);
-        return Written::Bytes(n);
-    }
-    Written::Refused(2)
 }

@@ -1,6 +1,5 @@
 // The codons of a table: the 64 plain ones, the 3,375 of the fifteen letters, and the table beside the plain reader.
 use crate::plain::count_of;
-use crate::plain::no_exceptions;
 use crate::plain::print_answer;
 use crate::plain::print_number;
 use codons::reader::plain_codon;
@@ -22,7 +21,7 @@ const PLAIN: [u8; 192] = *b"\
 fn print_code(table: usize) {
     let seq = PLAIN;
     let mut out = [0u8; 64];
-    let answer = translate_cds(&seq, table, no_exceptions(), true, &mut out);
+    let answer = translate_cds(&seq, table, true, &mut out);
     io::write_all(1, b"code ");
     print_number(table);
     print_answer(answer, &out);
@@ -80,7 +79,7 @@ fn print_ambiguous(table: usize) {
     let mut seq = [0u8; 10125];
     put_codons(&mut seq);
     let mut out = [0u8; 3375];
-    let answer = translate_cds(&seq, table, no_exceptions(), true, &mut out);
+    let answer = translate_cds(&seq, table, true, &mut out);
     io::write_all(1, b"ambiguous ");
     print_number(table);
     print_answer(answer, &out);

@@ -1,9 +1,9 @@
 // Names both ways, the complement, and translations of lengths around each limit.
+use names::aa1_to_aa3;
+use names::aa3_to_aa1;
 use rules::Exception;
 use rules::Exceptions;
 use rules::Written;
-use sequences::aa1_to_aa3;
-use sequences::aa3_to_aa1;
 use sequences::revcomp;
 use translation::translate_cds;
 
@@ -77,7 +77,7 @@ fn print_length(letters: &[u8], n: usize) {
     if letters.len() < n {
         return;
     }
-    match translate_cds(&letters[0..n], 0, no_exceptions(), false, &mut out) {
+    match translate_cds(&letters[0..n], 0, false, &mut out) {
         Written::Bytes(m) => {
             io::write_all(1, b" residues ");
             print_number(m);

@@ -2,13 +2,13 @@
 use crate::plain::count_of;
 use crate::plain::no_exceptions;
 use crate::plain::print_number;
+use names::aa1_to_aa3;
+use names::aa3_to_aa1;
 use rules::Exception;
 use rules::Exceptions;
 use rules::Written;
-use sequences::aa1_to_aa3;
-use sequences::aa3_to_aa1;
 use sequences::revcomp;
-use translation::translate_cds;
+use translation::translate_cds_with_exceptions;
 
 fn print_outcome(name: &[u8], answer: Written, out: &[u8]) {
     io::write_all(1, name);
@@ -29,7 +29,7 @@ fn print_outcome(name: &[u8], answer: Written, out: &[u8]) {
 
 fn try_translation(name: &[u8], seq: &[u8], table: usize, e: Exceptions, full: bool) {
     let mut out = [b'.'; 8];
-    let answer = translate_cds(seq, table, e, full, &mut out);
+    let answer = translate_cds_with_exceptions(seq, table, e, full, &mut out);
     print_outcome(name, answer, &out);
 }
 

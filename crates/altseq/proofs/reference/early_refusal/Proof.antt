@@ -8,33 +8,38 @@ use borrow.Author.Tests.{not-false, lt-ltb, le-ltb}
 use Rattle.rules.specs.Reference.{fitExceptions}
 use Rattle.rules.proofs.Reference.{bounds-of}
 use Rattle.positions.specs.Views.{bare}
-use Rattle.altseq.specs.Known.{referenceOf}
+use Rattle.altseq.specs.Known.{referenceOf, earlyBy, earlyOf}
+use Rattle.altseq.proofs.Plain.{plain-bases}
 use Rattle.altseq.proofs.References.{early-by, fits-are}
 use Rattle.altseq.proofs.reference.early_refusal.Statement.{statement}
 use Rattle.altseq.proofs.reference.early_refusal.Tie as tie
 
 returns : tie.Need-returns
+unfolding earlyBy earlyOf
 returns c =
     let a = c .before .before .args in
     rw (early-by (a .longest) (a .letters .now) (a .c) (a .e), c .if1 .taken)
 
 returns-2 : tie.Need-returns-2
+unfolding earlyBy earlyOf
 returns-2 c =
-    let a = c .before .before .before .before .args in
-    rw (early-by (a .longest) (a .letters .now) (a .c) (a .e), c .before .before .if1 .left, ← c .before .all-strict .ensures, c .if2 .taken)
+    let a = c .before .before .before .before .before .args in
+    rw (early-by (a .longest) (a .letters .now) (a .c) (a .e), c .before .before .before .if1 .left, ← c .before .are-letters .ensures, c .if2 .taken)
 
 returns-3 : tie.Need-returns-3
+unfolding earlyBy earlyOf
 returns-3 c =
-    let a = c .before .before .before .before .before .before .args in
-    rw (early-by (a .longest) (a .letters .now) (a .c) (a .e), c .before .before .before .before .if1 .left, ← c .before .before .before .all-strict .ensures, c .before .before .if2 .left, ← c .before .are-bounds .ensures, c .if3 .taken)
+    let a = c .before .before .before .before .before .before .before .args in
+    rw (early-by (a .longest) (a .letters .now) (a .c) (a .e), c .before .before .before .before .before .if1 .left, ← c .before .before .before .are-letters .ensures, c .before .before .if2 .left, ← c .before .are-bounds .ensures, c .if3 .taken)
 
 returns-4 : tie.Need-returns-4
+unfolding earlyBy earlyOf
 returns-4 c =
-    let a = c .before .before .before .before .before .before .before .before .args in
+    let a = c .before .before .before .before .before .before .before .before .before .args in
     rw (
       early-by (a .longest) (a .letters .now) (a .c) (a .e),
-      c .before .before .before .before .before .before .if1 .left,
-      ← c .before .before .before .before .before .all-strict .ensures,
+      c .before .before .before .before .before .before .before .if1 .left,
+      ← c .before .before .before .before .before .are-letters .ensures,
       c .before .before .before .before .if2 .left,
       ← c .before .before .before .are-bounds .ensures,
       c .before .before .if3 .left,
@@ -43,23 +48,24 @@ returns-4 c =
 
 sub-fit-exceptions : tie.Need-sub-fit-exceptions
 sub-fit-exceptions c =
-    let a = c .before .before .before .before .before .before .before .before .before .args in
+    let a = c .before .before .before .before .before .before .before .before .before .before .args in
     omega (arith, bounds-of (bare (a .letters .now) (a .c)) (sym (c .before .before .before .before .are-bounds .ensures) ∙ not-false (c .before .before .before .before .are-bounds .result) (c .before .before .before .if3 .left)) .first)
 
 sub-fit-exceptions-2 : tie.Need-sub-fit-exceptions-2
 sub-fit-exceptions-2 c =
-    let a = c .before .before .before .before .before .before .before .before .before .before .args in
+    let a = c .before .before .before .before .before .before .before .before .before .before .before .args in
     let b = bounds-of (bare (a .letters .now) (a .c)) (sym (c .before .before .before .before .before .are-bounds .ensures) ∙ not-false (c .before .before .before .before .before .are-bounds .result) (c .before .before .before .before .if3 .left)) in
     omega (arith, b .first, b .rising)
 
 returns-5 : tie.Need-returns-5
+unfolding earlyBy earlyOf
 returns-5 c =
-    let a = c .before .before .before .before .before .before .before .before .before .before .before .before .args in
+    let a = c .before .before .before .before .before .before .before .before .before .before .before .before .before .args in
     let b = bounds-of (bare (a .letters .now) (a .c)) (sym (c .before .before .before .before .before .before .before .are-bounds .ensures) ∙ not-false (c .before .before .before .before .before .before .before .are-bounds .result) (c .before .before .before .before .before .before .if3 .left)) in
     rw (
       early-by (a .longest) (a .letters .now) (a .c) (a .e),
-      c .before .before .before .before .before .before .before .before .before .before .if1 .left,
-      ← c .before .before .before .before .before .before .before .before .before .all-strict .ensures,
+      c .before .before .before .before .before .before .before .before .before .before .before .if1 .left,
+      ← c .before .before .before .before .before .before .before .before .before .are-letters .ensures,
       c .before .before .before .before .before .before .before .before .if2 .left,
       ← c .before .before .before .before .before .before .before .are-bounds .ensures,
       c .before .before .before .before .before .before .if3 .left,
@@ -70,13 +76,14 @@ returns-5 c =
     )
 
 returns-6 : tie.Need-returns-6
+unfolding earlyBy earlyOf
 returns-6 c =
-    let a = c .before .before .before .before .before .before .before .before .before .before .before .before .args in
+    let a = c .before .before .before .before .before .before .before .before .before .before .before .before .before .args in
     let b = bounds-of (bare (a .letters .now) (a .c)) (sym (c .before .before .before .before .before .before .before .are-bounds .ensures) ∙ not-false (c .before .before .before .before .before .before .before .are-bounds .result) (c .before .before .before .before .before .before .if3 .left)) in
     rw (
       early-by (a .longest) (a .letters .now) (a .c) (a .e),
-      c .before .before .before .before .before .before .before .before .before .before .if1 .left,
-      ← c .before .before .before .before .before .before .before .before .before .all-strict .ensures,
+      c .before .before .before .before .before .before .before .before .before .before .before .if1 .left,
+      ← c .before .before .before .before .before .before .before .before .before .are-letters .ensures,
       c .before .before .before .before .before .before .before .before .if2 .left,
       ← c .before .before .before .before .before .before .before .are-bounds .ensures,
       c .before .before .before .before .before .before .if3 .left,
@@ -84,6 +91,8 @@ returns-6 c =
       ← fits-are (a .letters .now) (a .c) (a .e) (b .first),
       ← c .before .fit-exceptions .ensures,
       c .if5 .left,
+      ← plain-bases (a .letters .now) (sym (c .before .before .before .before .before .before .before .before .before .are-letters .ensures) ∙ not-false (c .before .before .before .before .before .before .before .before .before .are-letters .result) (c .before .before .before .before .before .before .before .before .if2 .left)),
+      ← c .before .before .before .before .before .before .before .before .before .before .all-plain .ensures,
     )
 
 pub early-refusal-spec : {M : Type 1} → statement M
@@ -91,6 +100,7 @@ early-refusal-spec =
     tie.close
     (tie.spec
     returns
+    (λ c κs. search needs)
     (λ c κs. search needs)
     returns-2
     (λ c κs. search needs)

@@ -2,83 +2,136 @@
 -- Assumes nothing.
 use mathlib.Core.Path.{_≡_, ap, _∙_}
 use mathlib.Core.List.{[]}
-use Prim.Native.Nat.{ℕ, _-_, _≤_}
+use Prim.Native.Nat.{ℕ, _+_, _-_, _*_, _/_, _≤_}
 use native.Mathlib.Omega.{arith}
 use borrow.Author.Needs.{needs}
+use borrow.Rule.Slice.PartMut.{same-len-mid}
 use lib.ListN.{length, getD, length-set}
 use Rattle.rules.specs.Translation.{excepted, residueCount, plainTranslated, throughStop}
-use Rattle.translation.proofs.Places.{place-small, place-residue}
-use Rattle.translation.proofs.Walks.{residueAt, Walk, walk-start, walk-more, walk-stop, walk-end}
+use Rattle.rules.proofs.Over.{tail-is}
+use Rattle.translation.proofs.Residues.{bases-part}
+use Rattle.translation.proofs.Places.{place-residue}
+use Rattle.translation.proofs.Walks.{residueAt, Walk, walk-start, walk-more, walk-stop, walk-on}
 use Rattle.translation.proofs.stops.write_plain_to_stop.Statement.{statement}
 use Rattle.translation.proofs.stops.write_plain_to_stop.Tie as tie
 
 abbrev Inv-loop : tie.InvT-loop
-Inv-loop seq table code out₀ whole i₀ out i = (i ≤ whole) × Walk table [] seq (throughStop (plainTranslated table [] seq)) out₀ out i
+Inv-loop seq table code out₀ i₀ out i = (i ≤ length seq / 3) × Walk table [] seq (throughStop (plainTranslated table [] seq)) out₀ out i
 
 abbrev μ-loop : tie.MeasureT-loop
-μ-loop seq table code out₀ whole i₀ out i = whole - i
+μ-loop seq table code out₀ i₀ out i = length seq / 3 - i
 
 loop-holds : tie.Need-loop-holds Inv-loop μ-loop
 loop-holds c =
     let args = c .before .before .args in
     (search needs, walk-start (args .table) [] (args .seq .now) (args .out .now))
 
-element-copy-out-r : tie.Need-element-copy-out-r Inv-loop μ-loop
-element-copy-out-r c =
-    let args = c .before .before .before .before .before .args in
-    rw (c .place-at .ensures) (place-small (args .seq .now) (c .before .before .loop .i))
-
 slice-write-out : tie.Need-slice-write-out Inv-loop μ-loop
 unfolding residueCount
-slice-write-out c =
-    omega (arith, c .before .before .before .loop .inv .1 .same, c .before .before .if1 .left, c .before .before .before .before .before .before .pre .1 .1)
+slice-write-out c = omega (arith, c .before .before .before .loop .inv .1 .same, c .before .before .before .before .before .before .pre .1 .1)
 
-loop-again : tie.Need-loop-again Inv-loop μ-loop
+same-length : tie.Need-same-length Inv-loop μ-loop
+same-length c = simp length-set (c .before .before .before .before .loop .inv .1 .same)
+
+returns : tie.Need-returns Inv-loop μ-loop
 unfolding excepted residueAt residueCount
-loop-again c =
+returns c =
     let args = c .before .before .before .before .before .before .before .args in
     let loop = c .before .before .before .before .loop in
     let pre = c .before .before .before .before .before .before .before .pre in
-    let is = ap (λ (n : ℕ). getD (args .code .now) n 0) (c .before .before .place-at .ensures) ∙ place-residue (args .table) (args .code .now) (args .seq .now) (loop .i) (pre .0) (pre .1 .0) (search needs) in
-    (search needs, walk-more (args .table) [] (args .seq .now) _ (args .out .now) (loop .out) (loop .i) _ (loop .inv .1) (search needs) (omega (arith, loop .inv .1 .same, c .before .before .before .if1 .left, pre .1 .1)) is (c .if2 .left))
+    let s = args .seq .now in
+    let is = ap (λ (n : ℕ). getD (args .code .now) n 0) (c .before .before .pair-at .ensures .0) ∙ place-residue (args .table) (args .code .now) s (loop .i) (pre .0) (pre .1 .0) (omega arith) in
+    walk-stop (args .table) [] s _ (args .out .now) (loop .out) (loop .i) _ (loop .inv .1) (omega arith) (omega (arith, loop .inv .1 .same, pre .1 .1)) is (c .if1 .taken)
 
-same-length : tie.Need-same-length Inv-loop μ-loop
-same-length c =
-    c .before .loop .inv .1 .same
-
-returns : tie.Need-returns Inv-loop μ-loop
-returns c =
-    let args = c .before .before .before .before .args in
-    let loop = c .before .loop in
-    walk-end (args .table) [] (args .seq .now) _ (args .out .now) (loop .out) (loop .i) (loop .inv .1) (omega arith)
+slice-write-out-2 : tie.Need-slice-write-out-2 Inv-loop μ-loop
+unfolding residueCount
+slice-write-out-2 c = simp length-set (omega (arith, c .before .before .before .before .before .loop .inv .1 .same, c .before .before .before .before .before .before .before .before .pre .1 .1))
 
 same-length-2 : tie.Need-same-length-2 Inv-loop μ-loop
-same-length-2 c =
-    simp length-set (c .before .before .before .before .loop .inv .1 .same)
+same-length-2 c = simp length-set (c .before .before .before .before .before .before .loop .inv .1 .same)
 
 returns-2 : tie.Need-returns-2 Inv-loop μ-loop
 unfolding excepted residueAt residueCount
 returns-2 c =
-    let args = c .before .before .before .before .before .before .before .args in
-    let loop = c .before .before .before .before .loop in
-    let pre = c .before .before .before .before .before .before .before .pre in
-    let is = ap (λ (n : ℕ). getD (args .code .now) n 0) (c .before .before .place-at .ensures) ∙ place-residue (args .table) (args .code .now) (args .seq .now) (loop .i) (pre .0) (pre .1 .0) (search needs) in
-    walk-stop (args .table) [] (args .seq .now) _ (args .out .now) (loop .out) (loop .i) _ (loop .inv .1) (search needs) (omega (arith, loop .inv .1 .same, c .before .before .before .if1 .left, pre .1 .1)) is (c .if2 .taken)
+    let args = c .before .before .before .before .before .before .before .before .before .args in
+    let loop = c .before .before .before .before .before .before .loop in
+    let pre = c .before .before .before .before .before .before .before .before .before .pre in
+    let s = args .seq .now in
+    let is = ap (λ (n : ℕ). getD (args .code .now) n 0) (c .before .before .before .before .pair-at .ensures .0) ∙ place-residue (args .table) (args .code .now) s (loop .i) (pre .0) (pre .1 .0) (omega arith) in
+    let is′ = ap (λ (n : ℕ). getD (args .code .now) n 0) (c .before .before .before .before .pair-at .ensures .1) ∙ place-residue (args .table) (args .code .now) s (loop .i + 1) (pre .0) (pre .1 .0) (omega arith) in
+    let w = walk-more (args .table) [] s _ (args .out .now) (loop .out) (loop .i) _ (loop .inv .1) (omega arith) (omega (arith, loop .inv .1 .same, pre .1 .1)) is (c .before .before .if1 .left) in
+    walk-stop (args .table) [] s _ (args .out .now) _ (loop .i + 1) _ w (omega arith) (simp length-set (omega (arith, loop .inv .1 .same, pre .1 .1))) is′ (c .if2 .taken)
+
+loop-again : tie.Need-loop-again Inv-loop μ-loop
+unfolding excepted residueAt residueCount
+loop-again c =
+    let args = c .before .before .before .before .before .before .before .before .before .args in
+    let loop = c .before .before .before .before .before .before .loop in
+    let pre = c .before .before .before .before .before .before .before .before .before .pre in
+    let s = args .seq .now in
+    let is = ap (λ (n : ℕ). getD (args .code .now) n 0) (c .before .before .before .before .pair-at .ensures .0) ∙ place-residue (args .table) (args .code .now) s (loop .i) (pre .0) (pre .1 .0) (omega arith) in
+    let is′ = ap (λ (n : ℕ). getD (args .code .now) n 0) (c .before .before .before .before .pair-at .ensures .1) ∙ place-residue (args .table) (args .code .now) s (loop .i + 1) (pre .0) (pre .1 .0) (omega arith) in
+    let w = walk-more (args .table) [] s _ (args .out .now) (loop .out) (loop .i) _ (loop .inv .1) (omega arith) (omega (arith, loop .inv .1 .same, pre .1 .1)) is (c .before .before .if1 .left) in
+    let two : loop .i + 2 ≡ loop .i + 1 + 1 = omega arith in
+    (search needs, rw two (walk-more (args .table) [] s _ (args .out .now) _ (loop .i + 1) _ w (omega arith) (simp length-set (omega (arith, loop .inv .1 .same, c .before .before .before .before .before .before .before .before .before .pre .1 .1))) is′ (c .if2 .left)))
+
+write-codons-to-stop-requires : tie.Need-write-codons-to-stop-requires Inv-loop μ-loop
+unfolding residueCount
+write-codons-to-stop-requires c κs =
+    let args = c .before .before .before .before .before .before .args in
+    let loop = c .before .before .before .loop in
+    let pre = c .before .before .before .before .before .before .pre in
+    (pre .0, (rw (tail-is (loop .i * 3) (args .seq .now)) (bases-part (args .seq .now) (loop .i) (loop .inv .0) (pre .1 .0)), omega (arith, loop .inv .1 .same, pre .1 .1)))
+
+add-result-2 : tie.Need-add-result-2 Inv-loop μ-loop
+add-result-2 c = omega (arith, c .before .before .write-codons-to-stop .ensures .within)
+
+same-length-3 : tie.Need-same-length-3 Inv-loop μ-loop
+same-length-3 c =
+    let loop = c .before .before .before .before .before .before .loop in
+    let rest = c .before .before .write-codons-to-stop in
+    same-len-mid (loop .i) (length (loop .out) - loop .i) (loop .out) (rest .last .1 .1 .1 .0) (rest .kept .1 .1 .1 .0) ∙ loop .inv .1 .same
+
+returns-3 : tie.Need-returns-3 Inv-loop μ-loop
+unfolding residueCount
+returns-3 c =
+    let args = c .before .before .before .before .before .before .before .before .before .args in
+    let loop = c .before .before .before .before .before .before .loop in
+    let rest = c .before .before .write-codons-to-stop in
+    walk-on (args .table) (args .seq .now) _ (args .out .now) (loop .out) (loop .i) (loop .inv .1) (loop .inv .0) (omega (arith, loop .inv .1 .same, c .before .before .before .before .before .before .before .before .before .pre .1 .1)) _ (rest .result) (rest .ensures)
 
 pub write-plain-to-stop-spec : {M : Type 1} → statement M
+unfolding residueCount
 write-plain-to-stop-spec =
     tie.close
     (tie.spec
     Inv-loop
     μ-loop
     loop-holds
+    (λ c. search needs)
+    (λ c. search needs)
     (λ c κs. search needs)
-    element-copy-out-r
+    (λ c. search needs)
     slice-write-out
+    same-length
+    returns
+    (λ c. search needs)
+    (λ c. search needs)
+    slice-write-out-2
+    (λ c. search needs)
+    same-length-2
+    returns-2
     (λ c. search needs)
     (λ c. search needs)
     loop-again
-    same-length
-    returns
-    same-length-2
-    returns-2)
+    (λ c. search needs)
+    (λ c. search needs)
+    (λ c. search needs)
+    (λ c. search needs)
+    (λ c. search needs)
+    (λ c. search needs)
+    (λ c. search needs)
+    write-codons-to-stop-requires
+    add-result-2
+    same-length-3
+    returns-3)

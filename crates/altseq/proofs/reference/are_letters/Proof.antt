@@ -1,0 +1,12 @@
+-- `altseq::reference::are_letters` meets its contract. Assumes nothing.
+use mathlib.Core.Path.{_≡_, sym, _∙_}
+use borrow.Author.Needs.{needs}
+use Rattle.altseq.proofs.Plain.{plain-letters}
+use Rattle.altseq.proofs.reference.are_letters.Statement.{statement}
+use Rattle.altseq.proofs.reference.are_letters.Tie as tie
+
+returns : tie.Need-returns
+returns c = sym (plain-letters (c .before .before .args .letters .now) (sym (c .before .before .pre) ∙ c .if1 .taken))
+
+pub are-letters-spec : {M : Type 1} → statement M
+are-letters-spec = tie.close (tie.spec returns (λ c κs. search needs) (λ c. search needs))

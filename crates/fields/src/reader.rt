@@ -1,0 +1,106 @@
+// The reader of stored fields. The work is in `field_at`, which takes a plain slice and a place.
+ghost use mathlib.Core.Path.{_≡_};
+ghost use Prim.Native.Nat.{_+_, _<_, _≤_};
+ghost use lib.ListN.{length, getD};
+ghost use Rattle.rules.specs.Stored.{twoBytes};
+ghost use Rattle.fields.specs.Places.{bytesAt, fieldAt};
+
+// `len` bytes of the caller's, behind the first `at`.
+pub struct Span {
+    pub at: usize,
+    pub len: usize,
+}
+
+// The bytes at a place.
+pub fn bytes_at(s: &[u8], p: Span) -> &[u8]
+    requires { ⌜ p .at + p .len ≤ length (now s) ⌝ }
+    ensures { λ r. ⌜ now r ≡ bytesAt (now (s .entry)) p ⌝ }
+{
+    let at = p.at;
+    let end = at + p.len;
+    &s[at..end]
+}
+
+// What the bytes hold at a place.
+pub enum Field {
+    Whole { tag: u8, content: Span },
+    // The bytes end inside the field.
+    Cut { tag: u8 },
+    // No byte is left.
+    End,
+}
+
+pub fn wide(b: u8) -> usize
+    ensures { λ r. ⌜ r ≡ b ⌝ }
+    ensures small { λ r. ⌜ r < 256 ⌝ }
+{
+    b as usize
+}
+
+// The number of two bytes, high byte first.
+pub fn two_bytes(s: &[u8], at: usize) -> usize
+    requires { ⌜ at + 2 ≤ length (now s) ⌝ }
+    ensures { λ r. ⌜ r ≡ twoBytes (getD (now (s .entry)) at 0) (getD (now (s .entry)) (at + 1) 0) ⌝ }
+{
+    let high = wide(s[at]);
+    let low = wide(s[at + 1]);
+    256 * high + low
+}
+
+// The field at a place of the bytes.
+pub fn field_at(s: &[u8], at: usize) -> Field
+    ensures { λ r. ⌜ r ≡ fieldAt (now (s .entry)) at ⌝ }
+{
+    if s.len() <= at {
+        return Field::End;
+    }
+    let tag = s[at];
+    if s.len() - at < 3 {
+        return Field::Cut { tag };
+    }
+    let len = two_bytes(s, at + 1);
+    if len <= s.len() - (at + 3) {
+        Field::Whole {
+            tag,
+            content: Span { at: at + 3, len },
+        }
+    } else {
+        Field::Cut { tag }
+    }
+}
+
+// The caller's bytes and a place in them.
+pub struct Fields<'a> {
+    pub src: &'a [u8],
+    pub at: usize,
+}
+
+impl<'a> Fields<'a> {
+    // At the bytes' start.
+    pub fn new(src: &'a [u8]) -> Fields<'a>
+        ensures { λ r. ⌜ (r .src ≡ src .entry) × (r .at ≡ 0) ⌝ }
+    {
+        Fields { src, at: 0 }
+    }
+
+    // At another place.
+    pub fn moved(self, at: usize) -> Fields<'a>
+        ensures { λ q. ⌜ (q .src ≡ self .entry .src) × (q .at ≡ at) ⌝ }
+    {
+        Fields { src: self.src, at }
+    }
+
+    // The field there.
+    pub fn next(self) -> Field
+        ensures { λ f. ⌜ f ≡ fieldAt (now (self .entry .src)) (self .entry .at) ⌝ }
+    {
+        field_at(self.src, self.at)
+    }
+}
+
+// The field that a reader of the bytes meets at a place: for every caller that holds no reader.
+pub fn next_field(s: &[u8], at: usize) -> Field
+    ensures { λ r. ⌜ r ≡ fieldAt (now (s .entry)) at ⌝ }
+{
+    Fields::new(s).moved(at).next()
+}

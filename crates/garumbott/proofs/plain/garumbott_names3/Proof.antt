@@ -1,0 +1,18 @@
+-- `garumbott::plain::garumbott_names3` meets its contract. Assumes nothing.
+use borrow.Author.Needs.{needs}
+use mathlib.Core.Path.{ap, _∙_}
+use Rattle.garumbott.specs.Host.{lengthOf}
+use Rattle.garumbott.proofs.plain.garumbott_names3.Statement.{statement}
+use Rattle.garumbott.proofs.plain.garumbott_names3.Tie as tie
+
+returns : tie.Need-returns
+returns c = (c .length-of .ensures ∙ ap lengthOf (c .before .before .before .aa1-to-aa3 .ensures .0), c .before .before .before .aa1-to-aa3 .ensures .1)
+
+pub garumbott-names3-spec : {M : Type 1} → statement M
+garumbott-names3-spec =
+    tie.close
+    (tie.spec
+    (λ c κs. search needs)
+    (λ c κs. search needs)
+    (λ c. search needs)
+    returns)

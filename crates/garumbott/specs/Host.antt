@@ -1,0 +1,108 @@
+-- The numbers that a host gives and gets.
+use Prim.Native.Nat.{ℕ, zero, suc, _%_}
+use mathlib.Core.Path.{_≡_}
+use mathlib.Core.Bool.{Bool, not}
+use mathlib.Core.List.{List, [], _∷_}
+use lib.Dec.{eqb}
+use lib.IntN.{ℤ, pos, negsuc}
+use lib.ListN.{length}
+use Rattle.rules.specs.declared.Position.{Position}
+use Rattle.rules.specs.declared.Position.the-variants.{Plus, Minus, Star}
+use Rattle.rules.specs.declared.Edit.{Edit}
+use Rattle.rules.specs.declared.Exception.{Exception}
+use Rattle.rules.specs.declared.Written.{Written}
+use Rattle.rules.specs.declared.Written.the-variants as written
+use Rattle.rules.specs.declared.Answer.{Answer}
+use Rattle.rules.specs.Bytes.{if_then_else_, over}
+use Rattle.rules.specs.Translation.{noException}
+use Rattle.rules.specs.Reference.{Reference}
+use Rattle.rules.specs.Edit.{Asked}
+use Rattle.rules.specs.Stored.{exceptionsIn}
+use Rattle.rules.specs.Answer.{Outcome}
+use Rattle.rules.specs.Values.{kindAt, Told, Values, valuesOf}
+use Rattle.garumbott.specs.declared.numbers.GarumbottLength.{GarumbottLength}
+use Rattle.garumbott.specs.declared.numbers.GarumbottAnswer.{GarumbottAnswer}
+
+-- a position: a signed number p, or a star number q where `star` is 1. A negative q and every other `star` is no position; it stands as star 0,
+-- which is refused with 7
+abbrev pub positionAt : ℕ → ℤ → Position
+positionAt zero (pos n) = Plus n
+positionAt zero (negsuc n) = Minus (suc n)
+positionAt (suc zero) (pos n) = Star n
+positionAt (suc zero) (negsuc n) = Star 0
+positionAt (suc (suc star)) p = Star 0
+
+abbrev pub editAt : ℕ → ℕ → ℤ → ℕ → ℤ → Edit
+editAt kind startStar start endStar end = record { kind = kindAt kind; start = positionAt startStar start; end = positionAt endStar end }
+
+abbrev pub askedAt : ℕ → ℕ → ℤ → ℕ → ℤ → List ℕ → Asked
+askedAt kind startStar start endStar end bases = record { edit = editAt kind startStar start endStar end; new = bases }
+
+-- exceptions in the stored form. Bytes that aren't three each are none; they stand as an exception that breaks the rules, which is refused with 5
+unfoldable pub exceptionsAt : List ℕ → List Exception
+exceptionsAt s = if eqb (length s % 3) 0 then exceptionsIn s else (noException ∷ [])
+
+abbrev pub referenceAt : List ℕ → ℕ → ℕ → ℕ → List ℕ → Reference
+referenceAt letters cs ce table exceptions =
+    record { letters = letters; cs = cs; ce = ce; table = table; exceptions = exceptionsAt exceptions }
+
+-- 0 or not 0
+abbrev pub isSet : ℕ → Bool
+isSet n = not (eqb n 0)
+
+-- what a function that fills one buffer answers
+abbrev pub lengthOf : Written → GarumbottLength
+lengthOf (written.Refused n) = record { refusal = n; len = 0 }
+lengthOf (written.Bytes n) = record { refusal = 0; len = n }
+
+-- an answer's number, a refusal's number, and nothing else
+abbrev pub aloneOf : ℕ → ℕ → GarumbottAnswer
+aloneOf answer refusal =
+    record {
+      answer = answer;
+      refusal = refusal;
+      frameshift = 0;
+      «transcript_len» = 0;
+      «reference_len» = 0;
+      «altered_len» = 0;
+      change = 0;
+      number = 0;
+      «deleted_at» = 0;
+      «deleted_len» = 0;
+      «inserted_at» = 0;
+      «inserted_len» = 0;
+      first = 0;
+    }
+
+-- document 01's number and values for each case of an answer
+abbrev pub numbersOf : Values → GarumbottAnswer
+numbersOf v =
+    record {
+      answer = v .told .answer;
+      refusal = v .refusal;
+      frameshift = v .frameshift;
+      «transcript_len» = v .transcript;
+      «reference_len» = v .reference;
+      «altered_len» = v .altered;
+      change = v .told .class;
+      number = v .told .number;
+      «deleted_at» = v .told .deletedAt;
+      «deleted_len» = v .told .deletedLen;
+      «inserted_at» = v .told .insertedAt;
+      «inserted_len» = v .told .insertedLen;
+      first = v .told .first;
+    }
+
+abbrev pub answerOf : Answer → GarumbottAnswer
+answerOf a = numbersOf (valuesOf a)
+
+-- what a record tells, with no flag and no lengths
+abbrev pub toldOf : Told → GarumbottAnswer
+toldOf t = numbersOf (record { refusal = 0; frameshift = 0; transcript = 0; reference = 0; altered = 0; told = t })
+
+-- the answer is the outcome's, and each buffer is what it was under what the outcome writes
+pub record Tells (o : Outcome) (r : GarumbottAnswer) (transcript transcript′ reference reference′ altered altered′ : List ℕ) : Type 0 where
+  pub says : r ≡ answerOf (o .answer)
+  pub holds-transcript : transcript′ ≡ over (o .transcript) transcript
+  pub holds-reference : reference′ ≡ over (o .reference) reference
+  pub holds-altered : altered′ ≡ over (o .altered) altered

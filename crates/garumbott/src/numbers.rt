@@ -1,0 +1,222 @@
+// The numbers that a host gives and gets.
+use rules::Answer;
+use rules::Class;
+use rules::Edit;
+use rules::Kind;
+use rules::Position;
+use rules::Record;
+use rules::Report;
+use rules::Written;
+ghost use mathlib.Core.Path.{_≡_};
+ghost use Prim.Native.Nat.{_-_};
+ghost use lib.IntN.{natAbs};
+ghost use Rattle.rules.specs.declared.Answer.the-variants as answer;
+ghost use Rattle.rules.specs.Values.{kindAt, classNumber, flagNumber, toldBy};
+ghost use Rattle.garumbott.specs.Host.{positionAt, editAt, lengthOf, aloneOf, toldOf, answerOf};
+
+// A refusal's number and 0, or 0 and the bytes written from the buffer's start.
+#[repr(C)]
+pub struct GarumbottLength {
+    pub refusal: u64,
+    pub len: u64,
+}
+
+// Document 01's number and values for each case of an answer.
+#[repr(C)]
+pub struct GarumbottAnswer {
+    pub answer: u64,
+    pub refusal: u64,
+    pub frameshift: u64,
+    pub transcript_len: u64,
+    pub reference_len: u64,
+    pub altered_len: u64,
+    pub change: u64,
+    pub number: u64,
+    pub deleted_at: u64,
+    pub deleted_len: u64,
+    pub inserted_at: u64,
+    pub inserted_len: u64,
+    pub first: u64,
+}
+
+pub fn wide(n: usize) -> u64
+    ensures { λ r. ⌜ r ≡ n ⌝ }
+{
+    n as u64
+}
+
+// The kind of a number; every number but 1 to 7 is an unknown kind.
+pub fn kind_at(n: u64) -> Kind
+    ensures { λ r. ⌜ r ≡ kindAt n ⌝ }
+{
+    match n {
+        1 => Kind::Substitution,
+        2 => Kind::Deletion,
+        3 => Kind::Delins,
+        4 => Kind::Insertion,
+        5 => Kind::Duplication,
+        6 => Kind::Inversion,
+        7 => Kind::Identity,
+        _ => Kind::Other,
+    }
+}
+
+// The number without its sign. The least number of all has no opposite, so one is added on the way.
+fn magnitude(p: i64) -> usize
+    ensures { λ r. ⌜ r ≡ natAbs p ⌝ }
+{
+    if 0 <= p {
+        return p as usize;
+    }
+    (-(p + 1)) as usize + 1
+}
+
+// The position of a host's two numbers. What is none is star 0, which is refused with 7 where positions are judged.
+pub fn position_at(star: u64, p: i64) -> Position
+    ensures { λ r. ⌜ r ≡ positionAt star p ⌝ }
+{
+    let n = magnitude(p);
+    if star == 0 {
+        if p < 0 {
+            return Position::Minus(n);
+        }
+        return Position::Plus(n);
+    }
+    if (star == 1) & (0 <= p) {
+        return Position::Star(n);
+    }
+    Position::Star(0)
+}
+
+pub fn edit_at(kind: u64, start_star: u64, start: i64, end_star: u64, end: i64) -> Edit
+    ensures { λ r. ⌜ r ≡ editAt kind «start_star» start «end_star» end ⌝ }
+{
+    Edit {
+        kind: kind_at(kind),
+        start: position_at(start_star, start),
+        end: position_at(end_star, end),
+    }
+}
+
+// The answer of a function that fills one buffer.
+pub fn length_of(w: Written) -> GarumbottLength
+    ensures { λ r. ⌜ r ≡ lengthOf w ⌝ }
+{
+    match w {
+        Written::Refused(n) => GarumbottLength {
+            refusal: wide(n),
+            len: 0,
+        },
+        Written::Bytes(n) => GarumbottLength {
+            refusal: 0,
+            len: wide(n),
+        },
+    }
+}
+
+fn class_number(c: Class) -> u64
+    ensures { λ r. ⌜ r ≡ classNumber c ⌝ }
+{
+    match c {
+        Class::StartLost => 1,
+        Class::Extension => 2,
+        Class::StopGained => 3,
+        Class::Frameshift => 4,
+        Class::Substitution => 5,
+        Class::Deletion => 6,
+        Class::Duplication => 7,
+        Class::Insertion => 8,
+        Class::Delins => 9,
+    }
+}
+
+pub fn flag_number(flag: bool) -> u64
+    ensures { λ r. ⌜ r ≡ flagNumber flag ⌝ }
+{
+    if flag { 1 } else { 0 }
+}
+
+// The place of the residue with a number.
+fn place_of(number: usize) -> u64
+    ensures { λ r. ⌜ r ≡ number - 1 ⌝ }
+{
+    if number == 0 {
+        return 0;
+    }
+    wide(number - 1)
+}
+
+// An answer's number, a refusal's number, and nothing else.
+pub fn alone(answer: u64, refusal: u64) -> GarumbottAnswer
+    ensures { λ r. ⌜ r ≡ aloneOf answer refusal ⌝ }
+{
+    GarumbottAnswer {
+        answer,
+        refusal,
+        frameshift: 0,
+        transcript_len: 0,
+        reference_len: 0,
+        altered_len: 0,
+        change: 0,
+        number: 0,
+        deleted_at: 0,
+        deleted_len: 0,
+        inserted_at: 0,
+        inserted_len: 0,
+        first: 0,
+    }
+}
+
+// What a record tells.
+fn told_by(found: Record) -> GarumbottAnswer
+    ensures { λ r. ⌜ r ≡ toldOf (toldBy found) ⌝ }
+{
+    match found {
+        Record::Unknown => alone(1, 0),
+        Record::NoProtein => alone(2, 0),
+        Record::Silent { number, residue: _ } => {
+            let mut r = alone(3, 0);
+            let at = place_of(number);
+            r.number = wide(number);
+            r.deleted_at = at;
+            r.deleted_len = 1;
+            r.inserted_at = at;
+            r.inserted_len = 1;
+            r
+        }
+        Record::Changed(c) => {
+            let class = c.class;
+            let mut r = alone(4, 0);
+            r.change = class_number(class);
+            r.number = wide(c.number);
+            r.deleted_at = wide(c.deleted.at);
+            r.deleted_len = wide(c.deleted.len);
+            r.inserted_at = wide(c.inserted.at);
+            r.inserted_len = wide(c.inserted.len);
+            r.first = wide(c.first);
+            r
+        }
+    }
+}
+
+// A report's record, flag and lengths.
+fn reported(p: Report) -> GarumbottAnswer
+    ensures { λ r. ⌜ r ≡ answerOf (answer.Reported p) ⌝ }
+{
+    let found = p.found;
+    let mut r = told_by(found);
+    r.frameshift = flag_number(p.frameshift);
+    r.transcript_len = wide(p.transcript);
+    r.reference_len = wide(p.reference);
+    r.altered_len = wide(p.altered);
+    r
+}
+
+pub fn answer_of(a: Answer) -> GarumbottAnswer
+    ensures { λ r. ⌜ r ≡ answerOf a ⌝ }
+{
+    match a {
+        Answer::Refused(n) => alone(0, wide(n)),
+        Answer::Reported(p) => reported(p),
+    }
+}

@@ -1,0 +1,102 @@
+-- Laws of judging a stored reference: 1 to 6 of what stands in the bytes, and what an answer tells then.
+-- Assumes nothing.
+use mathlib.Core.Path.{_≡_, refl, sym, ap, _∙_}
+use mathlib.Core.Bool.{Bool, true, false}
+use mathlib.Core.List.{List}
+use Prim.Native.Nat.{ℕ, zero, suc, _%_, _≤_, _<_}
+use native.Mathlib.Decide.{decLt}
+use native.Mathlib.Omega.{arith}
+use lib.ListN.{length}
+use borrow.Author.Tests.{lt-leb}
+use Rattle.rules.specs.declared.Exception.{Exception}
+use Rattle.rules.specs.declared.Exceptions.{Exceptions}
+use Rattle.rules.specs.Bytes.{if_then_else_, firstOf, given, refused, unless}
+use Rattle.rules.specs.Translation.{exceptionList}
+use Rattle.rules.specs.Reference.{Reference, size, cdsSize, areBounds, fitExceptions, endsInStop, referenceTests}
+use Rattle.rules.specs.Refusal.{referenceRefusal}
+use Rattle.rules.specs.Stored.{fields, exceptionsIn, checked, storedReference}
+use Rattle.rules.proofs.Reference.{accepted}
+use Rattle.fields.specs.declared.reference.StoredAt.{StoredAt}
+use Rattle.fields.specs.declared.reference.Stored.{Stored}
+use Rattle.fields.specs.declared.reference.Stored.the-variants.{Refused, At}
+use Rattle.fields.specs.Places.{bytesAt}
+use Rattle.fields.specs.Held.{exceptionsOf}
+use Rattle.fields.specs.Reading.{referenceAt, referenceIn, Placed, Reads, assembledIn}
+use Rattle.fields.proofs.Contents.{length-bytes}
+use Rattle.fields.proofs.Held.{list-few, list-length}
+use Rattle.fields.proofs.Reading.{stored-is}
+use Rattle.positions.specs.declared.Cds.{Cds}
+use Rattle.altseq.specs.Known.{cdsOf, referenceOf, earlyRefusal, knownOf, readOf}
+use Rattle.altseq.proofs.References.{read-refused, read-accepted}
+
+-- 6, where none of 1 to 5 applies
+module _ (longest : ℕ) (s : List ℕ) (c : Cds) (e : Exceptions) (none : earlyRefusal longest (referenceOf s c e) ≡ 0) (stop : Bool) (is : stop ≡ endsInStop (referenceOf s c e)) where
+  pub stops : stop ≡ true → 0 ≡ referenceRefusal longest (referenceOf s c e)
+  unfolding readOf
+  stops h = sym (read-accepted longest s c e none (readOf s c e) refl (knownOf s c e) (rw (sym is ∙ h)) .0)
+
+  pub stopless : stop ≡ false → 6 ≡ referenceRefusal longest (referenceOf s c e)
+  unfolding readOf
+  stopless h = sym (read-refused longest s c e none (readOf s c e) refl 6 (rw (sym is ∙ h)) .0)
+
+-- a reference with other exceptions
+abbrev withExceptions : List ℕ → Cds → List Exception → Reference
+withExceptions s c es = record { letters = s; cs = c .cs; ce = c .ce; table = c .table; exceptions = es }
+
+-- of more than sixteen it doesn't matter which
+too-many : (longest : ℕ) (s : List ℕ) (c : Cds) (es fs : List Exception) → 16 < length es → 16 < length fs
+    → referenceRefusal longest (withExceptions s c es) ≡ referenceRefusal longest (withExceptions s c fs)
+unfolding referenceRefusal referenceTests firstOf fitExceptions size areBounds cdsSize
+too-many longest s c es fs h k = rw (lt-leb (length es) 16 h, lt-leb (length fs) 16 k)
+
+-- the reference as a call takes it
+abbrev pub takenAt : List ℕ → StoredAt → Reference
+takenAt s p = referenceOf (bytesAt s (p .letters)) (cdsOf (p .cs) (p .ce) (p .table)) (exceptionsOf (bytesAt s (p .exceptions)))
+
+module _ (s : List ℕ) (p : StoredAt) (in-place : Placed s p) where
+  threes : length (bytesAt s (p .exceptions)) % 3 ≡ 0
+  threes = rw (length-bytes s (p .exceptions) (in-place .exceptions-within)) (in-place .threes)
+
+  few-same : length (exceptionsIn (bytesAt s (p .exceptions))) ≤ 16 → takenAt s p ≡ referenceAt s p
+  few-same h = rw (list-few (bytesAt s (p .exceptions)) threes h)
+
+  -- 1 to 6 are the same
+  pub taken-refusal : (longest : ℕ) → referenceRefusal longest (takenAt s p) ≡ referenceRefusal longest (referenceAt s p)
+  taken-refusal longest = by (decLt 16 (length (exceptionsIn (bytesAt s (p .exceptions)))))
+    where
+      by : Dec (16 < length (exceptionsIn (bytesAt s (p .exceptions)))) → referenceRefusal longest (takenAt s p) ≡ referenceRefusal longest (referenceAt s p)
+      by (yes h) =
+          too-many longest (bytesAt s (p .letters)) (cdsOf (p .cs) (p .ce) (p .table)) (exceptionList (exceptionsOf (bytesAt s (p .exceptions)))) (exceptionsIn (bytesAt s (p .exceptions)))
+          (rw (list-length (bytesAt s (p .exceptions)) threes) h) h
+      by (no h) = ap (referenceRefusal longest) (few-same (omega arith))
+
+  -- and so is the reference, where none applies
+  pub taken-same : (longest : ℕ) → referenceRefusal longest (referenceAt s p) ≡ 0 → takenAt s p ≡ referenceAt s p
+  taken-same longest h = few-same (accepted longest (referenceAt s p) h .few)
+
+-- what is told of a reference that is found
+module _ (longest : ℕ) (s : List ℕ) (r : Stored) (found : Reads s (assembledIn (fields s)) r) where
+  pub unfound : (n : ℕ) → r ≡ Refused n → storedReference longest s ≡ refused n
+  unfolding referenceIn checked
+  unfound n h = stored-is longest s ∙ ap (checked longest) (sym (found .says) ∙ ap (referenceIn s) h)
+
+  module _ (p : StoredAt) (h : r ≡ At p) where
+    is-checked : storedReference longest s ≡ unless (referenceRefusal longest (referenceAt s p)) (referenceAt s p)
+    unfolding referenceIn checked
+    is-checked = stored-is longest s ∙ ap (checked longest) (sym (found .says) ∙ ap (referenceIn s) h)
+
+    pub refused-at : (n : ℕ) → n ≡ referenceRefusal longest (referenceAt s p) → (n ≡ 0 → ⊥) → storedReference longest s ≡ refused n
+    unfolding unless
+    refused-at n e k = is-checked ∙ rw (← e) (by n k)
+      where
+        by : (n : ℕ) → (n ≡ 0 → ⊥) → unless n (referenceAt s p) ≡ refused n
+        by zero k = absurd (k refl)
+        by (suc n) k = refl
+
+    pub given-at : 0 ≡ referenceRefusal longest (referenceAt s p) → storedReference longest s ≡ given (referenceAt s p)
+    unfolding unless
+    given-at e = is-checked ∙ rw (← e)
+
+    pub reads-at : 0 ≡ referenceRefusal longest (referenceAt s p) → Reads s (storedReference longest s) (At p)
+    unfolding referenceIn
+    reads-at e = record { says = sym (given-at e); stands = λ q i. found .stands q (h ∙ i) }

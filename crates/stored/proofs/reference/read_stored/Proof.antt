@@ -1,0 +1,38 @@
+-- `stored::reference::read_stored` meets its contract. Assumes nothing.
+use mathlib.Core.Path.{sym, _∙_}
+use native.Mathlib.Omega.{arith}
+use borrow.Author.Needs.{needs}
+use Rattle.fields.proofs.Reading.{refuses}
+use Rattle.stored.proofs.Judged.{unfound, refused-at, reads-at}
+use Rattle.stored.proofs.reference.read_stored.Statement.{statement}
+use Rattle.stored.proofs.reference.read_stored.Tie as tie
+
+refusal-at-requires : tie.Need-refusal-at-requires
+refusal-at-requires c κs = (omega arith, c .before .before .before .find-stored .ensures .stands _ (c .before .p .given .1))
+
+returns : tie.Need-returns
+returns c =
+    let s = c .before .before .before .before .before .before .before .args .s .now in
+    refuses s _ _ (refused-at 16384 s (c .before .before .before .before .before .find-stored .result) (c .before .before .before .before .before .find-stored .ensures) _ (c .before .before .before .p .given .1) (c .before .refusal-at .result) (c .before .refusal-at .ensures) (c .if1 .taken))
+
+returns-2 : tie.Need-returns-2
+returns-2 c =
+    let s = c .before .before .before .before .before .args .s .now in
+    refuses s _ _ (unfound 16384 s (c .before .before .before .find-stored .result) (c .before .before .before .find-stored .ensures) _ (c .before .n .given .1))
+
+returns-3 : tie.Need-returns-3
+returns-3 c =
+    let s = c .before .before .before .before .before .before .before .args .s .now in
+    reads-at 16384 s (c .before .before .before .before .before .find-stored .result) (c .before .before .before .before .before .find-stored .ensures) _ (c .before .before .before .p .given .1) (sym (c .if1 .left) ∙ c .before .refusal-at .ensures)
+
+pub read-stored-spec : {M : Type 1} → statement M
+read-stored-spec =
+    tie.close
+    (tie.spec
+    (λ c κs. search needs)
+    (λ c. search needs)
+    (λ c. search needs)
+    refusal-at-requires
+    returns
+    returns-2
+    returns-3)

@@ -1,0 +1,48 @@
+// An edit of a stored reference.
+use altseq::build_altseq;
+use fields::Stored;
+use fields::bytes_at;
+use fields::exceptions_in;
+use fields::find_stored;
+use rules::Answer;
+use rules::Edit;
+ghost use Rattle.rules.specs.Refusal.{limits};
+ghost use Rattle.rules.specs.Stored.{storedReference};
+ghost use Rattle.rules.specs.Answer.{Answers};
+ghost use Rattle.positions.specs.Views.{asked};
+ghost use Rattle.altseq.specs.Known.{roomOf};
+ghost use Rattle.stored.specs.Outcomes.{outcomeOf};
+
+// The answer to an edit of the reference that the bytes store: its refusal, 20 to 23 and then 1 to 6, else as `build_altseq` answers, which
+// judges 1 to 6.
+pub fn build_altseq_stored(
+    s: &[u8],
+    edit: Edit,
+    new: &[u8],
+    tx: &mut [u8],
+    rp: &mut [u8],
+    ap: &mut [u8],
+) -> Answer
+    ensures { λ r. ⌜ Answers
+        (outcomeOf limits (storedReference 16384 (now (s .entry))) (asked edit (now (new .entry))) (roomOf (now (tx .entry)) (now (rp .entry)) (now (ap .entry))))
+        r (now (tx .entry)) (now (tx .exit)) (now (rp .entry)) (now (rp .exit)) (now (ap .entry)) (now (ap .exit)) ⌝ }
+{
+    match find_stored(s) {
+        Stored::Refused(n) => Answer::Refused(n),
+        Stored::At(p) => {
+            let e = exceptions_in(bytes_at(s, p.exceptions));
+            build_altseq(
+                bytes_at(s, p.letters),
+                p.cs,
+                p.ce,
+                p.table,
+                e,
+                edit,
+                new,
+                tx,
+                rp,
+                ap,
+            )
+        }
+    }
+}

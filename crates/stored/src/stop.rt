@@ -1,0 +1,49 @@
+// Refusal 6, by the last CDS codon alone: the reference protein isn't read.
+use codons::letters::letter_set;
+use codons::reader::plain_codon;
+use positions::Cds;
+use rules::Exception;
+use rules::Exceptions;
+ghost use mathlib.Core.Path.{_≡_};
+ghost use Prim.Native.Nat.{_≤_};
+ghost use lib.Dec.{eqb};
+ghost use Rattle.rules.specs.Bytes.{if_then_else_};
+ghost use Rattle.rules.specs.Translation.{exceptionList, excepted};
+ghost use Rattle.rules.specs.Reference.{endsInStop};
+ghost use Rattle.altseq.specs.Known.{referenceOf, Readable};
+
+// The residue of codon n: an exception's, if it is for that codon.
+fn excepted_by(x: Exception, n: usize, residue: u8) -> u8
+    ensures { λ r. ⌜ r ≡ (if eqb (x .codon) n then x .residue else residue) ⌝ }
+{
+    if x.codon == n { x.residue } else { residue }
+}
+
+// The residue of codon n, exceptions applied, the last one counting.
+fn excepted_of(e: Exceptions, n: usize, residue: u8) -> u8
+    requires { ⌜ e .count ≤ 16 ⌝ }
+    ensures { λ r. ⌜ r ≡ excepted (exceptionList e) n residue ⌝ }
+{
+    let count = e.count;
+    let all = e.all;
+    let mut found = residue;
+    let mut i = 0;
+    while i < count {
+        found = excepted_by(all[i], n, found);
+        i += 1;
+    }
+    found
+}
+
+// Whether the last CDS codon, exceptions applied, reads `*`, where none of 1 to 5 applies.
+pub fn ends_in_stop(letters: &[u8], c: Cds, e: Exceptions) -> bool
+    requires { ⌜ Readable (now letters) c e ⌝ }
+    ensures { λ r. ⌜ r ≡ endsInStop (referenceOf (now (letters .entry)) c e) ⌝ }
+{
+    let at = c.ce - 3;
+    let first = letter_set(letters[at]);
+    let second = letter_set(letters[at + 1]);
+    let third = letter_set(letters[at + 2]);
+    let residue = plain_codon(c.table, first, second, third);
+    excepted_of(e, (c.ce - (c.cs - 1)) / 3, residue) == b'*'
+}

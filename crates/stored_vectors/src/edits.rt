@@ -1,0 +1,91 @@
+// What an edit of a stored reference is answered, as text.
+use crate::answers::print_number;
+use fields::reader::two_bytes;
+use rules::Answer;
+use rules::Change;
+use rules::Edit;
+use rules::Kind;
+use rules::Position;
+use rules::Record;
+use stored::build_altseq_stored;
+
+fn kind_of(number: u8) -> Kind {
+    match number {
+        1 => Kind::Substitution,
+        2 => Kind::Deletion,
+        3 => Kind::Delins,
+        4 => Kind::Insertion,
+        5 => Kind::Duplication,
+        6 => Kind::Inversion,
+        7 => Kind::Identity,
+        _ => Kind::Other,
+    }
+}
+
+fn position_of(sign: u8, n: usize) -> Position {
+    match sign {
+        b'-' => Position::Minus(n),
+        b'*' => Position::Star(n),
+        _ => Position::Plus(n),
+    }
+}
+
+// The number, and how many residues are deleted and inserted.
+fn print_change(c: Change) {
+    print_number(b": changed ", c.number);
+    print_number(b" ", c.deleted.len);
+    print_number(b" ", c.inserted.len);
+}
+
+fn print_record(found: Record) {
+    match found {
+        Record::Unknown => {
+            io::write_all(1, b": unknown");
+        }
+        Record::NoProtein => {
+            io::write_all(1, b": no-protein");
+        }
+        Record::Silent { number, residue: _ } => print_number(b": silent ", number),
+        Record::Changed(c) => print_change(c),
+    }
+}
+
+fn print_answer(answer: Answer) {
+    match answer {
+        Answer::Refused(n) => print_number(b": refused ", n),
+        Answer::Reported(p) => {
+            let found = p.found;
+            print_record(found);
+        }
+    }
+}
+
+fn print_bytes(s: &[u8]) {
+    io::write_all(1, b" ");
+    io::write_all(1, s);
+}
+
+// The answer, and what the three buffers of dots hold then.
+fn print_outcome(s: &[u8], edit: Edit, new: &[u8]) {
+    let mut tx = [b'.'; 32];
+    let mut rp = [b'.'; 8];
+    let mut ap = [b'.'; 16];
+    let answer = build_altseq_stored(s, edit, new, &mut tx, &mut rp, &mut ap);
+    print_answer(answer);
+    print_bytes(&tx);
+    print_bytes(&rp);
+    print_bytes(&ap);
+}
+
+// An edit: the kind's number, two positions, each a sign and a number of two bytes, and the new bases.
+pub fn print_edit(s: &[u8], e: &[u8]) {
+    if e.len() < 7 {
+        return;
+    }
+    let edit = Edit {
+        kind: kind_of(e[0]),
+        start: position_of(e[1], two_bytes(e, 2)),
+        end: position_of(e[4], two_bytes(e, 5)),
+    };
+    print_outcome(s, edit, &e[7..]);
+}

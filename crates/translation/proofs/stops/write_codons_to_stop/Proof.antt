@@ -1,0 +1,84 @@
+-- `translation::write_codons_to_stop` meets its contract. The invariant: writing what is left gives the protein.
+-- Assumes nothing.
+use mathlib.Core.Path.{_≡_, ap, _∙_}
+use mathlib.Core.List.{[]}
+use Prim.Native.Nat.{ℕ, _-_, _≤_}
+use native.Mathlib.Omega.{arith}
+use borrow.Author.Needs.{needs}
+use lib.ListN.{length, getD, length-set}
+use Rattle.rules.specs.Translation.{excepted, residueCount, plainTranslated, throughStop}
+use Rattle.translation.proofs.Places.{place-small, place-residue}
+use Rattle.translation.proofs.Walks.{residueAt, Walk, walk-start, walk-more, walk-stop, walk-end}
+use Rattle.translation.proofs.stops.write_codons_to_stop.Statement.{statement}
+use Rattle.translation.proofs.stops.write_codons_to_stop.Tie as tie
+
+abbrev Inv-loop : tie.InvT-loop
+Inv-loop seq table code out₀ whole i₀ out i = (i ≤ whole) × Walk table [] seq (throughStop (plainTranslated table [] seq)) out₀ out i
+
+abbrev μ-loop : tie.MeasureT-loop
+μ-loop seq table code out₀ whole i₀ out i = whole - i
+
+loop-holds : tie.Need-loop-holds Inv-loop μ-loop
+loop-holds c =
+    let args = c .before .before .args in
+    (search needs, walk-start (args .table) [] (args .seq .now) (args .out .now))
+
+element-copy-out-r : tie.Need-element-copy-out-r Inv-loop μ-loop
+element-copy-out-r c =
+    let args = c .before .before .before .before .before .args in
+    rw (c .place-at .ensures) (place-small (args .seq .now) (c .before .before .loop .i))
+
+slice-write-out : tie.Need-slice-write-out Inv-loop μ-loop
+unfolding residueCount
+slice-write-out c =
+    omega (arith, c .before .before .before .loop .inv .1 .same, c .before .before .if1 .left, c .before .before .before .before .before .before .pre .1 .1)
+
+loop-again : tie.Need-loop-again Inv-loop μ-loop
+unfolding excepted residueAt residueCount
+loop-again c =
+    let args = c .before .before .before .before .before .before .before .args in
+    let loop = c .before .before .before .before .loop in
+    let pre = c .before .before .before .before .before .before .before .pre in
+    let is = ap (λ (n : ℕ). getD (args .code .now) n 0) (c .before .before .place-at .ensures) ∙ place-residue (args .table) (args .code .now) (args .seq .now) (loop .i) (pre .0) (pre .1 .0) (search needs) in
+    (search needs, walk-more (args .table) [] (args .seq .now) _ (args .out .now) (loop .out) (loop .i) _ (loop .inv .1) (search needs) (omega (arith, loop .inv .1 .same, c .before .before .before .if1 .left, pre .1 .1)) is (c .if2 .left))
+
+same-length : tie.Need-same-length Inv-loop μ-loop
+same-length c =
+    c .before .loop .inv .1 .same
+
+returns : tie.Need-returns Inv-loop μ-loop
+returns c =
+    let args = c .before .before .before .before .args in
+    let loop = c .before .loop in
+    walk-end (args .table) [] (args .seq .now) _ (args .out .now) (loop .out) (loop .i) (loop .inv .1) (omega arith)
+
+same-length-2 : tie.Need-same-length-2 Inv-loop μ-loop
+same-length-2 c =
+    simp length-set (c .before .before .before .before .loop .inv .1 .same)
+
+returns-2 : tie.Need-returns-2 Inv-loop μ-loop
+unfolding excepted residueAt residueCount
+returns-2 c =
+    let args = c .before .before .before .before .before .before .before .args in
+    let loop = c .before .before .before .before .loop in
+    let pre = c .before .before .before .before .before .before .before .pre in
+    let is = ap (λ (n : ℕ). getD (args .code .now) n 0) (c .before .before .place-at .ensures) ∙ place-residue (args .table) (args .code .now) (args .seq .now) (loop .i) (pre .0) (pre .1 .0) (search needs) in
+    walk-stop (args .table) [] (args .seq .now) _ (args .out .now) (loop .out) (loop .i) _ (loop .inv .1) (search needs) (omega (arith, loop .inv .1 .same, c .before .before .before .if1 .left, pre .1 .1)) is (c .if2 .taken)
+
+pub write-codons-to-stop-spec : {M : Type 1} → statement M
+write-codons-to-stop-spec =
+    tie.close
+    (tie.spec
+    Inv-loop
+    μ-loop
+    loop-holds
+    (λ c κs. search needs)
+    element-copy-out-r
+    slice-write-out
+    (λ c. search needs)
+    (λ c. search needs)
+    loop-again
+    same-length
+    returns
+    same-length-2
+    returns-2)

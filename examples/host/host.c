@@ -1,0 +1,211 @@
+/* host [FILE]: answers the edit lines of FILE, or of standard input, through the library. It reads and prints what the text program annotate
+ * does; here the lines are taken apart in C, and only the answers come from the library.
+ *
+ *     ref CS CE TABLE LETTERS      first line: the reference
+ *     8A>G  5del  4_6delinsTT      then an edit a line; positions 7, -2, *3
+ */
+#include <garumbott.h>
+#include <stdbool.h>
+#include <stdio.h>
+#include <string.h>
+
+enum { LONGEST_LINE = 20480, MOST_DIGITS = 5 };
+
+/* ---- lines -------------------------------------------------------------------------------------------------------------------------- */
+
+struct line {
+    char text[LONGEST_LINE + 1]; /* ends in a zero byte */
+    size_t len;
+    bool good; /* not too long, and without a zero byte */
+};
+
+/* The next line, without its line feed; false where nothing is left. */
+static bool next_line(FILE *in, struct line *line)
+{
+    int c = getc(in);
+    if (c == EOF) return false;
+    line->len = 0;
+    line->good = true;
+    for (; c != EOF && c != '\n'; c = getc(in)) {
+        if (line->len == LONGEST_LINE || c == 0) {
+            line->good = false;
+        } else {
+            line->text[line->len++] = (char)c;
+        }
+    }
+    line->text[line->len] = 0;
+    return true;
+}
+
+/* Each of these takes its part from the text and moves behind it, or leaves the text where it is and answers false. */
+
+static bool take(const char **s, const char *word)
+{
+    size_t n = strlen(word);
+    if (strncmp(*s, word, n) != 0) return false;
+    *s += n;
+    return true;
+}
+
+/* Decimal, at most five digits, no leading zero but in a lone 0. */
+static bool take_number(const char **s, uint64_t *n)
+{
+    size_t digits = strspn(*s, "0123456789");
+    if (digits == 0 || digits > MOST_DIGITS || ((*s)[0] == '0' && digits > 1)) return false;
+    *n = 0;
+    for (size_t i = 0; i < digits; i++) *n = 10 * *n + (uint64_t)((*s)[i] - '0');
+    *s += digits;
+    return true;
+}
+
+static bool take_position(const char **s, uint64_t *star, int64_t *number)
+{
+    const char *t = *s;
+    bool minus = take(&t, "-");
+    uint64_t n;
+    *star = !minus && take(&t, "*");
+    if (!take_number(&t, &n)) return false;
+    *number = minus ? -(int64_t)n : (int64_t)n;
+    *s = t;
+    return true;
+}
+
+/* One or more bytes A to Z. */
+static bool take_letters(const char **s, const uint8_t **letters, uint64_t *len)
+{
+    *letters = (const uint8_t *)*s;
+    *len = 0;
+    while (**s >= 'A' && **s <= 'Z') {
+        ++*s;
+        ++*len;
+    }
+    return *len != 0;
+}
+
+static bool read_reference(const struct line *line, struct garumbott_reference *r)
+{
+    const char *s = line->text;
+    memset(r, 0, sizeof *r);
+    return line->good && take(&s, "ref ") && take_number(&s, &r->cs) && take(&s, " ") && take_number(&s, &r->ce) && take(&s, " ")
+        && take_number(&s, &r->table) && take(&s, " ") && take_letters(&s, &r->letters, &r->letters_len) && *s == 0;
+}
+
+static bool read_edit(const struct line *line, struct garumbott_coding_edit *e)
+{
+    const char *s = line->text;
+    const uint8_t *named;
+    uint64_t named_len;
+    memset(e, 0, sizeof *e);
+    if (!line->good || !take_position(&s, &e->start_star, &e->start)) return false;
+    e->end_star = e->start_star;
+    e->end = e->start;
+    if (take(&s, "_") && !take_position(&s, &e->end_star, &e->end)) return false;
+    if (take(&s, "delins")) {
+        e->kind = GARUMBOTT_DELINS;
+    } else if (take(&s, "ins")) {
+        e->kind = GARUMBOTT_INSERTION;
+    } else if (take(&s, "del")) {
+        e->kind = GARUMBOTT_DELETION;
+    } else if (take(&s, "dup")) {
+        e->kind = GARUMBOTT_DUPLICATION;
+    } else if (take(&s, "inv")) {
+        e->kind = GARUMBOTT_INVERSION;
+    } else if (take(&s, "=")) {
+        e->kind = GARUMBOTT_IDENTITY;
+    } else { /* the base that a substitution names isn't looked at */
+        e->kind = GARUMBOTT_SUBSTITUTION;
+        if (!take_letters(&s, &named, &named_len) || named_len != 1 || !take(&s, ">")) return false;
+    }
+    bool has_bases = e->kind == GARUMBOTT_DELINS || e->kind == GARUMBOTT_INSERTION || e->kind == GARUMBOTT_SUBSTITUTION;
+    if (has_bases && !take_letters(&s, &e->bases, &e->bases_len)) return false;
+    return *s == 0 && (e->kind != GARUMBOTT_SUBSTITUTION || e->bases_len == 1);
+}
+
+/* ---- answers ------------------------------------------------------------------------------------------------------------------------ */
+
+static uint8_t transcript[GARUMBOTT_TRANSCRIPT_ROOM], reference[GARUMBOTT_REFERENCE_ROOM], altered[GARUMBOTT_ALTERED_ROOM];
+static const struct garumbott_buffers buffers = {transcript, sizeof transcript, reference, sizeof reference, altered, sizeof altered};
+
+static void print_refused(uint64_t number)
+{
+    printf("refused %d\n", (int)number);
+}
+
+static void print_part(const uint8_t *residues, uint64_t at, uint64_t len)
+{
+    if (len == 0) {
+        printf(" -");
+    } else {
+        printf(" %.*s", (int)len, (const char *)residues + at);
+    }
+}
+
+static void print_answer(const struct garumbott_answer *a)
+{
+    switch (a->answer) {
+    case GARUMBOTT_REFUSED: print_refused(a->refusal); return;
+    case GARUMBOTT_UNKNOWN: printf("unknown\n"); return;
+    case GARUMBOTT_NO_PROTEIN: printf("no-protein\n"); return;
+    default: break;
+    }
+    printf("%s %d", a->answer == GARUMBOTT_SILENT ? "silent" : garumbott_class_name(a->change), (int)a->number);
+    print_part(reference, a->deleted_at, a->deleted_len);
+    print_part(altered, a->inserted_at, a->inserted_len);
+    if (a->change == GARUMBOTT_CHANGE_DUPLICATION) printf(" %d", (int)a->first);
+    printf("\n");
+}
+
+/* Prints the reference protein. An edit that changes nothing is refused exactly where the reference is. */
+static bool check_reference(const struct garumbott_reference *r)
+{
+    const struct garumbott_coding_edit nothing = {.kind = GARUMBOTT_IDENTITY, .start = 1, .end = 1};
+    struct garumbott_answer a = garumbott_record_of(r, &nothing, &buffers);
+    if (a.answer == GARUMBOTT_REFUSED) {
+        print_refused(a.refusal);
+        return false;
+    }
+    struct garumbott_length n = garumbott_translate(r->letters + (r->cs - 1), r->ce + 1 - r->cs, r->table, 1, r->exceptions, r->exceptions_len,
+                                                    reference, sizeof reference);
+    printf("reference %.*s\n", (int)n.len, (const char *)reference);
+    return true;
+}
+
+static void run(FILE *in)
+{
+    static struct line first, line;
+    struct garumbott_reference r;
+    struct garumbott_coding_edit e;
+    if (!next_line(in, &first)) return;
+    if (!read_reference(&first, &r)) {
+        print_refused(GARUMBOTT_REFUSAL_LINE);
+        return;
+    }
+    if (!check_reference(&r)) return;
+    while (next_line(in, &line)) {
+        if (read_edit(&line, &e)) {
+            struct garumbott_answer a = garumbott_record_of(&r, &e, &buffers);
+            print_answer(&a);
+        } else {
+            print_refused(GARUMBOTT_REFUSAL_LINE);
+        }
+    }
+}
+
+int main(int argc, char **argv)
+{
+    FILE *in = argc == 2 ? fopen(argv[1], "rb") : stdin;
+    if (argc > 2) {
+        fprintf(stderr, "host: one file, or none for standard input\n");
+        return 1;
+    }
+    if (in == NULL) {
+        perror(argv[1]);
+        return 1;
+    }
+    run(in);
+    if (ferror(in) || fflush(stdout) != 0) {
+        perror("host");
+        return 1;
+    }
+    return 0;
+}

@@ -1,0 +1,394 @@
+/* garumbott.h: the Garumbott variant module, for programs written in C.
+ *
+ * Given a reference transcript and one coding edit, the module builds the altered transcript, reads the altered protein from it and answers
+ * one protein record, or the one numbered refusal that its rules give. References can be read from a stored form. Translation, residue names,
+ * the reverse complement and two trims can be called by themselves.
+ *
+ * In ten minutes. Put this into first.c, and
+ *     cc -std=c11 first.c $(pkg-config --cflags --libs garumbott) -o first && ./first
+ * prints "substitution 3 K R": the CDS's eighth base, A, becomes G, so residue 3 changes from K to R.
+ *
+ *     #include <garumbott.h>
+ *     #include <stdio.h>
+ *
+ *     int main(void) {
+ *         static uint8_t transcript[GARUMBOTT_TRANSCRIPT_ROOM], R[GARUMBOTT_REFERENCE_ROOM], A[GARUMBOTT_ALTERED_ROOM];
+ *         struct garumbott_reference reference = {
+ *             .letters = (const uint8_t *)"GGATGGCCAAATGGTAACCTGAC", .letters_len = 23, .cs = 3, .ce = 17 };
+ *         struct garumbott_coding_edit edit = {
+ *             .kind = GARUMBOTT_SUBSTITUTION, .start = 8, .end = 8, .bases = (const uint8_t *)"G", .bases_len = 1 };
+ *         struct garumbott_buffers buffers = { transcript, sizeof transcript, R, sizeof R, A, sizeof A };
+ *         struct garumbott_answer a = garumbott_record_of(&reference, &edit, &buffers);
+ *         if (a.answer != GARUMBOTT_CHANGED) {
+ *             printf("answer %d, refusal %d\n", (int)a.answer, (int)a.refusal);
+ *             return 1;
+ *         }
+ *         printf("%s %d %.*s %.*s\n", garumbott_class_name(a.change), (int)a.number, (int)a.deleted_len, (const char *)R + a.deleted_at,
+ *                (int)a.inserted_len, (const char *)A + a.inserted_at);
+ *         return 0;
+ *     }
+ *
+ * What holds for every function
+ *
+ *   Slices. Bytes are handed over as a pointer and a length. Nothing need end in a zero byte, and nothing is written behind an answer: no
+ *     zero byte either. A slice of length 0 may have any pointer, NULL included. Any other pointer must lead to as many bytes as the length
+ *     says; that can't be tested by the library, and it is all that is asked of the caller besides the next point.
+ *   Overlap. Slices that are only read may overlap. A buffer that is written may overlap nothing else that is handed to the same call.
+ *   Ownership. The library allocates nothing, frees nothing and keeps no pointer and no other thing between calls. What you lend stays yours.
+ *   Threads. Any function may be called from any thread, and from several at once, as long as no two calls share a buffer that one of them
+ *     writes. There is no setup, no state, no errno, no locale, no signal.
+ *   Stack. No call needs more than GARUMBOTT_STACK bytes of it, but for garumbott_run: GARUMBOTT_RUN_STACK.
+ *   Refusals. Every other fault of the input is refused: the answer has the refusal's number, every other number in it is 0, and no byte of
+ *     any buffer has changed. Where several faults apply, the lowest number is given, but where a function names another order.
+ *   Bytes written stand at a buffer's start. What stands behind them is as it was before the call.
+ *   Numbers from the caller that are too large for their meaning are refused like any other wrong number; none is cut down to fewer bits.
+ *   Letters are bytes of ASCII, and residues are too. A stop is '*', a residue that isn't known 'X'.
+ *
+ * The archive is compiled for Linux on x86-64 (System V calling convention). It wants memcpy and memset of the C library and nothing else,
+ * and links into programs and shared objects alike. The header is C11, and C++ as well.
+ */
+#ifndef GARUMBOTT_H
+#define GARUMBOTT_H
+
+#include <stddef.h>
+#include <stdint.h>
+
+#ifdef __cplusplus
+extern "C" {
+#endif
+
+#define GARUMBOTT_VERSION "1.0.0"
+
+/* ---- Limits ------------------------------------------------------------------------------------------------------------------------- */
+
+/* Bytes of stack that a call needs at most; garumbott_run alone needs more. */
+#define GARUMBOTT_STACK 24576
+#define GARUMBOTT_RUN_STACK 147456
+
+/* The longest reference transcript, and the most new bases of an edit. */
+#define GARUMBOTT_LONGEST 16384
+#define GARUMBOTT_MOST_BASES 4096
+
+/* The most exceptions, and the bytes of each in the stored form: the codon's number, from 1, in two bytes, high byte first, then the residue
+ * ('A' to 'Z' or '*') that is read there instead of the table's. */
+#define GARUMBOTT_MOST_EXCEPTIONS 16
+#define GARUMBOTT_EXCEPTION_BYTES 3
+
+/* Buffers of these sizes are never too short for garumbott_edit and garumbott_record. The functions below them compute smaller ones. */
+#define GARUMBOTT_TRANSCRIPT_ROOM 32768
+#define GARUMBOTT_REFERENCE_ROOM 5461
+#define GARUMBOTT_ALTERED_ROOM 10923
+
+/* ---- Numbers ------------------------------------------------------------------------------------------------------------------------ */
+
+/* Kinds of edit. Every other number is an unknown kind and refused with 10. */
+#define GARUMBOTT_SUBSTITUTION 1 /* one base gives way to one new base */
+#define GARUMBOTT_DELETION 2     /* start to end go */
+#define GARUMBOTT_DELINS 3       /* start to end give way to new bases */
+#define GARUMBOTT_INSERTION 4    /* new bases between the neighbours start and end */
+#define GARUMBOTT_DUPLICATION 5  /* a copy of start to end goes in behind end */
+#define GARUMBOTT_INVERSION 6    /* start to end is reverse complemented */
+#define GARUMBOTT_IDENTITY 7     /* nothing changes */
+
+/* Answers. */
+#define GARUMBOTT_REFUSED 0
+#define GARUMBOTT_UNKNOWN 1    /* the reference protein has more than one stop, or the edit ends behind the transcript: nothing is written */
+#define GARUMBOTT_NO_PROTEIN 2 /* the altered protein is empty */
+#define GARUMBOTT_SILENT 3     /* both proteins are the same */
+#define GARUMBOTT_CHANGED 4
+
+/* Classes of a change, in the order in which they are tried; 0 where an answer has no change. */
+#define GARUMBOTT_CHANGE_NONE 0
+#define GARUMBOTT_CHANGE_START_LOST 1   /* residue 1 changes */
+#define GARUMBOTT_CHANGE_EXTENSION 2    /* something is deleted, and R has its stop there */
+#define GARUMBOTT_CHANGE_STOP_GAINED 3  /* A has its stop there */
+#define GARUMBOTT_CHANGE_FRAMESHIFT 4   /* the frameshift flag is set */
+#define GARUMBOTT_CHANGE_SUBSTITUTION 5 /* one residue for one */
+#define GARUMBOTT_CHANGE_DELETION 6     /* nothing inserted */
+#define GARUMBOTT_CHANGE_DUPLICATION 7  /* nothing deleted, and the inserted residues repeat those just before; not a copy from residue 1 */
+#define GARUMBOTT_CHANGE_INSERTION 8    /* nothing deleted */
+#define GARUMBOTT_CHANGE_DELINS 9
+
+/* Refusals. 0 is none. */
+#define GARUMBOTT_REFUSAL_LENGTH 1           /* the transcript has no letter, or more than GARUMBOTT_LONGEST */
+#define GARUMBOTT_REFUSAL_LETTER 2           /* a letter isn't one of ACGTRYSWKMBDHVN (plain translation: either case, and U too) */
+#define GARUMBOTT_REFUSAL_BOUNDS 3           /* not 1 <= cs <= ce <= letters_len, or ce-cs+1 not divisible by 3, or below 6 */
+#define GARUMBOTT_REFUSAL_TABLE 4            /* the table isn't 0, 1 or 2 */
+#define GARUMBOTT_REFUSAL_EXCEPTIONS 5       /* exceptions break a rule */
+#define GARUMBOTT_REFUSAL_LAST_CODON 6       /* the last codon of the CDS, exceptions applied, doesn't read '*' */
+#define GARUMBOTT_REFUSAL_POSITION 7         /* a position is none, or outside, or a duplication ends behind the transcript */
+#define GARUMBOTT_REFUSAL_ORDER 8            /* start behind end, anchors no neighbours, or a substitution at two places */
+#define GARUMBOTT_REFUSAL_OUT_OF_CDS 9       /* both ends before the CDS, both behind it, or an insertion that begins before it */
+#define GARUMBOTT_REFUSAL_BASES 10           /* new bases missing, too many, of a wrong letter, or not wanted; unknown kind */
+#define GARUMBOTT_REFUSAL_TRANSCRIPT_ROOM 11 /* the transcript buffer is too short */
+#define GARUMBOTT_REFUSAL_PROTEIN_ROOM 12    /* a protein buffer is too short */
+#define GARUMBOTT_REFUSAL_CODON 14           /* full codons were demanded and the length isn't divisible by 3 */
+#define GARUMBOTT_REFUSAL_OUTPUT 15          /* an output doesn't fit; a name is unknown, or three-letter names aren't three each */
+#define GARUMBOTT_REFUSAL_CUT 20             /* stored: a field is cut off */
+#define GARUMBOTT_REFUSAL_TAG 21             /* stored: a tag is unknown, repeated or not rising */
+#define GARUMBOTT_REFUSAL_MISSING 22         /* stored: letters, bounds or table are missing */
+#define GARUMBOTT_REFUSAL_FIELD 23           /* stored: a field's length is wrong for its tag */
+#define GARUMBOTT_REFUSAL_LINE 30            /* a text line isn't in the form */
+
+/* ---- Answers ------------------------------------------------------------------------------------------------------------------------ */
+
+/* What a function answers that fills one buffer: a refusal's number and 0, or 0 and the number of bytes written. */
+struct garumbott_length {
+    uint64_t refusal;
+    uint64_t len;
+};
+
+/* What garumbott_edit and garumbott_record answer. R is the reference protein, A the altered one. Places count from 0, residue numbers from 1.
+ *
+ *                   refused  unknown  no protein  silent    changed
+ *   answer          0        1        2           3         4
+ *   refusal         number   0        0           0         0
+ *   frameshift      0        0        flag        flag      flag
+ *   .._len          0        0        written     written   written
+ *   change, first   0        0        0           0         class; first only for a duplication
+ *   number          0        0        0           n         n
+ *   deleted         0, 0     0, 0     0, 0        n-1, 1    n-1, length
+ *   inserted        0, 0     0, 0     0, 0        n-1, 1    n-1, length
+ */
+struct garumbott_answer {
+    uint64_t answer;         /* GARUMBOTT_REFUSED .. GARUMBOTT_CHANGED */
+    uint64_t refusal;        /* GARUMBOTT_REFUSAL_.., or 0 */
+    uint64_t frameshift;     /* the frameshift flag, 1 or 0: see garumbott_record */
+    uint64_t transcript_len; /* bytes written to each buffer */
+    uint64_t reference_len;
+    uint64_t altered_len;
+    uint64_t change;       /* GARUMBOTT_CHANGE_.., or 0 */
+    uint64_t number;       /* of the first residue that changes; silent: of the edited codon, or the one behind a duplication, within R */
+    uint64_t deleted_at;   /* the residues of R that go: R[deleted_at] .. R[deleted_at + deleted_len - 1] */
+    uint64_t deleted_len;  /* may be 0 */
+    uint64_t inserted_at;  /* the residues of A that come: A[inserted_at] .. A[inserted_at + inserted_len - 1] */
+    uint64_t inserted_len; /* may be 0 */
+    uint64_t first;        /* duplication: the number of the first residue that is repeated, else 0 */
+};
+
+/* What garumbott_read_stored answers: a refusal's number and every other number 0, or 0, the reference's numbers, and where its letters and its
+ * exceptions stand in the bytes that were read. Places count from 0. */
+struct garumbott_stored {
+    uint64_t refusal; /* GARUMBOTT_REFUSAL_.., or 0 */
+    uint64_t cs;
+    uint64_t ce;
+    uint64_t table;
+    uint64_t letters_at; /* the letters: data[letters_at] .. data[letters_at + letters_len - 1] */
+    uint64_t letters_len;
+    uint64_t exceptions_at; /* the exceptions, likewise; without a field for them, 0 bytes at 0 */
+    uint64_t exceptions_len;
+};
+
+/* ---- Edits -------------------------------------------------------------------------------------------------------------------------- */
+
+/* The whole answer to one edit of a reference.
+ *
+ * The reference:
+ *   letters, letters_len         the transcript, 1 to 16,384 upper-case letters (1, 2)
+ *   cs, ce                       first and last base of the CDS, counted from 1, both included (3)
+ *   table                        0: the standard code; 1: TGA is U; 2: TGA is W, ATA is M, AGA and AGG are '*' (4)
+ *   exceptions, exceptions_len   at most 16, three bytes each as above, codon numbers strictly rising and within the CDS; none: length 0.
+ *                                A length that isn't divisible by three is refused like any other fault of theirs (5)
+ * The edit:
+ *   kind                         GARUMBOTT_SUBSTITUTION .. GARUMBOTT_IDENTITY
+ *   start_star, start            the first position: start_star 0 and start = p, or start_star 1 and start = q.
+ *   end_star, end                the last position, the same as the first where there is only one.
+ *                                p > 0 is base p of the CDS, p < 0 the base -p before it, q > 0 base q behind it ("*q"), at most 65,535.
+ *                                A base behind the CDS is only ever a star. Every other pair of numbers is no position (7)
+ *   bases, bases_len             the new bases, upper-case letters: one for a substitution, 1 to 4,096 for delins and insertion, none for
+ *                                the other kinds (10)
+ * The buffers, each with its length:
+ *   transcript                   gets the altered transcript (11)
+ *   reference                    gets R (12)
+ *   altered                      gets A (12)
+ *
+ * What it does:
+ *   An edit that begins before the CDS changes bases from base 1 of the CDS on: the bases before it stay.
+ *   New bases of an insertion, and the copy of a duplication, end with the first stop codon that they make: what they have behind it is dropped,
+ *     and such an edit is no frameshift. So the transcript may be shorter than you would count.
+ *   The frameshift flag is set where the change of length, before that, isn't divisible by 3, and where a deletion, delins or substitution begins in the
+ *     CDS and ends behind it; never where the bases are put back as they were, nor in an inversion or an identity.
+ *   A is read from base 1 of the CDS through the first '*', to the transcript's end where there is none, with 'X' for one or two bases that are left. An
+ *     exception stays with its codon where the edit leaves that codon as it was and in frame, and is dropped otherwise.
+ *
+ * Refusals 1 to 12, the lowest that applies; but Unknown is decided before 11, so that it needs no room. Refused and Unknown write nothing;
+ * every other answer writes all three buffers. */
+struct garumbott_answer garumbott_record(const uint8_t *letters, uint64_t letters_len, uint64_t cs, uint64_t ce, uint64_t table,
+                                         const uint8_t *exceptions, uint64_t exceptions_len, uint64_t kind, uint64_t start_star,
+                                         int64_t start, uint64_t end_star, int64_t end, const uint8_t *bases, uint64_t bases_len,
+                                         uint8_t *transcript, uint64_t transcript_len, uint8_t *reference, uint64_t reference_len,
+                                         uint8_t *altered, uint64_t altered_len);
+
+/* The altered transcript alone. Parameters, refusals 1 to 11 and Unknown are those of garumbott_record. Where it writes, the answer is
+ * GARUMBOTT_CHANGED, with transcript_len and frameshift, and every other number is 0: no protein was compared. */
+struct garumbott_answer garumbott_edit(const uint8_t *letters, uint64_t letters_len, uint64_t cs, uint64_t ce, uint64_t table,
+                                       const uint8_t *exceptions, uint64_t exceptions_len, uint64_t kind, uint64_t start_star,
+                                       int64_t start, uint64_t end_star, int64_t end, const uint8_t *bases, uint64_t bases_len,
+                                       uint8_t *transcript, uint64_t transcript_len);
+
+/* ---- Stored references -------------------------------------------------------------------------------------------------------------- */
+
+/* Reads a reference from its stored form, and judges it: 1 to 6 are tested here as in garumbott_record.
+ *
+ * The stored form is fields, one behind the other, with nothing else between or behind them. A field is a tag of one byte, a length of two
+ * bytes and as many bytes of content as the length says. Every number of two bytes has its high byte first. Tags rise, so none comes twice:
+ *   1   letters      the transcript
+ *   2   bounds       cs, then ce, two bytes each
+ *   3   table        one byte
+ *   4   exceptions   three bytes each, as above; the field may be empty, or absent
+ * The reference of the example above is "\1\0\27GGATGGCCAAATGGTAACCTGAC" "\2\0\4\0\3\0\21" "\3\0\1\0".
+ *
+ * Refusals, the first that applies:
+ *   20, 21, 23   met in the order of the fields; in one field 21 before 20 before 23.
+ *                20: the bytes end within the field.
+ *                21: the tag isn't 1 to 4, or isn't above the tag before it.
+ *                23: the length isn't 4 for tag 2, 1 for tag 3, or divisible by three for tag 4; tag 1 may have any length here
+ *   22           tag 1, 2 or 3 is missing
+ *   1 to 6       the lowest
+ *
+ * Nothing is copied: the letters and the exceptions stay where they stand in data, which must stay as it is while they are used.
+ * garumbott_reference_at, below, makes of the answer what garumbott_record_of and garumbott_edit_of take. */
+struct garumbott_stored garumbott_read_stored(const uint8_t *data, uint64_t data_len);
+
+/* ---- The text program --------------------------------------------------------------------------------------------------------------- */
+
+/* The text program over memory: the first line of the input is "ref CS CE TABLE LETTERS", each line behind it an edit ("8A>G", "5del", "4_6dup", "9_10insTAG",
+ * "4_6delinsTT", "4_6inv", "4="; positions "7", "-2", "*3"), and each is answered by a line: "reference MAKW*", "substitution 3 K R", "refused 7". A line
+ * ends at a line feed, the last perhaps without; lines that aren't in the form, empty ones and those above 20,480 bytes are answered "refused 30".
+ * A refused first line ends the run. An answer has at most 16,415 bytes, its line feed included.
+ * Refusal 15: the answers don't fit; then no byte of out has changed. Nothing else is refused. */
+struct garumbott_length garumbott_run(const uint8_t *input, uint64_t input_len, uint8_t *out, uint64_t out_len);
+
+/* ---- Byte strings ------------------------------------------------------------------------------------------------------------------- */
+
+/* Translates codon by codon: one residue a codon, then one 'X' if one or two bytes remain. Letters may be of either case, and U is T. A codon
+ * of ambiguous letters reads as its residue if all its plain codons agree, else 'X'. A remaining byte isn't looked at.
+ *   full         not 0: a length that isn't divisible by 3 is refused (14)
+ *   exceptions   as in garumbott_record, but codon numbers may come in any order, and the last one for a codon counts; one behind the whole codons does
+ *                nothing. The letters of its codon must be good all the same
+ *   out          needs (seq_len + 2) / 3 bytes (15)
+ * The first of these that applies is given: 4, 5, 14, 15, 2. */
+struct garumbott_length garumbott_translate(const uint8_t *seq, uint64_t seq_len, uint64_t table, uint64_t full, const uint8_t *exceptions,
+                                            uint64_t exceptions_len, uint8_t *out, uint64_t out_len);
+
+/* The reverse complement of upper-case letters. out needs seq_len bytes. The first of these that applies is given: 15, 2. */
+struct garumbott_length garumbott_complement(const uint8_t *seq, uint64_t seq_len, uint8_t *out, uint64_t out_len);
+
+/* One-letter residue names to three-letter names: "MA*" to "MetAlaTer". Twenty residues, U Sec, X Xaa, B Asx, Z Glx, '*' Ter; case counts. out
+ * needs 3 * one_len bytes. Refusal 15: a name is unknown, or the output doesn't fit. */
+struct garumbott_length garumbott_names3(const uint8_t *one, uint64_t one_len, uint8_t *out, uint64_t out_len);
+
+/* And back. out needs three_len / 3 bytes. Refusal 15: a name is unknown, the length isn't divisible by three, or the output doesn't fit. */
+struct garumbott_length garumbott_names1(const uint8_t *three, uint64_t three_len, uint8_t *out, uint64_t out_len);
+
+/* The number of equal first, or equal last, bytes of two byte strings. Nothing is refused; a and b may be the same. */
+uint64_t garumbott_common_prefix(const uint8_t *a, uint64_t a_len, const uint8_t *b, uint64_t b_len);
+uint64_t garumbott_common_suffix(const uint8_t *a, uint64_t a_len, const uint8_t *b, uint64_t b_len);
+
+/* ---- The same over structs ---------------------------------------------------------------------------------------------------------- */
+
+/* Twenty arguments in a row are easy to mix up: these hold them by name. Members that an initializer leaves out are 0, which is right for
+ * exceptions, stars, bases and table 0. */
+struct garumbott_reference {
+    const uint8_t *letters;
+    uint64_t letters_len;
+    uint64_t cs;
+    uint64_t ce;
+    uint64_t table;
+    const uint8_t *exceptions;
+    uint64_t exceptions_len;
+};
+
+struct garumbott_coding_edit {
+    uint64_t kind;
+    uint64_t start_star;
+    int64_t start;
+    uint64_t end_star;
+    int64_t end;
+    const uint8_t *bases;
+    uint64_t bases_len;
+};
+
+struct garumbott_buffers {
+    uint8_t *transcript;
+    uint64_t transcript_len;
+    uint8_t *reference;
+    uint64_t reference_len;
+    uint8_t *altered;
+    uint64_t altered_len;
+};
+
+/* The reference that garumbott_read_stored found in data; it points into data. Of a refusal: a reference without letters, refused with 1. */
+static inline struct garumbott_reference garumbott_reference_at(const struct garumbott_stored *s, const uint8_t *data)
+{
+    struct garumbott_reference r;
+    r.letters = s->letters_len == 0 ? NULL : data + s->letters_at;
+    r.letters_len = s->letters_len;
+    r.cs = s->cs;
+    r.ce = s->ce;
+    r.table = s->table;
+    r.exceptions = s->exceptions_len == 0 ? NULL : data + s->exceptions_at;
+    r.exceptions_len = s->exceptions_len;
+    return r;
+}
+
+static inline struct garumbott_answer garumbott_record_of(const struct garumbott_reference *r, const struct garumbott_coding_edit *e,
+                                                          const struct garumbott_buffers *b)
+{
+    return garumbott_record(r->letters, r->letters_len, r->cs, r->ce, r->table, r->exceptions, r->exceptions_len, e->kind, e->start_star,
+                            e->start, e->end_star, e->end, e->bases, e->bases_len, b->transcript, b->transcript_len, b->reference,
+                            b->reference_len, b->altered, b->altered_len);
+}
+
+/* Only the transcript buffer is used. */
+static inline struct garumbott_answer garumbott_edit_of(const struct garumbott_reference *r, const struct garumbott_coding_edit *e,
+                                                        const struct garumbott_buffers *b)
+{
+    return garumbott_edit(r->letters, r->letters_len, r->cs, r->ce, r->table, r->exceptions, r->exceptions_len, e->kind, e->start_star,
+                          e->start, e->end_star, e->end, e->bases, e->bases_len, b->transcript, b->transcript_len);
+}
+
+/* Room that is enough for any edit of a kind with so many new bases. Less may do: 11 and 12 ask for the altered length itself, and for a
+ * residue of each of its codons from cs on. The numbers are those of a reference and an edit that aren't refused; garumbott_record with three buffers
+ * of length 0 tells whether they are: it answers 11 or 12 to one that is accepted. */
+static inline uint64_t garumbott_transcript_room(uint64_t letters_len, uint64_t kind, uint64_t bases_len)
+{
+    return letters_len + (kind == GARUMBOTT_DUPLICATION ? letters_len : bases_len);
+}
+
+/* Exactly what 12 asks for R. */
+static inline uint64_t garumbott_reference_room(uint64_t cs, uint64_t ce)
+{
+    return ce < cs ? 0 : (ce + 1 - cs) / 3;
+}
+
+/* Of an altered transcript of so many bases, exactly what 12 asks for A. */
+static inline uint64_t garumbott_altered_room(uint64_t transcript_len, uint64_t cs)
+{
+    return transcript_len + 3 < cs ? 0 : (transcript_len + 3 - cs) / 3;
+}
+
+/* ---- Words -------------------------------------------------------------------------------------------------------------------------- */
+
+/* The name of a class of change as the text program prints it, "?" for any other number. */
+static inline const char *garumbott_class_name(uint64_t change)
+{
+    switch (change) {
+    case GARUMBOTT_CHANGE_START_LOST: return "start-lost";
+    case GARUMBOTT_CHANGE_EXTENSION: return "extension";
+    case GARUMBOTT_CHANGE_STOP_GAINED: return "stop-gained";
+    case GARUMBOTT_CHANGE_FRAMESHIFT: return "frameshift";
+    case GARUMBOTT_CHANGE_SUBSTITUTION: return "substitution";
+    case GARUMBOTT_CHANGE_DELETION: return "deletion";
+    case GARUMBOTT_CHANGE_DUPLICATION: return "duplication";
+    case GARUMBOTT_CHANGE_INSERTION: return "insertion";
+    case GARUMBOTT_CHANGE_DELINS: return "delins";
+    default: return "?";
+    }
+}
+
+#ifdef __cplusplus
+}
+#endif
+
+#endif

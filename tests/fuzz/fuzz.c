@@ -1,0 +1,596 @@
+/* fuzz SECONDS SEED: calls every entry point on random bytes, on good input and on damaged copies of it, through fenced memory, and holds each
+ * answer to what can be told without a second account of the rules: no byte changes that shouldn't, every number is in its range, the answers of
+ * different entry points fit together, the altered transcript is what the edit makes of the letters, the record carried out on one protein gives the
+ * other, and a stored reference is what its fields, read plainly, and garumbott_record make of it. In the end every answer, class and refusal must have come up. Prints the call's seed where a check fails, and exits 1. */
+#define _DEFAULT_SOURCE
+#include "../host/fence.h"
+#include "garumbott.h"
+#include <inttypes.h>
+#include <stdio.h>
+#include <stdlib.h>
+#include <string.h>
+#include <time.h>
+
+/* ---- chance ------------------------------------------------------------------------------------------------------------------------- */
+
+static uint64_t state, case_seed;
+
+static uint64_t chance(void)
+{
+    state += UINT64_C(0x9E3779B97F4A7C15);
+    uint64_t z = state;
+    z = (z ^ (z >> 30)) * UINT64_C(0xBF58476D1CE4E5B9);
+    z = (z ^ (z >> 27)) * UINT64_C(0x94D049BB133111EB);
+    return z ^ (z >> 31);
+}
+
+static uint64_t below(uint64_t n)
+{
+    return n == 0 ? 0 : chance() % n;
+}
+
+static int one_in(uint64_t n)
+{
+    return below(n) == 0;
+}
+
+/* Numbers at the ends of the widths. */
+static uint64_t strange(void)
+{
+    static const uint64_t all[] = {0, 1, 2, 3, 4, 8, 16, 17, 99, 255, 256, 257, 4096, 4097, 16384, 16385, 65535, 65536, INT32_MAX, UINT32_MAX,
+                                   UINT64_C(1) << 32, (UINT64_C(1) << 32) + 1, INT64_MAX, UINT64_C(1) << 63, UINT64_MAX - 2, UINT64_MAX};
+    return one_in(4) ? chance() : all[below(sizeof all / sizeof *all)];
+}
+
+/* ---- checks ------------------------------------------------------------------------------------------------------------------------- */
+
+static unsigned long checks, faults, found, answers[5], classes[10], refusals[64];
+static const char *doing = "";
+
+static void check(int good, const char *what)
+{
+    checks++;
+    if (!good) {
+        faults++;
+        printf("FAILED %s: %s (call of seed %" PRIu64 ")\n", doing, what, case_seed);
+        if (faults > 20) exit(1);
+    }
+}
+
+enum { LETTERS, EXCEPTIONS, BASES, TRANSCRIPT, REFERENCE, ALTERED, STORED, FENCES };
+static struct fence small[FENCES], large[FENCES], *fences;
+
+static const uint8_t *lend(int which, enum fence_side side, const uint8_t *from, uint64_t len)
+{
+    return len == 0 && one_in(2) ? NULL : fence_fill(&fences[which], side, from, len);
+}
+
+static int unchanged(int which, const uint8_t *lent)
+{
+    return lent == NULL || fence_check(&fences[which], NULL, 0);
+}
+
+/* ---- input -------------------------------------------------------------------------------------------------------------------------- */
+
+static uint8_t letters[GARUMBOTT_LONGEST + 8], exceptions[64], bases[GARUMBOTT_MOST_BASES + 8];
+static struct garumbott_reference ref;
+static struct garumbott_coding_edit edit;
+static size_t room[3];
+
+static uint8_t letter(void)
+{
+    return (uint8_t)(one_in(12) ? "RYSWKMBDHVN"[below(11)] : "ACGT"[below(4)]);
+}
+
+static uint8_t residue_at(const uint8_t *codon, uint64_t table)
+{
+    uint8_t r = 0;
+    garumbott_translate(codon, 3, table, 1, NULL, 0, &r, 1);
+    return r;
+}
+
+/* A reference that isn't refused; mostly one that has a single stop. */
+static void make_reference(void)
+{
+    int big = one_in(60);
+    uint64_t codons = big ? below(5461 - 2) + 2 : below(14) + 2, before = below(big ? 3 : 8), behind = below(8), single = !one_in(12);
+    while (before + 3 * codons + behind > GARUMBOTT_LONGEST) behind = 0, before = 0;
+    memset(&ref, 0, sizeof ref);
+    ref.table = below(3);
+    ref.letters = letters;
+    ref.letters_len = before + 3 * codons + behind;
+    ref.cs = before + 1;
+    ref.ce = before + 3 * codons;
+    for (uint64_t i = 0; i < ref.letters_len; i++) letters[i] = letter();
+    for (uint64_t i = 0; single && i + 1 < codons; i++) {
+        uint8_t *codon = letters + before + 3 * i;
+        while (residue_at(codon, ref.table) == '*') codon[below(3)] = letter();
+    }
+    memcpy(letters + ref.ce - 3, ref.table == 2 && one_in(2) ? "AGR" : one_in(2) ? "TAA" : "TAR", 3);
+    ref.exceptions = exceptions;
+    uint64_t codon = 0, many = one_in(3) ? below(17) : 0;
+    for (uint64_t i = 0; i < many; i++) {
+        codon += 1 + below(3);
+        if (codon > codons) break;
+        uint8_t *e = exceptions + ref.exceptions_len;
+        e[0] = (uint8_t)(codon >> 8);
+        e[1] = (uint8_t)codon;
+        e[2] = codon == codons ? '*' : single ? (uint8_t)('A' + below(26)) : (uint8_t) "*UXZ"[below(4)];
+        ref.exceptions_len += 3;
+    }
+}
+
+static void make_position(uint64_t place, uint64_t *star, int64_t *number)
+{
+    *star = place >= ref.ce;
+    *number = place + 1 < ref.cs ? -(int64_t)(ref.cs - 1 - place) : place >= ref.ce ? (int64_t)(place + 1 - ref.ce) : (int64_t)(place + 2 - ref.cs);
+}
+
+/* An edit of the reference that is seldom refused. */
+static void make_edit(void)
+{
+    uint64_t start = one_in(8) ? below(ref.ce) : ref.cs - 1 + below(ref.ce + 1 - ref.cs), span = one_in(3) ? below(ref.letters_len) : below(7), end = start + span;
+    if (!one_in(20) && end >= ref.letters_len) end = ref.letters_len - 1;
+    memset(&edit, 0, sizeof edit);
+    edit.kind = 1 + below(7);
+    if (edit.kind == GARUMBOTT_SUBSTITUTION) end = start;
+    if (edit.kind == GARUMBOTT_INSERTION) end = start + 1;
+    make_position(start, &edit.start_star, &edit.start);
+    make_position(end, &edit.end_star, &edit.end);
+    edit.bases = bases;
+    if (edit.kind == GARUMBOTT_SUBSTITUTION || edit.kind == GARUMBOTT_DELINS || edit.kind == GARUMBOTT_INSERTION) {
+        edit.bases_len = edit.kind == GARUMBOTT_SUBSTITUTION ? 1 : one_in(50) ? 1 + below(4096) : 1 + below(9);
+        for (uint64_t i = 0; i < edit.bases_len; i++) bases[i] = letter();
+        if (one_in(6) && edit.kind == GARUMBOTT_DELINS && end < ref.letters_len && end + 1 - start <= 4096) { /* the same bases put back */
+            edit.bases_len = end + 1 - start;
+            memcpy(bases, letters + start, edit.bases_len);
+        }
+    }
+}
+
+static void damage(uint8_t *s, uint64_t *len, uint64_t most)
+{
+    switch (below(5)) {
+    case 0: if (*len != 0) s[below(*len)] = (uint8_t)chance(); break;
+    case 1: if (*len != 0) --*len; break;
+    case 2: if (*len < most) s[(*len)++] = (uint8_t)chance(); break;
+    case 3: if (*len != 0) s[below(*len)] ^= (uint8_t)(1u << below(8)); break;
+    default: *len = below(*len + 1); break;
+    }
+}
+
+static void damage_number(uint64_t *n)
+{
+    uint64_t by = below(4);
+    *n = one_in(2) ? strange() : one_in(2) ? *n + by : *n - by;
+}
+
+static void damage_signed(int64_t *n)
+{
+    uint64_t u = (uint64_t)*n;
+    damage_number(&u);
+    memcpy(n, &u, sizeof u);
+}
+
+static void damage_call(void)
+{
+    switch (below(12)) {
+    case 0: damage(letters, &ref.letters_len, sizeof letters); break;
+    case 1: damage_number(&ref.cs); break;
+    case 2: damage_number(&ref.ce); break;
+    case 3: damage_number(&ref.table); break;
+    case 4: damage(exceptions, &ref.exceptions_len, sizeof exceptions); break;
+    case 5: damage_number(&edit.kind); break;
+    case 6: damage_number(&edit.start_star); break;
+    case 7: damage_signed(&edit.start); break;
+    case 8: damage_number(&edit.end_star); break;
+    case 9: damage_signed(&edit.end); break;
+    case 10: damage(bases, &edit.bases_len, sizeof bases); break;
+    default: /* bytes of any kind */
+        for (uint64_t i = 0; i < ref.letters_len; i++) letters[i] = (uint8_t)chance();
+        break;
+    }
+}
+
+/* ---- edits -------------------------------------------------------------------------------------------------------------------------- */
+
+struct outcome {
+    struct garumbott_answer a;
+    uint8_t t[GARUMBOTT_TRANSCRIPT_ROOM], r[GARUMBOTT_REFERENCE_ROOM], p[GARUMBOTT_ALTERED_ROOM];
+};
+
+static int same(const struct garumbott_answer *a, const struct garumbott_answer *b)
+{
+    return memcmp(a, b, sizeof *a) == 0;
+}
+
+/* What an answer says of itself, and that only what it wrote changed. */
+static void edit_call(int alone, enum fence_side side, const size_t size[3], struct outcome *o)
+{
+    struct garumbott_reference r = ref;
+    struct garumbott_coding_edit e = edit;
+    struct garumbott_buffers b;
+    r.letters = lend(LETTERS, side, letters, ref.letters_len);
+    r.exceptions = lend(EXCEPTIONS, side, exceptions, ref.exceptions_len);
+    e.bases = lend(BASES, side, bases, edit.bases_len);
+    b.transcript = fence_fill(&fences[TRANSCRIPT], side, NULL, size[0]);
+    b.reference = fence_fill(&fences[REFERENCE], side, NULL, size[1]);
+    b.altered = fence_fill(&fences[ALTERED], side, NULL, size[2]);
+    b.transcript_len = size[0];
+    b.reference_len = size[1];
+    b.altered_len = size[2];
+    doing = alone ? "garumbott_edit" : "garumbott_record";
+    o->a = alone ? garumbott_edit_of(&r, &e, &b) : garumbott_record_of(&r, &e, &b);
+    const struct garumbott_answer *a = &o->a, none = {.answer = a->answer, .refusal = a->refusal};
+    check(unchanged(LETTERS, r.letters) && unchanged(EXCEPTIONS, r.exceptions) && unchanged(BASES, e.bases), "input changed");
+    check(a->transcript_len <= size[0] && a->reference_len <= size[1] && a->altered_len <= size[2], "more written than there is room");
+    check(fence_check(&fences[TRANSCRIPT], NULL, a->transcript_len), "transcript buffer");
+    check(fence_check(&fences[REFERENCE], NULL, a->reference_len), "reference buffer");
+    check(fence_check(&fences[ALTERED], NULL, a->altered_len), "altered buffer");
+    check(a->answer <= 4 && (a->answer == 0) == (a->refusal != 0), "answer and refusal");
+    check(a->refusal <= (alone ? 11u : 12u), "refusal's number");
+    if (a->answer < 2) check(same(a, &none), "a refusal or Unknown tells more");
+    check(a->frameshift <= 1 && a->change <= 9 && (a->change != 0) == (a->answer == 4 && !alone), "flag and class");
+    memcpy(o->t, b.transcript, a->transcript_len);
+    memcpy(o->r, b.reference, a->reference_len);
+    memcpy(o->p, b.altered, a->altered_len);
+}
+
+/* The altered transcript, made in the plainest way. */
+static uint64_t plain_transcript(uint8_t *out)
+{
+    uint64_t L = ref.letters_len, first = ref.cs - 1, put_len = edit.bases_len;
+    uint64_t start = edit.start_star ? ref.ce + (uint64_t)edit.start - 1 : edit.start < 0 ? first : first + (uint64_t)edit.start - 1;
+    uint64_t end = edit.end_star ? ref.ce + (uint64_t)edit.end - 1 : edit.end < 0 ? first : first + (uint64_t)edit.end - 1;
+    static uint8_t put[GARUMBOTT_LONGEST], framed[GARUMBOTT_LONGEST + 2], read[GARUMBOTT_LONGEST];
+    start = start < L ? start : L;
+    end = end < L ? end + 1 : L;
+    memcpy(put, bases, put_len);
+    uint64_t from = start, to = end;
+    if (edit.kind == GARUMBOTT_INSERTION) from = to = start + 1;
+    if (edit.kind == GARUMBOTT_DUPLICATION) from = to = end;
+    if (edit.kind >= GARUMBOTT_DUPLICATION) memcpy(put, letters + start, put_len = end - start);
+    if (edit.kind == GARUMBOTT_INVERSION) garumbott_complement(letters + start, put_len, put, put_len);
+    if (edit.kind == GARUMBOTT_INSERTION || edit.kind == GARUMBOTT_DUPLICATION) {
+        uint64_t frame = (from - first) % 3;
+        memset(framed, 'N', frame);
+        memcpy(framed + frame, put, put_len);
+        struct garumbott_length n = garumbott_translate(framed, frame + put_len, ref.table, 0, NULL, 0, read, sizeof read);
+        const uint8_t *stop = memchr(read, '*', n.len);
+        if (stop != NULL) put_len = 3 * ((uint64_t)(stop - read) + 1) - frame;
+    }
+    memcpy(out, letters, from);
+    memcpy(out + from, put, put_len);
+    memcpy(out + from + put_len, letters + to, L - to);
+    return from + put_len + (L - to);
+}
+
+static uint64_t plain_class(const struct outcome *o, uint64_t s)
+{
+    const struct garumbott_answer *a = &o->a;
+    uint64_t d = a->deleted_len, i = a->inserted_len;
+    if (s == 0) return 1;
+    if (d > 0 && o->r[s] == '*') return 2;
+    if (s < a->altered_len && o->p[s] == '*') return 3;
+    if (a->frameshift) return 4;
+    if (d == 1 && i == 1) return 5;
+    if (i == 0) return 6;
+    if (d == 0 && i + 1 < s + 1 && memcmp(o->r + s - i, o->p + s, i) == 0) return 7;
+    return d == 0 ? 8 : 9;
+}
+
+/* The proteins, and the record that tells of them. */
+static void check_proteins(const struct outcome *o)
+{
+    const struct garumbott_answer *a = &o->a;
+    static uint8_t read[GARUMBOTT_ALTERED_ROOM], moved[GARUMBOTT_LONGEST + GARUMBOTT_ALTERED_ROOM];
+    uint64_t m = a->reference_len, n = a->altered_len, s = 0, e = 0;
+    struct garumbott_length all = garumbott_translate(letters + ref.cs - 1, ref.ce + 1 - ref.cs, ref.table, 1, exceptions, ref.exceptions_len, read, sizeof read);
+    check(all.len == m && memcmp(read, o->r, m) == 0, "R isn't the CDS's translation");
+    check(m > 0 && memchr(o->r, '*', m) == o->r + m - 1, "R's only stop isn't its last residue");
+    if (ref.exceptions_len == 0) {
+        all = garumbott_translate(o->t + ref.cs - 1, a->transcript_len + 1 - ref.cs, ref.table, 0, NULL, 0, read, sizeof read);
+        const uint8_t *stop = memchr(read, '*', all.len);
+        uint64_t len = stop == NULL ? all.len : (uint64_t)(stop - read) + 1;
+        check(len == n && memcmp(read, o->p, n) == 0, "A isn't the transcript's translation through its stop");
+    }
+    const uint8_t *stop = n == 0 ? NULL : memchr(o->p, '*', n);
+    check(stop == NULL || stop == o->p + n - 1, "A goes on behind a stop");
+    int equal = m == n && memcmp(o->r, o->p, n) == 0;
+    check(a->answer == (n == 0 ? 2u : equal ? 3u : 4u), "answer");
+    if (a->answer == 3) check(a->number >= 1 && a->number <= m && a->deleted_at == a->number - 1 && a->inserted_at == a->number - 1 && a->deleted_len == 1 && a->inserted_len == 1, "silent");
+    if (a->answer != 4) return;
+    while (s < m && s < n && o->r[s] == o->p[s]) s++;
+    while (!a->frameshift && s + e < m && s + e < n && o->r[m - 1 - e] == o->p[n - 1 - e]) e++;
+    check(a->number == s + 1 && a->deleted_at == s && a->inserted_at == s && a->deleted_len == m - s - e && a->inserted_len == n - s - e, "parts");
+    check(garumbott_common_prefix(o->r, m, o->p, n) == s, "common prefix");
+    check(a->change == plain_class(o, s), "class");
+    check(a->first == (a->change == 7 ? a->number - a->inserted_len : 0), "first");
+    memcpy(moved, o->r, s);
+    memcpy(moved + s, o->p + a->inserted_at, a->inserted_len);
+    memcpy(moved + s + a->inserted_len, o->r + s + a->deleted_len, m - s - a->deleted_len);
+    check(m - a->deleted_len + a->inserted_len == n && memcmp(moved, o->p, n) == 0, "the record carried out on R isn't A");
+}
+
+static void fuzz_edit(void)
+{
+    static struct outcome o, again, alone, wide;
+    static uint8_t plain[GARUMBOTT_TRANSCRIPT_ROOM];
+    static const size_t plenty[3] = {GARUMBOTT_TRANSCRIPT_ROOM, GARUMBOTT_REFERENCE_ROOM, GARUMBOTT_ALTERED_ROOM};
+    make_reference();
+    make_edit();
+    for (uint64_t i = one_in(2) ? 0 : 1 + below(3); i != 0; i--) damage_call();
+    int big = ref.letters_len > 1000 || edit.bases_len > 1000;
+    fences = big ? large : small;
+    static const size_t modest[3] = {3000, 1000, 1000};
+    const size_t *most = big ? plenty : modest;
+    edit_call(0, FENCE_END, most, &wide);
+    if (wide.a.answer < 2) {
+        for (int i = 0; i < 3; i++) room[i] = one_in(2) ? 0 : below(most[i]);
+    } else {
+        room[0] = wide.a.transcript_len;
+        room[1] = wide.a.reference_len;
+        room[2] = garumbott_altered_room(wide.a.transcript_len, ref.cs);
+        for (int i = 0; i < 3; i++) room[i] = one_in(4) ? below(most[i]) : one_in(3) && room[i] != 0 ? room[i] - 1 : room[i];
+    }
+    edit_call(0, FENCE_END, room, &o);
+    edit_call(0, FENCE_START, room, &again);
+    edit_call(1, one_in(2) ? FENCE_END : FENCE_START, room, &alone);
+    doing = "garumbott_record";
+    answers[o.a.answer]++;
+    classes[o.a.change]++;
+    refusals[o.a.refusal]++;
+    check(same(&o.a, &again.a) && memcmp(o.t, again.t, o.a.transcript_len) == 0 && memcmp(o.r, again.r, o.a.reference_len) == 0
+              && memcmp(o.p, again.p, o.a.altered_len) == 0, "two calls differ");
+    if (wide.a.answer < 2) {
+        check(same(&o.a, &wide.a) && same(&alone.a, &wide.a), "room counts in a refusal or Unknown");
+        return;
+    }
+    uint64_t refusal = room[0] < wide.a.transcript_len ? 11 : room[1] < garumbott_reference_room(ref.cs, ref.ce) || room[2] < garumbott_altered_room(wide.a.transcript_len, ref.cs) ? 12 : 0;
+    check(o.a.refusal == refusal, "11 and 12");
+    if (refusal == 0) check(same(&o.a, &wide.a) && memcmp(o.t, wide.t, o.a.transcript_len) == 0 && memcmp(o.p, wide.p, o.a.altered_len) == 0, "room counts in an answer");
+    struct garumbott_answer want = {.answer = 4, .frameshift = wide.a.frameshift, .transcript_len = wide.a.transcript_len}, short_of = {.refusal = 11};
+    check(same(&alone.a, refusal == 11 ? &short_of : &want), "garumbott_edit answers otherwise");
+    check(memcmp(alone.t, wide.t, alone.a.transcript_len) == 0, "garumbott_edit writes otherwise");
+    check(wide.a.transcript_len <= garumbott_transcript_room(ref.letters_len, edit.kind, edit.bases_len), "garumbott_transcript_room");
+    check(plain_transcript(plain) == wide.a.transcript_len && memcmp(plain, wide.t, wide.a.transcript_len) == 0, "the altered transcript");
+    check_proteins(&wide);
+}
+
+/* ---- stored references -------------------------------------------------------------------------------------------------------------- */
+
+static uint8_t form[GARUMBOTT_LONGEST + 256];
+static uint64_t form_len;
+
+static void put_field(uint8_t tag, const void *content, uint64_t len)
+{
+    uint8_t head[3] = {tag, (uint8_t)(len >> 8), (uint8_t)len};
+    if (form_len + 3 + len > sizeof form) return;
+    memcpy(form + form_len, head, 3);
+    memcpy(form + form_len + 3, content, len);
+    form_len += 3 + len;
+}
+
+/* The reference in its stored form; `order` has the tags. */
+static void store(const char *order)
+{
+    uint8_t bounds[4] = {(uint8_t)(ref.cs >> 8), (uint8_t)ref.cs, (uint8_t)(ref.ce >> 8), (uint8_t)ref.ce}, table = (uint8_t)ref.table;
+    form_len = 0;
+    for (; *order != 0; order++) {
+        switch (*order) {
+        case '1': put_field(1, letters, ref.letters_len); break;
+        case '2': put_field(2, bounds, 4); break;
+        case '3': put_field(3, &table, 1); break;
+        default: put_field(4, exceptions, ref.exceptions_len); break;
+        }
+    }
+}
+
+static void make_stored(void)
+{
+    static const char *const orders[] = {"123", "1234", "1324", "2134", "12344", "11234", "12234", "12334", "124", "134", "234", "12", "4", "34"};
+    make_reference();
+    for (uint64_t i = one_in(2) ? 0 : 1 + below(2); i != 0; i--) damage_call();
+    if (one_in(100)) {
+        ref.letters_len = GARUMBOTT_LONGEST + below(3);
+        for (uint64_t i = 0; i < ref.letters_len; i++) letters[i] = letter();
+    }
+    store(one_in(6) ? orders[below(sizeof orders / sizeof *orders)] : one_in(2) && ref.exceptions_len == 0 ? "123" : "1234");
+    for (uint64_t i = one_in(2) ? 0 : 1 + below(3); i != 0; i--) damage(form, &form_len, sizeof form);
+    if (form_len >= 3 && one_in(10)) form[one_in(2) ? 2 : below(form_len)] += (uint8_t)(one_in(2) ? 1 : 255);
+    if (one_in(10)) { /* bytes of any kind, mostly small */
+        form_len = below(40);
+        for (uint64_t i = 0; i < form_len; i++) form[i] = one_in(4) ? (uint8_t)chance() : (uint8_t)below(6);
+    }
+}
+
+/* The form read in the plainest way: its refusal but for 1 to 6, or its parts. */
+static struct garumbott_stored plain_stored(void)
+{
+    struct garumbott_stored s = {0}, no = {0};
+    uint64_t at = 0, last = 0, seen = 0;
+    while (at < form_len && no.refusal == 0) {
+        uint64_t tag = form[at], len = form_len - at < 3 ? UINT64_MAX : form[at + 1] * UINT64_C(256) + form[at + 2];
+        const uint8_t *content = form + at + 3;
+        if (tag > 4 || tag <= last) no.refusal = 21;
+        else if (len > form_len || at + 3 + len > form_len) no.refusal = 20;
+        else if ((tag == 2 && len != 4) || (tag == 3 && len != 1) || (tag == 4 && len % 3 != 0)) no.refusal = 23;
+        else if (tag == 1) s.letters_at = at + 3, s.letters_len = len;
+        else if (tag == 2) s.cs = content[0] * UINT64_C(256) + content[1], s.ce = content[2] * UINT64_C(256) + content[3];
+        else if (tag == 3) s.table = content[0];
+        else s.exceptions_at = at + 3, s.exceptions_len = len;
+        seen |= UINT64_C(1) << (tag & 7);
+        last = tag;
+        at += 3 + len;
+    }
+    if (no.refusal == 0 && (seen & 14) != 14) no.refusal = 22;
+    return no.refusal == 0 ? s : no;
+}
+
+/* What garumbott_record says of the parts alone: 1 to 6, or 0. The edit changes nothing, and there is no room. */
+static uint64_t judged(const struct garumbott_stored *s, const uint8_t *data)
+{
+    static const struct garumbott_coding_edit nothing = {.kind = GARUMBOTT_IDENTITY, .start = 1, .end = 1};
+    static const struct garumbott_buffers none;
+    struct garumbott_reference r = garumbott_reference_at(s, data);
+    struct garumbott_answer a = garumbott_record_of(&r, &nothing, &none);
+    check(a.answer == GARUMBOTT_UNKNOWN || a.refusal == 11 || (a.refusal >= 1 && a.refusal <= 6), "garumbott_record on the parts");
+    return a.refusal <= 6 ? a.refusal : 0;
+}
+
+static void fuzz_stored(void)
+{
+    make_stored();
+    fences = form_len > 3000 ? large : small;
+    doing = "garumbott_read_stored";
+    struct garumbott_stored plain = plain_stored(), want = plain, got[2];
+    for (int side = FENCE_END; side <= FENCE_START; side++) {
+        const uint8_t *data = lend(STORED, side, form, form_len);
+        got[side] = garumbott_read_stored(data, form_len);
+        check(unchanged(STORED, data), "input changed");
+        const struct garumbott_stored *g = &got[side], none = {.refusal = g->refusal};
+        check(g->refusal <= 6 || (g->refusal >= 20 && g->refusal <= 23), "refusal's number");
+        if (g->refusal != 0) check(memcmp(g, &none, sizeof none) == 0, "a refusal tells more");
+        check(g->letters_at <= form_len && g->letters_len <= form_len - g->letters_at, "letters outside the bytes");
+        check(g->exceptions_at <= form_len && g->exceptions_len <= form_len - g->exceptions_at, "exceptions outside the bytes");
+        if (plain.refusal == 0) {
+            uint64_t n = judged(&plain, data);
+            if (n != 0) want = (struct garumbott_stored){.refusal = n};
+            check(unchanged(STORED, data), "input changed");
+        }
+        check(memcmp(g, &want, sizeof want) == 0, "the form read plainly, judged by garumbott_record, says otherwise");
+    }
+    refusals[got[0].refusal]++;
+    if (got[0].refusal == 0) found++;
+}
+
+/* ---- byte strings ------------------------------------------------------------------------------------------------------------------- */
+
+static uint64_t some_bytes(uint8_t *s, uint64_t most, const char *of)
+{
+    uint64_t n = below(most + 1), kinds = strlen(of);
+    for (uint64_t i = 0; i < n; i++) s[i] = kinds == 0 || one_in(60) ? (uint8_t)chance() : (uint8_t)of[below(kinds)];
+    return n;
+}
+
+typedef struct garumbott_length filler(const uint8_t *, uint64_t, uint8_t *, uint64_t);
+
+/* A call that fills one buffer: twice alike, in its room, and 15 exactly where a wider buffer would do. */
+static struct garumbott_length fill(filler *f, const uint8_t *s, uint64_t n, uint8_t *out, uint64_t most)
+{
+    uint64_t size = below(most + 1);
+    struct garumbott_length w = f(fence_fill(&fences[LETTERS], FENCE_END, s, n), n, fence_fill(&fences[TRANSCRIPT], FENCE_END, NULL, most), most);
+    check(fence_check(&fences[LETTERS], NULL, 0) && w.len <= most && fence_check(&fences[TRANSCRIPT], NULL, w.len), "bytes changed");
+    check(w.refusal == 0 || w.len == 0, "a refusal has a length");
+    memcpy(out, fences[TRANSCRIPT].at, w.len);
+    if (w.refusal == 0 && one_in(2)) size = w.len == 0 ? 0 : w.len - below(2);
+    struct garumbott_length a = f(fence_fill(&fences[LETTERS], FENCE_START, s, n), n, fence_fill(&fences[TRANSCRIPT], FENCE_START, NULL, size), size);
+    check(fence_check(&fences[LETTERS], NULL, 0) && a.len <= size && fence_check(&fences[TRANSCRIPT], a.refusal == 0 ? out : NULL, a.len), "bytes changed");
+    if (w.refusal == 0) check(a.refusal == (size < w.len ? 15 : 0) && a.len == (size < w.len ? 0 : w.len), "15, or the same answer");
+    refusals[a.refusal]++;
+    refusals[w.refusal]++;
+    return w;
+}
+
+static uint64_t fill_table, fill_full, fill_exceptions_len;
+
+static struct garumbott_length fill_translate(const uint8_t *s, uint64_t n, uint8_t *out, uint64_t len)
+{
+    const uint8_t *x = fence_fill(&fences[EXCEPTIONS], FENCE_END, exceptions, fill_exceptions_len);
+    struct garumbott_length a = garumbott_translate(s, n, fill_table, fill_full, x, fill_exceptions_len, out, len);
+    check(fence_check(&fences[EXCEPTIONS], NULL, 0), "exceptions changed");
+    return a;
+}
+
+static void fuzz_strings(void)
+{
+    static uint8_t s[1200], t[1200], out[4000], back[4000];
+    uint64_t n, m, i = 0, j = 0;
+    fences = small;
+
+    doing = "garumbott_translate";
+    n = some_bytes(s, one_in(4) ? 900 : 20, one_in(8) ? "" : one_in(3) ? "ACGTRYSWKMBDHVNUacgtryswkmbdhvnu" : "ACGT");
+    fill_table = one_in(10) ? strange() : below(3);
+    fill_full = one_in(2) ? 0 : strange();
+    fill_exceptions_len = one_in(2) ? 0 : 3 * below(18);
+    for (uint64_t k = 0; k < fill_exceptions_len; k += 3) exceptions[k] = 0, exceptions[k + 1] = (uint8_t)(1 + below(9)), exceptions[k + 2] = (uint8_t)('A' + below(26));
+    if (fill_exceptions_len != 0 && one_in(4)) damage(exceptions, &fill_exceptions_len, sizeof exceptions);
+    struct garumbott_length a = fill(fill_translate, s, n, out, 400);
+    if (a.refusal == 0) {
+        check(a.len == (n + 2) / 3 && (fill_full == 0 || n % 3 == 0), "length");
+        for (uint64_t k = 0; k + 3 <= n && fill_exceptions_len == 0; k += 3) check(residue_at(s + k, fill_table) == out[k / 3], "a codon alone reads otherwise");
+        if (n % 3 != 0) check(out[n / 3] == 'X', "a rest isn't X");
+    } else {
+        check(a.refusal == 4 || a.refusal == 5 || a.refusal == 14 || a.refusal == 2, "refusal's number");
+        check((a.refusal == 4) == (fill_table > 2), "4");
+        if (fill_table <= 2 && fill_exceptions_len % 3 != 0) check(a.refusal == 5, "5");
+    }
+
+    doing = "garumbott_run";
+    n = 0;
+    if (!one_in(8)) memcpy(s, "ref 3 17 0 GGATGGCCAAATGGTAACCTGAC\n", n = 35);
+    n += some_bytes(s + n, 300, one_in(8) ? "" : "01234567_-*=>ACGT\n\ndelinsupv");
+    a = fill(garumbott_run, s, n, out, 3900);
+    for (uint64_t k = 0; k < n; k++) i += s[k] == '\n' || k + 1 == n;
+    for (uint64_t k = 0; k < a.len; k++) j += out[k] == '\n';
+    if (a.refusal == 0) check(j == (a.len >= 9 && memcmp(out, "reference", 9) == 0 ? i : i != 0), "a line for each line");
+    else check(a.refusal == 15, "refusal's number");
+    i = j = 0;
+
+    doing = "garumbott_complement";
+    n = some_bytes(s, 900, one_in(8) ? "" : "ACGTRYSWKMBDHVN");
+    a = fill(garumbott_complement, s, n, out, 900);
+    if (a.refusal == 0) check(a.len == n && garumbott_complement(out, n, back, n).refusal == 0 && memcmp(back, s, n) == 0, "twice isn't the same again");
+    else check(a.refusal == 2, "refusal's number");
+
+    doing = "garumbott_names3";
+    n = some_bytes(s, 300, one_in(8) ? "" : "ARNDCQEGHILKMFPSTWYVUXBZ*");
+    a = fill(garumbott_names3, s, n, out, 900);
+    if (a.refusal == 0) check(a.len == 3 * n && garumbott_names1(out, a.len, back, n).len == n && memcmp(back, s, n) == 0, "back isn't the same again");
+    else check(a.refusal == 15, "refusal's number");
+
+    doing = "garumbott_names1";
+    if (a.refusal == 0) {
+        memcpy(s, out, n = a.len);
+        if (n != 0 && one_in(3)) damage(s, &n, sizeof s);
+    } else {
+        n = some_bytes(s, 90, "");
+    }
+    a = fill(garumbott_names1, s, n, out, 300);
+    if (a.refusal == 0) check(3 * a.len == n && garumbott_names3(out, a.len, back, n).len == n && memcmp(back, s, n) == 0, "back isn't the same again");
+    else check(a.refusal == 15, "refusal's number");
+
+    doing = "garumbott_common_prefix and suffix";
+    n = some_bytes(s, 200, one_in(2) ? "A" : "");
+    memcpy(t, s, m = n);
+    for (uint64_t k = below(3); k != 0; k--) damage(t, &m, sizeof t);
+    while (i < n && i < m && s[i] == t[i]) i++;
+    while (j < n && j < m && s[n - 1 - j] == t[m - 1 - j]) j++;
+    const uint8_t *x = lend(LETTERS, FENCE_END, s, n), *y = lend(BASES, FENCE_END, t, m);
+    check(garumbott_common_prefix(x, n, y, m) == i && garumbott_common_suffix(x, n, y, m) == j, "count");
+    x = lend(LETTERS, FENCE_START, s, n), y = lend(BASES, FENCE_START, t, m);
+    check(garumbott_common_prefix(y, m, x, n) == i && garumbott_common_suffix(y, m, x, n) == j, "count");
+}
+
+int main(int argc, char **argv)
+{
+    double seconds = argc > 1 ? strtod(argv[1], NULL) : 30;
+    uint64_t seed = argc > 2 ? strtoull(argv[2], NULL, 10) : 1, calls = 0;
+    static const int wanted[] = {1, 2, 3, 4, 5, 6, 7, 8, 9, 10, 11, 12, 14, 15, 20, 21, 22, 23};
+    time_t until = time(NULL) + (time_t)seconds;
+    for (int i = 0; i < FENCES; i++) fence_make(&small[i], 4000), fence_make(&large[i], 40000);
+    do {
+        for (int i = 0; i < 100; i++, calls++) {
+            case_seed = state = seed + calls * UINT64_C(0x1000003);
+            if (i % 4 == 3) fuzz_strings();
+            else if (i % 4 == 1) fuzz_stored();
+            else fuzz_edit();
+        }
+    } while (time(NULL) < until);
+    for (int i = 0; i < 5; i++) printf("answer %d: %lu\n", i, answers[i]), check(answers[i] != 0, "an answer never came up");
+    printf("stored references found: %lu\n", found), check(found != 0, "no stored reference was found");
+    for (int i = 1; i < 10; i++) printf("%s: %lu\n", garumbott_class_name((uint64_t)i), classes[i]), check(classes[i] != 0, "a class never came up");
+    for (size_t i = 0; i < sizeof wanted / sizeof *wanted; i++) printf("refused %d: %lu\n", wanted[i], refusals[wanted[i]]), check(refusals[wanted[i]] != 0, "a refusal never came up");
+    printf("%" PRIu64 " inputs, %lu checks, %lu failed\n", calls, checks, faults);
+    return faults == 0 ? 0 : 1;
+}

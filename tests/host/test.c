@@ -1,0 +1,986 @@
+/* Calls every entry point of the library with good, bad and boundary input, through fenced memory: a refusal and Unknown must change no byte,
+ * and nothing may change outside of what an answer wrote. Each call is made twice: with the bytes of every slice ending at a page that can't be
+ * touched, and beginning at one. Prints how many checks were made; exits 1 if one failed. */
+#define _DEFAULT_SOURCE
+#include "fence.h"
+#include "garumbott.h"
+#include <pthread.h>
+#include <stdio.h>
+#include <stdlib.h>
+#include <string.h>
+#include <sys/mman.h>
+
+static unsigned long checks, faults;
+
+static void check(int good, const char *name, const char *what)
+{
+    checks++;
+    if (!good) {
+        faults++;
+        printf("FAILED %s: %s\n", name, what);
+    }
+}
+
+static const uint8_t *bytes(const char *s)
+{
+    return (const uint8_t *)s;
+}
+
+/* ---- edits ------------------------------------------------------------------------------------------------------------------------- */
+
+enum { LETTERS, EXCEPTIONS, BASES, TRANSCRIPT, REFERENCE, ALTERED, STORED, FENCES };
+static struct fence fences[FENCES];
+
+struct row {
+    const char *name;
+    const struct garumbott_reference *reference;
+    struct garumbott_coding_edit edit;
+    const char *line; /* the text program's line for the answer */
+    int flag;
+    const char *transcript, *altered; /* what is written */
+};
+
+/* The numbers of an answer, from the text program's line and what is written. */
+static struct garumbott_answer wanted(const char *line, int flag, size_t t, size_t r, size_t a)
+{
+    struct garumbott_answer w = {0};
+    char word[32], deleted[64], inserted[64];
+    unsigned n = 0, first = 0;
+    int parts = sscanf(line, "%31s %u %63s %63s %u", word, &n, deleted, inserted, &first);
+    if (strcmp(word, "refused") == 0) {
+        w.refusal = n;
+        return w;
+    }
+    w.answer = GARUMBOTT_UNKNOWN;
+    if (strcmp(word, "unknown") == 0) return w;
+    w.frameshift = (uint64_t)flag;
+    w.transcript_len = t;
+    w.reference_len = r;
+    w.altered_len = a;
+    w.answer = GARUMBOTT_NO_PROTEIN;
+    if (strcmp(word, "no-protein") == 0) return w;
+    w.answer = GARUMBOTT_SILENT;
+    if (strcmp(word, "silent") != 0) {
+        w.answer = GARUMBOTT_CHANGED;
+        for (w.change = 1; w.change < 10 && strcmp(garumbott_class_name(w.change), word) != 0; w.change++) {}
+    }
+    w.number = n;
+    w.deleted_at = w.inserted_at = n - 1;
+    w.deleted_len = strcmp(deleted, "-") == 0 ? 0 : strlen(deleted);
+    w.inserted_len = strcmp(inserted, "-") == 0 ? 0 : strlen(inserted);
+    w.first = parts == 5 ? first : 0;
+    return w;
+}
+
+static int same(const struct garumbott_answer *a, const struct garumbott_answer *b)
+{
+    return memcmp(a, b, sizeof *a) == 0;
+}
+
+/* What a slice lends: NULL stays NULL, so that its length is 0. */
+static const uint8_t *lend(int which, enum fence_side side, const uint8_t *from, uint64_t len)
+{
+    return from == NULL ? NULL : fence_fill(&fences[which], side, from, len);
+}
+
+/* Both calls on one edit, with buffers of the given sizes: `wa` and `we` are the answers, `t`, `r` and `a` what is written. */
+static void edit_case(const char *name, const struct garumbott_reference *reference, const struct garumbott_coding_edit *edit,
+                      const size_t room[3], const struct garumbott_answer *wa, const struct garumbott_answer *we, const void *t,
+                      const void *r, const void *a)
+{
+    for (int side = FENCE_END; side <= FENCE_START; side++) {
+        struct garumbott_reference ref = *reference;
+        struct garumbott_coding_edit e = *edit;
+        struct garumbott_buffers b;
+        ref.letters = lend(LETTERS, side, reference->letters, reference->letters_len);
+        ref.exceptions = lend(EXCEPTIONS, side, reference->exceptions, reference->exceptions_len);
+        e.bases = lend(BASES, side, edit->bases, edit->bases_len);
+        for (int both = 0; both < 2; both++) {
+            b.transcript = fence_fill(&fences[TRANSCRIPT], side, NULL, room[0]);
+            b.transcript_len = room[0];
+            b.reference = fence_fill(&fences[REFERENCE], side, NULL, room[1]);
+            b.reference_len = room[1];
+            b.altered = fence_fill(&fences[ALTERED], side, NULL, room[2]);
+            b.altered_len = room[2];
+            const struct garumbott_answer *want = both == 0 ? wa : we;
+            struct garumbott_answer got = both == 0 ? garumbott_record_of(&ref, &e, &b) : garumbott_edit_of(&ref, &e, &b);
+            check(same(&got, want), name, both == 0 ? "record's answer" : "edit's answer");
+            check(fence_check(&fences[TRANSCRIPT], t, want->transcript_len), name, "transcript");
+            check(fence_check(&fences[REFERENCE], r, want->reference_len), name, "reference protein");
+            check(fence_check(&fences[ALTERED], a, want->altered_len), name, "altered protein");
+        }
+        if (reference->letters != NULL) check(fence_check(&fences[LETTERS], NULL, 0), name, "letters changed");
+        if (reference->exceptions != NULL) check(fence_check(&fences[EXCEPTIONS], NULL, 0), name, "exceptions changed");
+        if (edit->bases != NULL) check(fence_check(&fences[BASES], NULL, 0), name, "bases changed");
+    }
+}
+
+/* What garumbott_edit answers where garumbott_record answers `a`. */
+static struct garumbott_answer alone(const struct garumbott_answer *a)
+{
+    struct garumbott_answer w = {0};
+    w.refusal = a->refusal;
+    w.answer = a->answer < GARUMBOTT_NO_PROTEIN ? a->answer : GARUMBOTT_CHANGED;
+    w.frameshift = a->frameshift;
+    w.transcript_len = a->transcript_len;
+    return w;
+}
+
+static void put_field(uint8_t **to, uint8_t tag, const void *content, size_t len)
+{
+    uint8_t head[3] = {tag, (uint8_t)(len >> 8), (uint8_t)len};
+    memcpy(*to, head, 3);
+    if (len != 0) memcpy(*to + 3, content, len);
+    *to += 3 + len;
+}
+
+/* The stored form of a reference whose numbers fit, and its length. No exceptions: no field for them. */
+static size_t store(uint8_t *form, const struct garumbott_reference *r)
+{
+    uint8_t *to = form;
+    uint8_t bounds[4] = {(uint8_t)(r->cs >> 8), (uint8_t)r->cs, (uint8_t)(r->ce >> 8), (uint8_t)r->ce}, table = (uint8_t)r->table;
+    put_field(&to, 1, r->letters, r->letters_len);
+    put_field(&to, 2, bounds, 4);
+    put_field(&to, 3, &table, 1);
+    if (r->exceptions_len != 0) put_field(&to, 4, r->exceptions, r->exceptions_len);
+    return (size_t)(to - form);
+}
+
+static int same_stored(const struct garumbott_stored *a, const struct garumbott_stored *b)
+{
+    return memcmp(a, b, sizeof *a) == 0;
+}
+
+/* An edit of a reference that is read from its stored form: refused there with 1 to 6, or answered as it is with the reference itself. */
+static void edit_stored(const char *name, const struct garumbott_reference *reference, const struct garumbott_coding_edit *edit,
+                        const struct garumbott_answer *want, const void *t, const void *r, const void *a)
+{
+    static uint8_t form[66000];
+    if (reference->cs > 65535 || reference->ce > 65535 || reference->table > 255) return;
+    size_t len = store(form, reference), x = reference->exceptions_len, room[3] = {GARUMBOTT_TRANSCRIPT_ROOM, GARUMBOTT_REFERENCE_ROOM, GARUMBOTT_ALTERED_ROOM};
+    uint64_t refusal = x % 3 != 0 ? GARUMBOTT_REFUSAL_FIELD : want->refusal <= 6 ? want->refusal : 0;
+    for (int side = FENCE_END; side <= FENCE_START; side++) {
+        const uint8_t *data = fence_fill(&fences[STORED], side, form, len);
+        struct garumbott_stored got = garumbott_read_stored(data, len), no = {.refusal = refusal},
+                                good = {.cs = reference->cs, .ce = reference->ce, .table = reference->table, .letters_at = 3,
+                                        .letters_len = reference->letters_len, .exceptions_at = x == 0 ? 0 : len - x, .exceptions_len = x};
+        check(same_stored(&got, refusal == 0 ? &good : &no), name, "read_stored's answer");
+        struct garumbott_reference found = garumbott_reference_at(&got, data);
+        struct garumbott_buffers b = {fence_fill(&fences[TRANSCRIPT], side, NULL, room[0]), room[0], fence_fill(&fences[REFERENCE], side, NULL, room[1]),
+                                      room[1], fence_fill(&fences[ALTERED], side, NULL, room[2]), room[2]};
+        struct garumbott_answer one = {.refusal = 1}, answer = garumbott_record_of(&found, edit, &b);
+        const struct garumbott_answer *w = refusal == 0 ? want : &one;
+        check(same(&answer, w), name, "record's answer to the stored reference");
+        check(fence_check(&fences[TRANSCRIPT], t, w->transcript_len), name, "transcript of the stored reference");
+        check(fence_check(&fences[REFERENCE], r, w->reference_len), name, "reference protein of the stored reference");
+        check(fence_check(&fences[ALTERED], a, w->altered_len), name, "altered protein of the stored reference");
+        check(fence_check(&fences[STORED], NULL, 0), name, "stored bytes changed");
+    }
+}
+
+/* A row with exactly the room that its answer asks for, with plenty, and with a byte too little in each buffer. */
+static void row_case(const struct row *x, const char *r)
+{
+    size_t t = strlen(x->transcript), a = strlen(x->altered), n = strlen(r);
+    struct garumbott_answer w = wanted(x->line, x->flag, t, n, a), e = alone(&w);
+    size_t exact[3] = {t, n, garumbott_altered_room(t, x->reference->cs)};
+    size_t plenty[3] = {GARUMBOTT_TRANSCRIPT_ROOM, GARUMBOTT_REFERENCE_ROOM, GARUMBOTT_ALTERED_ROOM};
+    edit_case(x->name, x->reference, &x->edit, plenty, &w, &e, x->transcript, r, x->altered);
+    edit_case(x->name, x->reference, &x->edit, exact, &w, &e, x->transcript, r, x->altered);
+    edit_stored(x->name, x->reference, &x->edit, &w, x->transcript, r, x->altered);
+    if (w.answer < GARUMBOTT_NO_PROTEIN) {
+        size_t none[3] = {0, 0, 0};
+        edit_case(x->name, x->reference, &x->edit, none, &w, &e, "", "", "");
+        return;
+    }
+    for (int i = 0; i < 3; i++) {
+        size_t less[3] = {exact[0], exact[1], exact[2]};
+        if (less[i] == 0) continue;
+        less[i]--;
+        struct garumbott_answer no = {0}, still = e;
+        no.refusal = i == 0 ? GARUMBOTT_REFUSAL_TRANSCRIPT_ROOM : GARUMBOTT_REFUSAL_PROTEIN_ROOM;
+        if (i == 0) still = no;
+        edit_case(x->name, x->reference, &x->edit, less, &no, &still, x->transcript, r, x->altered);
+    }
+}
+
+#define REFERENCE_OF(s, c, d, t, x, n) {.letters = (const uint8_t *)(s), .letters_len = sizeof(s) - 1, .cs = (c), .ce = (d), .table = (t), .exceptions = (const uint8_t *)(x), .exceptions_len = (n)}
+#define ONE(k, p) {.kind = GARUMBOTT_##k, .start = (p), .end = (p)}
+#define TWO(k, p, q) {.kind = GARUMBOTT_##k, .start = (p), .end = (q)}
+#define STAR(k, p, q) {.kind = GARUMBOTT_##k, .start = (p), .end_star = 1, .end = (q)}
+#define ONE_NEW(k, p, s) {.kind = GARUMBOTT_##k, .start = (p), .end = (p), .bases = (const uint8_t *)(s), .bases_len = sizeof(s) - 1}
+#define TWO_NEW(k, p, q, s) {.kind = GARUMBOTT_##k, .start = (p), .end = (q), .bases = (const uint8_t *)(s), .bases_len = sizeof(s) - 1}
+#define STAR_NEW(k, p, q, s) {.kind = GARUMBOTT_##k, .start = (p), .end_star = 1, .end = (q), .bases = (const uint8_t *)(s), .bases_len = sizeof(s) - 1}
+
+static const struct garumbott_reference W = REFERENCE_OF("GGATGGCCAAATGGTAACCTGAC", 3, 17, 0, NULL, 0);
+static const struct garumbott_reference SHORT = REFERENCE_OF("ATGTAA", 1, 6, 0, NULL, 0);
+static const struct garumbott_reference SHORT1 = REFERENCE_OF("ATGTAA", 1, 6, 1, NULL, 0);
+static const struct garumbott_reference TWO_STOPS = REFERENCE_OF("ATGTAATAA", 1, 9, 0, NULL, 0);
+static const struct garumbott_reference SELENO = REFERENCE_OF("ATGTGAAAATAA", 1, 12, 0, "\0\2U", 3);
+static const struct garumbott_reference LAST = REFERENCE_OF("ATGAAAAAA", 1, 9, 0, "\0\3*", 3);
+static const struct garumbott_reference MITO = REFERENCE_OF("CACATAGGATGAATGAACAGAACCTTAGTT", 4, 21, 2, NULL, 0);
+
+/* Document 01's lines, its readings, and exceptions. */
+static void rows(void)
+{
+    static const struct row all[] = {
+        {"8A>G", &W, ONE_NEW(SUBSTITUTION, 8, "G"), "substitution 3 K R", 0, "GGATGGCCAGATGGTAACCTGAC", "MARW*"},
+        {"5del", &W, ONE(DELETION, 5), "frameshift 3 KW* NGNLX", 1, "GGATGGCAAATGGTAACCTGAC", "MANGNLX"},
+        {"4_6dup", &W, TWO(DUPLICATION, 4, 6), "duplication 3 - A 2", 0, "GGATGGCCGCCAAATGGTAACCTGAC", "MAAKW*"},
+        {"12G>A", &W, ONE_NEW(SUBSTITUTION, 12, "A"), "stop-gained 4 W -", 0, "GGATGGCCAAATGATAACCTGAC", "MAK*"},
+        {"13T>C", &W, ONE_NEW(SUBSTITUTION, 13, "C"), "extension 5 * QPD", 0, "GGATGGCCAAATGGCAACCTGAC", "MAKWQPD"},
+        {"6C>T", &W, ONE_NEW(SUBSTITUTION, 6, "T"), "silent 2 A A", 0, "GGATGGCTAAATGGTAACCTGAC", "MAKW*"},
+        {"4_6inv", &W, TWO(INVERSION, 4, 6), "substitution 2 A G", 0, "GGATGGGCAAATGGTAACCTGAC", "MGKW*"},
+        {"1A>G", &W, ONE_NEW(SUBSTITUTION, 1, "G"), "start-lost 1 M V", 0, "GGGTGGCCAAATGGTAACCTGAC", "VAKW*"},
+        {"9_10insTAGC", &W, TWO_NEW(INSERTION, 9, 10, "TAGC"), "stop-gained 4 W -", 0, "GGATGGCCAAATAGTGGTAACCTGAC", "MAK*"},
+        {"1_*6del", &W, STAR(DELETION, 1, 6), "no-protein", 1, "GG", ""},
+        {"1_*7del", &W, STAR(DELETION, 1, 7), "unknown", 0, "", ""},
+        {"16del", &W, ONE(DELETION, 16), "refused 7", 0, "", ""},
+        {"4=", &W, ONE(IDENTITY, 4), "silent 2 A A", 0, "GGATGGCCAAATGGTAACCTGAC", "MAKW*"},
+        {"-2_2del", &W, TWO(DELETION, -2, 2), "start-lost 1 MAKW* GQMVT*", 1, "GGGGCCAAATGGTAACCTGAC", "GQMVT*"},
+        {"15_*1insA", &W, STAR_NEW(INSERTION, 15, 1, "A"), "silent 5 * *", 1, "GGATGGCCAAATGGTAAACCTGAC", "MAKW*"},
+        {"10_*6del", &W, STAR(DELETION, 10, 6), "frameshift 4 W* -", 1, "GGATGGCCAAA", "MAK"},
+        {"4_*2dup", &W, STAR(DUPLICATION, 4, 2), "silent 1 M M", 1, "GGATGGCCAAATGGTAACCGCCAAATGGTAACCTGAC", "MAKW*"},
+        {"12_13insAAA", &W, TWO_NEW(INSERTION, 12, 13, "AAA"), "insertion 5 - K", 0, "GGATGGCCAAATGGAAATAACCTGAC", "MAKWK*"},
+        {"10_12del", &W, TWO(DELETION, 10, 12), "stop-gained 4 W -", 0, "GGATGGCCAAATAACCTGAC", "MAK*"},
+        {"4_9delinsTT", &W, TWO_NEW(DELINS, 4, 9, "TT"), "frameshift 2 AKW* FGNLX", 1, "GGATGTTTGGTAACCTGAC", "MFGNLX"},
+        {"4_6delinsGGGGGG", &W, TWO_NEW(DELINS, 4, 6, "GGGGGG"), "delins 2 A GG", 0, "GGATGGGGGGGAAATGGTAACCTGAC", "MGGKW*"},
+        {"3_4insTRA", &SHORT, TWO_NEW(INSERTION, 3, 4, "TRA"), "silent 1 M M", 0, "ATGTRATAA", "M*"},
+        {"3_4insTRA, table 1", &SHORT1, TWO_NEW(INSERTION, 3, 4, "TRA"), "insertion 2 - X", 0, "ATGTRATAA", "MX*"},
+        {"1_2insTAA", &SHORT, TWO_NEW(INSERTION, 1, 2, "TAA"), "start-lost 1 - I", 0, "ATAATGTAA", "IM*"},
+        {"1_6del", &SHORT, TWO(DELETION, 1, 6), "no-protein", 0, "", ""},
+        {"1_*1=", &SHORT, STAR(IDENTITY, 1, 1), "unknown", 0, "", ""},
+        {"1= of M**", &TWO_STOPS, ONE(IDENTITY, 1), "unknown", 0, "", ""},
+        {"*1del of M**", &TWO_STOPS, {.kind = GARUMBOTT_DELETION, .start_star = 1, .start = 1, .end_star = 1, .end = 1}, "refused 9", 0, "", ""},
+        {"1= with U", &SELENO, ONE(IDENTITY, 1), "silent 1 M M", 0, "ATGTGAAAATAA", "MUK*"},
+        {"6A>G under U", &SELENO, ONE_NEW(SUBSTITUTION, 6, "G"), "substitution 2 U W", 0, "ATGTGGAAATAA", "MWK*"},
+        {"4_6del, stop by exception", &LAST, TWO(DELETION, 4, 6), "extension 3 * -", 0, "ATGAAA", "MK"},
+        {"9A>R, mitochondrial", &MITO, ONE_NEW(SUBSTITUTION, 9, "R"), "silent 3 W W", 0, "CACATAGGATGRATGAACAGAACCTTAGTT", "MGWMN*"},
+        {"18A>Y, mitochondrial", &MITO, ONE_NEW(SUBSTITUTION, 18, "Y"), "extension 6 * STLV", 0, "CACATAGGATGAATGAACAGYACCTTAGTT", "MGWMNSTLV"},
+        {"1= mitochondrial", &MITO, ONE(IDENTITY, 1), "silent 1 M M", 0, "CACATAGGATGAATGAACAGAACCTTAGTT", "MGWMN*"},
+    };
+    for (size_t i = 0; i < sizeof all / sizeof *all; i++) {
+        const struct garumbott_reference *r = all[i].reference;
+        row_case(&all[i], r == &W ? "MAKW*" : r == &SHORT || r == &SHORT1 ? "M*" : r == &SELENO ? "MUK*" : r == &LAST ? "MK*" : r == &MITO ? "MGWMN*" : "M**");
+    }
+}
+
+/* One fault at a time, and pairs of faults for their order: what garumbott_record and garumbott_edit both refuse. */
+struct refusal {
+    const char *name;
+    struct garumbott_reference reference;
+    struct garumbott_coding_edit edit;
+    uint64_t number;
+};
+
+#define POSITIONS(ss, s, es, e) {.kind = GARUMBOTT_DELETION, .start_star = (ss), .start = (s), .end_star = (es), .end = (e)}
+#define WITH(...) {.letters = (const uint8_t *)"GGATGGCCAAATGGTAACCTGAC", .letters_len = 23, .cs = 3, .ce = 17, __VA_ARGS__}
+#define EXCEPTED(s) .exceptions = (const uint8_t *)(s), .exceptions_len = sizeof(s) - 1
+#define SEVENTEEN "\0\1A\0\2A\0\3A\0\4A\0\1A\0\2A\0\3A\0\4A\0\1A\0\2A\0\3A\0\4A\0\1A\0\2A\0\3A\0\4A\0\5*"
+
+static void refusals(void)
+{
+    static const struct refusal all[] = {
+        {"no letters", {.cs = 3, .ce = 17}, ONE(DELETION, 0), 1},
+        {"no letters, a pointer", {.letters = (const uint8_t *)"A", .cs = 3, .ce = 17}, ONE(DELETION, 5), 1},
+        {"lower case", REFERENCE_OF("GGATGGCCAAATGGTAACCTGAc", 3, 17, 0, NULL, 0), ONE(DELETION, 5), 2},
+        {"U", REFERENCE_OF("GGAUGGCCAAATGGTAACCTGAC", 3, 17, 9, NULL, 0), ONE(DELETION, 0), 2},
+        {"zero byte", REFERENCE_OF("GGATGGCCAAATGGTAACCTGA\0", 3, 17, 0, NULL, 0), ONE(DELETION, 5), 2},
+        {"byte 255", REFERENCE_OF("\377GATGGCCAAATGGTAACCTGAC", 3, 17, 0, NULL, 0), ONE(DELETION, 5), 2},
+        {"cs 0", REFERENCE_OF("ATGTAA", 0, 6, 0, NULL, 0), ONE(DELETION, 2), 3},
+        {"ce 0", REFERENCE_OF("ATGTAA", 1, 0, 0, NULL, 0), ONE(DELETION, 2), 3},
+        {"ce past L", REFERENCE_OF("ATGTAA", 1, 7, 0, NULL, 0), ONE(DELETION, 2), 3},
+        {"cs past ce", REFERENCE_OF("ATGTAA", 6, 1, 0, NULL, 0), ONE(DELETION, 2), 3},
+        {"cs one past ce", REFERENCE_OF("ATGTAA", 4, 3, 0, NULL, 0), ONE(DELETION, 2), 3},
+        {"one codon", REFERENCE_OF("TAA", 1, 3, 0, NULL, 0), ONE(DELETION, 2), 3},
+        {"not codons", REFERENCE_OF("ATGATAA", 1, 7, 0, NULL, 0), ONE(DELETION, 2), 3},
+        {"cs of 2^63", REFERENCE_OF("ATGTAA", UINT64_C(1) << 63, 6, 0, NULL, 0), ONE(DELETION, 2), 3},
+        {"bounds of 2^64-1", REFERENCE_OF("ATGTAA", UINT64_MAX, UINT64_MAX, 0, NULL, 0), ONE(DELETION, 2), 3},
+        {"ce of 2^64-1", REFERENCE_OF("ATGTAA", 1, UINT64_MAX, 0, NULL, 0), ONE(DELETION, 2), 3},
+        {"cs of 2^32+1", REFERENCE_OF("ATGTAA", (UINT64_C(1) << 32) + 1, 6, 0, NULL, 0), ONE(DELETION, 2), 3},
+        {"bounds before table", REFERENCE_OF("ATGTAA", 0, 6, 3, NULL, 0), ONE(DELETION, 2), 3},
+        {"table 3", WITH(.table = 3), ONE(DELETION, 5), 4},
+        {"table 256", WITH(.table = 256), ONE(DELETION, 5), 4},
+        {"table 2^32", WITH(.table = UINT64_C(1) << 32), ONE(DELETION, 5), 4},
+        {"table 2^64-1", WITH(.table = UINT64_MAX), ONE(DELETION, 5), 4},
+        {"table before exceptions", WITH(.table = 3, EXCEPTED("\0")), ONE(DELETION, 5), 4},
+        {"a byte of an exception", WITH(EXCEPTED("\0")), ONE(DELETION, 5), 5},
+        {"two bytes of an exception", WITH(EXCEPTED("\0\1")), ONE(DELETION, 5), 5},
+        {"an exception and a byte", WITH(EXCEPTED("\0\1A\0")), ONE(DELETION, 5), 5},
+        {"exceptions' length before position", WITH(EXCEPTED("\0\1A\0")), ONE(DELETION, 0), 5},
+        {"codon 0", WITH(EXCEPTED("\0\0A")), ONE(DELETION, 5), 5},
+        {"codon 6 of 5", WITH(EXCEPTED("\0\6A")), ONE(DELETION, 5), 5},
+        {"codon 256: high byte first", WITH(EXCEPTED("\1\0A")), ONE(DELETION, 5), 5},
+        {"codon twice", WITH(EXCEPTED("\0\2A\0\2A")), ONE(DELETION, 5), 5},
+        {"codons falling", WITH(EXCEPTED("\0\3A\0\2A")), ONE(DELETION, 5), 5},
+        {"residue a", WITH(EXCEPTED("\0\2a")), ONE(DELETION, 5), 5},
+        {"residue [", WITH(EXCEPTED("\0\2[")), ONE(DELETION, 5), 5},
+        {"residue @", WITH(EXCEPTED("\0\2@")), ONE(DELETION, 5), 5},
+        {"seventeen exceptions", WITH(EXCEPTED(SEVENTEEN)), ONE(DELETION, 5), 5},
+        {"exceptions before last codon", REFERENCE_OF("ATGAAA", 1, 6, 0, "\0", 1), ONE(DELETION, 2), 5},
+        {"no stop", REFERENCE_OF("ATGAAA", 1, 6, 0, NULL, 0), ONE(DELETION, 2), 6},
+        {"stop away by exception", WITH(EXCEPTED("\0\5W")), ONE(DELETION, 0), 6},
+        {"TGA in table 1", REFERENCE_OF("ATGTGA", 1, 6, 1, NULL, 0), ONE(DELETION, 2), 6},
+        {"position 0", WITH(.table = 0), ONE(DELETION, 0), 7},
+        {"end 0", WITH(.table = 0), TWO(DELETION, 5, 0), 7},
+        {"past the CDS", WITH(.table = 0), ONE(DELETION, 16), 7},
+        {"before base 1", WITH(.table = 0), TWO(DELETION, -3, 2), 7},
+        {"end before base 1", WITH(.table = 0), TWO(DELETION, 2, -3), 7},
+        {"star 0", WITH(.table = 0), POSITIONS(0, 1, 1, 0), 7},
+        {"star of -1", WITH(.table = 0), POSITIONS(0, 1, 1, -1), 7},
+        {"star of the least number", WITH(.table = 0), POSITIONS(0, 1, 1, INT64_MIN), 7},
+        {"start star of -1", WITH(.table = 0), POSITIONS(1, -1, 1, 2), 7},
+        {"star above 65,535", WITH(.table = 0), POSITIONS(0, 1, 1, 65536), 7},
+        {"star of the greatest number", WITH(.table = 0), POSITIONS(0, 1, 1, INT64_MAX), 7},
+        {"start_star 2", WITH(.table = 0), POSITIONS(2, 5, 0, 5), 7},
+        {"end_star 2", WITH(.table = 0), POSITIONS(0, 5, 2, 5), 7},
+        {"start_star 2^32", WITH(.table = 0), POSITIONS(UINT64_C(1) << 32, 5, 0, 5), 7},
+        {"end_star 2^64-1", WITH(.table = 0), POSITIONS(0, 5, UINT64_MAX, 5), 7},
+        {"least number", WITH(.table = 0), POSITIONS(0, INT64_MIN, 0, 5), 7},
+        {"greatest number", WITH(.table = 0), POSITIONS(0, INT64_MAX, 0, 5), 7},
+        {"2^32+5", WITH(.table = 0), POSITIONS(0, (INT64_C(1) << 32) + 5, 0, 5), 7},
+        {"duplication behind the transcript", WITH(.table = 0), STAR(DUPLICATION, 4, 7), 7},
+        {"7 before 8", WITH(.table = 0), POSITIONS(1, 1, 0, 0), 7},
+        {"start after end", WITH(.table = 0), TWO(DELETION, 6, 4), 8},
+        {"-1_-2", WITH(.table = 0), TWO(DELETION, -1, -2), 8},
+        {"*9_*8", WITH(.table = 0), POSITIONS(1, 9, 1, 8), 8},
+        {"anchors apart", WITH(.table = 0), TWO_NEW(INSERTION, 4, 9, "A"), 8},
+        {"one anchor", WITH(.table = 0), ONE_NEW(INSERTION, 9, "A"), 8},
+        {"substitution at two places", WITH(.table = 0), TWO_NEW(SUBSTITUTION, 4, 5, "G"), 8},
+        {"both before", WITH(.table = 0), ONE(DELETION, -1), 9},
+        {"both behind", WITH(.table = 0), POSITIONS(1, 1, 1, 1), 9},
+        {"insertion from before", WITH(.table = 0), TWO_NEW(INSERTION, -1, 1, "A"), 9},
+        {"unknown kind at -1", WITH(.table = 0), {.kind = 99, .start = -1, .end = -1}, 9},
+        {"kind 0", WITH(.table = 0), {.kind = 0, .start = 5, .end = 5}, 10},
+        {"kind 8", WITH(.table = 0), {.kind = 8, .start = 5, .end = 5}, 10},
+        {"kind 2^32+2", WITH(.table = 0), {.kind = (UINT64_C(1) << 32) + 2, .start = 5, .end = 5}, 10},
+        {"kind 2^64-1", WITH(.table = 0), {.kind = UINT64_MAX, .start = 5, .end = 5}, 10},
+        {"no new base", WITH(.table = 0), ONE(SUBSTITUTION, 5), 10},
+        {"two new bases", WITH(.table = 0), ONE_NEW(SUBSTITUTION, 5, "AC"), 10},
+        {"a new U", WITH(.table = 0), ONE_NEW(SUBSTITUTION, 5, "U"), 10},
+        {"a new a", WITH(.table = 0), ONE_NEW(SUBSTITUTION, 5, "a"), 10},
+        {"a new zero byte", WITH(.table = 0), ONE_NEW(DELINS, 5, "A\0"), 10},
+        {"bases in a deletion", WITH(.table = 0), ONE_NEW(DELETION, 5, "A"), 10},
+        {"no bases in a delins", WITH(.table = 0), ONE(DELINS, 5), 10},
+        {"no bases in an insertion", WITH(.table = 0), TWO(INSERTION, 5, 6), 10},
+        {"bases in a duplication", WITH(.table = 0), ONE_NEW(DUPLICATION, 5, "A"), 10},
+        {"bases in an inversion", WITH(.table = 0), ONE_NEW(INVERSION, 5, "A"), 10},
+        {"bases in an identity", WITH(.table = 0), ONE_NEW(IDENTITY, 5, "A"), 10},
+        {"10 before Unknown", WITH(.table = 0), {.kind = GARUMBOTT_DELINS, .start = 1, .end_star = 1, .end = 7}, 10},
+    };
+    static const size_t rooms[2][3] = {{0, 0, 0}, {GARUMBOTT_TRANSCRIPT_ROOM, GARUMBOTT_REFERENCE_ROOM, GARUMBOTT_ALTERED_ROOM}};
+    for (size_t i = 0; i < sizeof all / sizeof *all; i++) {
+        struct garumbott_answer w = {.refusal = all[i].number};
+        for (int j = 0; j < 2; j++) edit_case(all[i].name, &all[i].reference, &all[i].edit, rooms[j], &w, &w, "", "", "");
+        edit_stored(all[i].name, &all[i].reference, &all[i].edit, &w, "", "", "");
+    }
+}
+
+/* ---- limits ------------------------------------------------------------------------------------------------------------------------ */
+
+static uint8_t longest[GARUMBOTT_LONGEST + 1], doubled[2 * GARUMBOTT_LONGEST], protein[GARUMBOTT_REFERENCE_ROOM], inserted[GARUMBOTT_LONGEST + GARUMBOTT_MOST_BASES];
+
+/* ATG GCC .. GCC TAA A: 16,384 letters, a CDS of 5,461 codons. */
+static void make_longest(void)
+{
+    for (size_t i = 0; i < GARUMBOTT_LONGEST + 1; i++) longest[i] = (uint8_t) "GCC"[i % 3];
+    memcpy(longest, "ATG", 3);
+    memcpy(longest + 16380, "TAAA", 4);
+    memcpy(doubled, longest, GARUMBOTT_LONGEST);
+    memcpy(doubled + GARUMBOTT_LONGEST, longest, GARUMBOTT_LONGEST);
+    memset(protein, 'A', sizeof protein);
+    protein[0] = 'M';
+    protein[5460] = '*';
+}
+
+static struct garumbott_reference longest_reference(void)
+{
+    struct garumbott_reference r = {.letters = longest, .letters_len = GARUMBOTT_LONGEST, .cs = 1, .ce = 16383};
+    return r;
+}
+
+static void limits(void)
+{
+    static const size_t rooms[3] = {GARUMBOTT_TRANSCRIPT_ROOM, GARUMBOTT_REFERENCE_ROOM, GARUMBOTT_ALTERED_ROOM};
+    struct garumbott_reference r = longest_reference();
+    struct garumbott_answer w = {.answer = GARUMBOTT_SILENT, .frameshift = 1, .transcript_len = 32768, .reference_len = 5461, .altered_len = 5461,
+                                 .number = 1, .deleted_len = 1, .inserted_len = 1},
+                            e = alone(&w);
+
+    /* the longest altered transcript fills GARUMBOTT_TRANSCRIPT_ROOM, and 12 asks for GARUMBOTT_ALTERED_ROOM */
+    struct garumbott_coding_edit copy = STAR(DUPLICATION, 1, 1);
+    edit_case("16,384 letters, all of them copied", &r, &copy, rooms, &w, &e, doubled, protein, protein);
+    edit_stored("16,384 letters, all of them copied", &r, &copy, &w, doubled, protein, protein);
+    check(garumbott_transcript_room(GARUMBOTT_LONGEST, GARUMBOTT_DUPLICATION, 0) == GARUMBOTT_TRANSCRIPT_ROOM, "transcript_room", "longest");
+    check(garumbott_reference_room(1, 16383) == GARUMBOTT_REFERENCE_ROOM, "reference_room", "longest");
+    check(garumbott_altered_room(32768, 1) == GARUMBOTT_ALTERED_ROOM, "altered_room", "longest");
+    for (int i = 0; i < 3; i++) {
+        size_t less[3] = {rooms[0], rooms[1], rooms[2]};
+        less[i]--;
+        struct garumbott_answer no = {.refusal = i == 0 ? 11 : 12}, still = i == 0 ? no : e;
+        edit_case("a byte too little for the longest", &r, &copy, less, &no, &still, doubled, protein, protein);
+    }
+
+    /* one letter more */
+    struct garumbott_answer one = {.refusal = 1}, ten = {.refusal = 10};
+    struct garumbott_coding_edit same_place = ONE(IDENTITY, 1);
+    r.letters_len = GARUMBOTT_LONGEST + 1;
+    edit_case("16,385 letters", &r, &same_place, rooms, &one, &one, "", "", "");
+    edit_stored("16,385 letters", &r, &same_place, &one, "", "", "");
+
+    /* 4,096 new bases, and one more */
+    static uint8_t bases[GARUMBOTT_MOST_BASES + 1];
+    memset(bases, 'T', sizeof bases);
+    struct garumbott_coding_edit in = {.kind = GARUMBOTT_INSERTION, .start = 3, .end = 4, .bases = bases, .bases_len = GARUMBOTT_MOST_BASES};
+    r = longest_reference();
+    memcpy(inserted, longest, 3);
+    memcpy(inserted + 3, bases, GARUMBOTT_MOST_BASES);
+    memcpy(inserted + 3 + GARUMBOTT_MOST_BASES, longest + 3, GARUMBOTT_LONGEST - 3);
+    struct garumbott_answer long_edit = {.answer = GARUMBOTT_CHANGED, .frameshift = 1, .transcript_len = 20480};
+    struct garumbott_buffers b = {fence_fill(&fences[TRANSCRIPT], FENCE_END, NULL, 20480), 20480, NULL, 0, NULL, 0};
+    struct garumbott_answer got = garumbott_edit_of(&r, &in, &b);
+    check(same(&got, &long_edit), "4,096 new bases", "answer");
+    check(fence_check(&fences[TRANSCRIPT], inserted, 20480), "4,096 new bases", "transcript");
+    in.bases_len++;
+    edit_case("4,097 new bases", &r, &in, rooms, &ten, &ten, "", "", "");
+
+    /* sixteen exceptions, of codons 2 to 17 */
+    uint8_t sixteen[48], excepted[GARUMBOTT_REFERENCE_ROOM];
+    memcpy(excepted, protein, sizeof protein);
+    for (uint8_t i = 0; i < 16; i++) {
+        sixteen[3 * i] = 0;
+        sixteen[3 * i + 1] = (uint8_t)(i + 2);
+        sixteen[3 * i + 2] = excepted[i + 1] = (uint8_t)('B' + i);
+    }
+    r.exceptions = sixteen;
+    r.exceptions_len = sizeof sixteen;
+    struct garumbott_answer kept = {.answer = GARUMBOTT_SILENT, .transcript_len = GARUMBOTT_LONGEST, .reference_len = 5461, .altered_len = 5461,
+                                    .number = 1, .deleted_len = 1, .inserted_len = 1},
+                            kept_alone = alone(&kept);
+    edit_case("sixteen exceptions", &r, &same_place, rooms, &kept, &kept_alone, longest, excepted, excepted);
+    edit_stored("sixteen exceptions", &r, &same_place, &kept, longest, excepted, excepted);
+}
+
+/* ---- stored references ------------------------------------------------------------------------------------------------------------- */
+
+#define LETTERS_FIELD "\1\0\27GGATGGCCAAATGGTAACCTGAC"
+#define BOUNDS_FIELD "\2\0\4\0\3\0\21"
+#define TABLE_FIELD "\3\0\1\0"
+#define ALL_FIELDS LETTERS_FIELD BOUNDS_FIELD TABLE_FIELD
+
+static void stored_case(const char *name, const void *data, size_t len, const struct garumbott_stored *want)
+{
+    for (int side = FENCE_END; side <= FENCE_START; side++) {
+        struct garumbott_stored got = garumbott_read_stored(fence_fill(&fences[STORED], side, data, len), len);
+        check(same_stored(&got, want), name, "read_stored's answer");
+        check(fence_check(&fences[STORED], NULL, 0), name, "stored bytes changed");
+    }
+}
+
+static void stored_refused(const char *name, const void *data, size_t len, uint64_t refusal)
+{
+    struct garumbott_stored no = {.refusal = refusal};
+    stored_case(name, data, len, &no);
+}
+
+/* Faults of the form, and of the reference behind it. */
+static void stored_refusals(void)
+{
+#define S(name, data, refusal) {name, data, sizeof(data) - 1, refusal}
+    static const struct {
+        const char *name, *data;
+        size_t len;
+        uint64_t refusal;
+    } all[] = {
+        /* a cut header: its tag is judged first */
+        S("tag 1 alone", "\1", 20),
+        S("tag 1 and a byte of its length", "\1\0", 20),
+        S("tag 0 alone", "\0", 21),
+        S("tag 5 alone", "\5", 21),
+        S("a last byte 3", ALL_FIELDS "\3", 21),
+        S("a last byte 4", ALL_FIELDS "\4", 20),
+        S("a last byte 5", ALL_FIELDS "\5", 21),
+        S("a last byte 0", ALL_FIELDS "\0", 21),
+        S("a line feed behind", ALL_FIELDS "\n", 21),
+        S("two bytes of tag 4", ALL_FIELDS "\4\0", 20),
+        S("a last byte behind tag 4", ALL_FIELDS "\4\0\3\0\2U\4", 21),
+        S("a zero byte behind tag 4", ALL_FIELDS "\4\0\0\0", 21),
+        /* 21 */
+        S("tag 0", "\0\0\0" ALL_FIELDS, 21),
+        S("tag 5 first", "\5\0\0" ALL_FIELDS, 21),
+        S("tag 255", ALL_FIELDS "\377\0\0", 21),
+        S("tag 5 last", ALL_FIELDS "\5\0\0", 21),
+        S("letters twice", LETTERS_FIELD ALL_FIELDS, 21),
+        S("bounds twice", LETTERS_FIELD BOUNDS_FIELD BOUNDS_FIELD TABLE_FIELD, 21),
+        S("table twice", ALL_FIELDS TABLE_FIELD, 21),
+        S("exceptions twice", ALL_FIELDS "\4\0\0\4\0\0", 21),
+        S("bounds before letters", BOUNDS_FIELD LETTERS_FIELD TABLE_FIELD, 21),
+        S("table before bounds", LETTERS_FIELD TABLE_FIELD BOUNDS_FIELD, 21),
+        S("exceptions before table", LETTERS_FIELD BOUNDS_FIELD "\4\0\0" TABLE_FIELD, 21),
+        S("letters last", BOUNDS_FIELD TABLE_FIELD LETTERS_FIELD, 21),
+        /* lengths wrong by one */
+        S("letters' length one more", "\1\0\30GGATGGCCAAATGGTAACCTGAC" BOUNDS_FIELD TABLE_FIELD, 21),
+        S("letters' length one more, nothing behind", "\1\0\30GGATGGCCAAATGGTAACCTGAC", 20),
+        S("letters' length one less", "\1\0\26GGATGGCCAAATGGTAACCTGAC" BOUNDS_FIELD TABLE_FIELD, 21),
+        S("letters' length low byte first", "\1\27\0GGATGGCCAAATGGTAACCTGAC" BOUNDS_FIELD TABLE_FIELD, 20),
+        S("letters' length 65,535", "\1\377\377GGATGGCCAAATGGTAACCTGAC" BOUNDS_FIELD TABLE_FIELD, 20),
+        S("bounds of three bytes", LETTERS_FIELD "\2\0\3\0\3\0" TABLE_FIELD, 23),
+        S("bounds of five bytes", LETTERS_FIELD "\2\0\5\0\3\0\21\0" TABLE_FIELD, 23),
+        S("bounds of no byte", LETTERS_FIELD "\2\0\0" TABLE_FIELD, 23),
+        S("bounds of 260 bytes, of which four are there", LETTERS_FIELD "\2\1\4\0\3\0\21", 20),
+        S("bounds of five bytes, four left", LETTERS_FIELD "\2\0\5\0\3\0\21", 20),
+        S("bounds of five bytes, five left", LETTERS_FIELD "\2\0\5\0\3\0\21\0", 23),
+        S("table of no byte", LETTERS_FIELD BOUNDS_FIELD "\3\0\0", 23),
+        S("table of two bytes", LETTERS_FIELD BOUNDS_FIELD "\3\0\2\0\0", 23),
+        S("table of one byte, none left", LETTERS_FIELD BOUNDS_FIELD "\3\0\1", 20),
+        S("exceptions of one byte", ALL_FIELDS "\4\0\1\0", 23),
+        S("exceptions of two bytes", ALL_FIELDS "\4\0\2\0\2", 23),
+        S("exceptions of four bytes", ALL_FIELDS "\4\0\4\0\2U\0", 23),
+        S("exceptions of three bytes, two left", ALL_FIELDS "\4\0\3\0\2", 20),
+        /* the order of the fields, and of faults in one */
+        S("23, then 21", LETTERS_FIELD "\2\0\0" "\2\0\0", 23),
+        S("23, then 20", LETTERS_FIELD "\2\0\0" "\3", 23),
+        S("21, then 23", LETTERS_FIELD "\1\0\0" "\2\0\0", 21),
+        S("21 with 20", LETTERS_FIELD "\1\0\7", 21),
+        S("21 with 23", LETTERS_FIELD BOUNDS_FIELD "\2\0\5\0\0\0\0\0", 21),
+        S("20 with 23", LETTERS_FIELD "\2\0\7\0\3\0\21", 20),
+        /* 22, behind these and before 1 to 6 */
+        S("no byte", "", 22),
+        S("letters alone", LETTERS_FIELD, 22),
+        S("bounds alone", BOUNDS_FIELD, 22),
+        S("exceptions alone", "\4\0\0", 22),
+        S("no letters", BOUNDS_FIELD TABLE_FIELD, 22),
+        S("no bounds", LETTERS_FIELD TABLE_FIELD, 22),
+        S("no table", LETTERS_FIELD BOUNDS_FIELD, 22),
+        S("no table, exceptions", LETTERS_FIELD BOUNDS_FIELD "\4\0\0", 22),
+        S("no table, empty letters", "\1\0\0" BOUNDS_FIELD, 22),
+        S("no letters, 23", BOUNDS_FIELD "\3\0\0", 23),
+        S("no letters, 20", BOUNDS_FIELD "\3", 20),
+        S("no letters, 21", BOUNDS_FIELD TABLE_FIELD "\3", 21),
+        /* 1 to 6 */
+        S("empty letters", "\1\0\0" BOUNDS_FIELD TABLE_FIELD, 1),
+        S("empty letters, bounds of 0, table 3", "\1\0\0" "\2\0\4\0\0\0\0" "\3\0\1\3", 1),
+        S("a lower-case letter", "\1\0\6ATGtAA" "\2\0\4\0\1\0\6" TABLE_FIELD, 2),
+        S("a letter U, bounds of 0", "\1\0\6AUGTAA" "\2\0\4\0\0\0\0" TABLE_FIELD, 2),
+        S("ce past L", "\1\0\6ATGTAA" "\2\0\4\0\1\0\11" TABLE_FIELD, 3),
+        S("bounds of 0", LETTERS_FIELD "\2\0\4\0\0\0\0" TABLE_FIELD, 3),
+        S("bounds of 65,535", LETTERS_FIELD "\2\0\4\377\377\377\377" TABLE_FIELD, 3),
+        S("bounds low byte first", LETTERS_FIELD "\2\0\4\3\0\21\0" TABLE_FIELD, 3),
+        S("ce, then cs", LETTERS_FIELD "\2\0\4\0\21\0\3" TABLE_FIELD, 3),
+        S("bounds of 0, table 3", LETTERS_FIELD "\2\0\4\0\0\0\0" "\3\0\1\3", 3),
+        S("table 3", LETTERS_FIELD BOUNDS_FIELD "\3\0\1\3", 4),
+        S("table 255", LETTERS_FIELD BOUNDS_FIELD "\3\0\1\377", 4),
+        S("table 3, codon 0", LETTERS_FIELD BOUNDS_FIELD "\3\0\1\3" "\4\0\3\0\0A", 4),
+        S("codon 0", ALL_FIELDS "\4\0\3\0\0A", 5),
+        S("codon 6 of 5", ALL_FIELDS "\4\0\3\0\6A", 5),
+        S("codon low byte first", ALL_FIELDS "\4\0\3\2\0A", 5),
+        S("codon twice", ALL_FIELDS "\4\0\6\0\2A\0\2A", 5),
+        S("residue a", ALL_FIELDS "\4\0\3\0\2a", 5),
+        S("seventeen exceptions", ALL_FIELDS "\4\0\63" SEVENTEEN, 5),
+        S("codon 0, no stop", "\1\0\6ATGAAA" "\2\0\4\0\1\0\6" TABLE_FIELD "\4\0\3\0\0A", 5),
+        S("no stop", "\1\0\6ATGAAA" "\2\0\4\0\1\0\6" TABLE_FIELD, 6),
+        S("stop away by exception", ALL_FIELDS "\4\0\3\0\5W", 6),
+        S("TGA in table 1", "\1\0\6ATGTGA" "\2\0\4\0\1\0\6" "\3\0\1\1", 6),
+    };
+#undef S
+    for (size_t i = 0; i < sizeof all / sizeof *all; i++) stored_refused(all[i].name, all[i].data, all[i].len, all[i].refusal);
+}
+
+static void stored(void)
+{
+    static const char plain[] = ALL_FIELDS, empty[] = ALL_FIELDS "\4\0\0", excepted[] = ALL_FIELDS "\4\0\6\0\2U\0\5*";
+    static const struct garumbott_stored good = {.cs = 3, .ce = 17, .letters_at = 3, .letters_len = 23};
+    struct garumbott_stored got = garumbott_read_stored(NULL, 0), none = {.refusal = 22}, want = good;
+    check(same_stored(&got, &none), "NULL stored", "read_stored's answer");
+    stored_refusals();
+    stored_case("the example", plain, sizeof plain - 1, &good);
+    want.exceptions_at = 40;
+    stored_case("an empty tag 4", empty, sizeof empty - 1, &want);
+    want.exceptions_len = 6;
+    stored_case("two exceptions", excepted, sizeof excepted - 1, &want);
+
+    /* cut behind each byte */
+    for (size_t n = 0; n < sizeof excepted - 1; n++) {
+        char name[32];
+        snprintf(name, sizeof name, "cut behind byte %zu", n);
+        if (n == sizeof plain - 1) stored_case(name, excepted, n, &good);
+        else stored_refused(name, excepted, n, n == 0 || n == 26 || n == 33 ? 22 : 20);
+    }
+
+    /* every byte for the first tag, and for the last */
+    for (int tag = 0; tag < 256; tag++) {
+        char name[32], form[sizeof excepted];
+        snprintf(name, sizeof name, "tag %d", tag);
+        memcpy(form, excepted, sizeof form);
+        form[0] = (char)tag;
+        if (tag != 1) stored_refused(name, form, sizeof form - 1, tag > 1 && tag < 5 ? 23 : 21);
+        form[0] = 1;
+        form[37] = (char)tag;
+        if (tag != 4) stored_refused(name, form, sizeof form - 1, 21);
+    }
+
+    /* lengths: sixteen and seventeen exceptions, 16,384 letters, one more, and as many as a length can say */
+    static uint8_t form[66000], many[65535], seventeen[51];
+    for (uint8_t i = 0; i < 17; i++) {
+        seventeen[3 * i] = 0;
+        seventeen[3 * i + 1] = (uint8_t)(i + 2);
+        seventeen[3 * i + 2] = 'U';
+    }
+    struct garumbott_reference r = longest_reference();
+    r.exceptions = seventeen;
+    r.exceptions_len = 48;
+    want = (struct garumbott_stored){.cs = 1, .ce = 16383, .letters_at = 3, .letters_len = GARUMBOTT_LONGEST, .exceptions_at = GARUMBOTT_LONGEST + 17, .exceptions_len = 48};
+    stored_case("16,384 letters and sixteen exceptions", form, store(form, &r), &want);
+    r.exceptions_len = 51;
+    stored_refused("16,384 letters and seventeen exceptions", form, store(form, &r), 5);
+    r.letters_len++;
+    stored_refused("16,385 letters", form, store(form, &r), 1);
+    memset(many, 'A', sizeof many);
+    r.letters = many;
+    r.letters_len = sizeof many;
+    r.exceptions_len = 0;
+    stored_refused("65,535 letters", form, store(form, &r), 1);
+    uint8_t *to = form;
+    put_field(&to, 1, many, sizeof many);
+    stored_refused("65,535 letters alone", form, (size_t)(to - form), 22);
+    stored_refused("65,535 letters less one", form, (size_t)(to - form) - 1, 20);
+}
+
+/* ---- byte strings ------------------------------------------------------------------------------------------------------------------ */
+
+enum entry { TRANSLATE, COMPLEMENT, NAMES3, NAMES1, RUN };
+
+static struct garumbott_length call(enum entry entry, const uint8_t *in, uint64_t len, uint64_t table, uint64_t full, const uint8_t *x,
+                                    uint64_t x_len, uint8_t *out, uint64_t room)
+{
+    switch (entry) {
+    case TRANSLATE: return garumbott_translate(in, len, table, full, x, x_len, out, room);
+    case COMPLEMENT: return garumbott_complement(in, len, out, room);
+    case NAMES3: return garumbott_names3(in, len, out, room);
+    case RUN: return garumbott_run(in, len, out, room);
+    default: return garumbott_names1(in, len, out, room);
+    }
+}
+
+/* With the room given, and, where the answer is bytes, with a byte too little. */
+static void plain_case(enum entry entry, const char *name, const uint8_t *in, uint64_t len, uint64_t table, uint64_t full, const uint8_t *x,
+                       uint64_t x_len, uint64_t room, uint64_t refusal, const void *want, size_t want_len)
+{
+    for (int side = FENCE_END; side <= FENCE_START; side++) {
+        const uint8_t *s = lend(LETTERS, side, in, len), *e = lend(EXCEPTIONS, side, x, x_len);
+        uint8_t *out = fence_fill(&fences[TRANSCRIPT], side, NULL, room);
+        struct garumbott_length got = call(entry, s, len, table, full, e, x_len, out, room);
+        check(got.refusal == refusal && got.len == want_len, name, "answer");
+        check(fence_check(&fences[TRANSCRIPT], want, want_len), name, "output");
+        if (refusal == 0 && want_len != 0) {
+            out = fence_fill(&fences[TRANSCRIPT], side, NULL, want_len - 1);
+            got = call(entry, s, len, table, full, e, x_len, out, want_len - 1);
+            check(got.refusal == 15 && got.len == 0, name, "answer with a byte too little");
+            check(fence_check(&fences[TRANSCRIPT], "", 0), name, "output with a byte too little");
+        }
+        if (in != NULL) check(fence_check(&fences[LETTERS], NULL, 0), name, "input changed");
+        if (x != NULL) check(fence_check(&fences[EXCEPTIONS], NULL, 0), name, "exceptions changed");
+    }
+}
+
+struct plain {
+    enum entry entry;
+    const char *in;
+    size_t len;
+    uint64_t table, full;
+    const char *x;
+    size_t x_len, room;
+    uint64_t refusal;
+    const char *want;
+};
+
+#define T(s, table, full, x, room, refusal, want) {TRANSLATE, s, sizeof(s) - 1, table, full, x, sizeof(x) - 1, room, refusal, want}
+#define P(entry, s, room, refusal, want) {entry, s, sizeof(s) - 1, 0, 0, NULL, 0, room, refusal, want}
+
+static void plain(void)
+{
+    static const struct plain all[] = {
+        T("ATGGCCAAATGGTAA", 0, 0, "", 5, 0, "MAKW*"),
+        T("atggccaaauggUAA", 0, 1, "", 9, 0, "MAKW*"),
+        T("TGATGGATAAGAAGG", 0, 0, "", 5, 0, "*WIRR"),
+        T("TGATGGATAAGAAGG", 1, 0, "", 5, 0, "UWIRR"),
+        T("TGATGGATAAGAAGG", 2, 0, "", 5, 0, "WWM**"),
+        T("TARMGRRAYATHNNN", 0, 0, "", 5, 0, "*RXIX"),
+        T("GCNyarBAC", 0, 0, "", 3, 0, "AXX"),
+        T("ATGA", 0, 0, "", 2, 0, "MX"),
+        T("ATG-", 0, 0, "", 2, 0, "MX"),
+        T("ATG--", 0, 0, "", 2, 0, "MX"),
+        T("", 0, 0, "", 0, 0, ""),
+        T("", 0, 1, "", 4, 0, ""),
+        T("", 3, 0, "", 4, 4, ""),
+        T("ATG", UINT64_C(1) << 32, 0, "", 1, 4, ""),
+        T("ATG", 3, 0, "\0", 1, 4, ""),
+        T("ATG", 0, 0, "\0", 1, 5, ""),
+        T("ATGA", 0, 1, "\0\1", 0, 5, ""),
+        T("ATG", 0, 0, "\0\0A", 1, 5, ""),
+        T("ATG", 0, 0, "\0\1a", 1, 5, ""),
+        T("ATG", 0, 0, SEVENTEEN, 1, 5, ""),
+        T("ATGAAA", 0, 0, "\0\2U", 2, 0, "MU"),
+        T("ATGAAA", 0, 0, "\2\0U", 2, 0, "MK"),
+        T("ATGAAA", 0, 0, "\0\2U\0\1A\0\2*", 2, 0, "A*"),
+        T("ATGAAAC", 0, 0, "\0\3U", 3, 0, "MKX"),
+        T("ATGA", 0, UINT64_C(1) << 63, "", 0, 14, ""),
+        T("ATGA", 0, 1, "", 9, 14, ""),
+        T("A-G", 0, 0, "", 0, 15, ""),
+        T("A-G", 0, 0, "", 1, 2, ""),
+        T("A-G", 0, 0, "\0\1A", 1, 2, ""),
+        T("ATGAT\0", 0, 0, "", 2, 2, ""),
+        P(COMPLEMENT, "ACGTRYSWKMBDHVN", 15, 0, "NBDHVKMWSRYACGT"),
+        P(COMPLEMENT, "", 0, 0, ""),
+        P(COMPLEMENT, "AAC", 8, 0, "GTT"),
+        P(COMPLEMENT, "AaC", 2, 15, ""),
+        P(COMPLEMENT, "AaC", 3, 2, ""),
+        P(COMPLEMENT, "AUC", 3, 2, ""),
+        P(COMPLEMENT, "AC\377", 3, 2, ""),
+        P(NAMES3, "ARNDCQEGHILKMFPSTWYVUXBZ*", 75, 0, "AlaArgAsnAspCysGlnGluGlyHisIleLeuLysMetPheProSerThrTrpTyrValSecXaaAsxGlxTer"),
+        P(NAMES3, "", 0, 0, ""),
+        P(NAMES3, "AJ", 6, 15, ""),
+        P(NAMES3, "AO", 6, 15, ""),
+        P(NAMES3, "Aa", 6, 15, ""),
+        P(NAMES1, "AlaArgAsnAspCysGlnGluGlyHisIleLeuLysMetPheProSerThrTrpTyrValSecXaaAsxGlxTer", 25, 0, "ARNDCQEGHILKMFPSTWYVUXBZ*"),
+        P(NAMES1, "", 0, 0, ""),
+        P(NAMES1, "AlaA", 9, 15, ""),
+        P(NAMES1, "AlaAr", 9, 15, ""),
+        P(NAMES1, "Alaala", 9, 15, ""),
+        P(NAMES1, "XlePyl", 9, 15, ""),
+        P(NAMES1, "Al\0", 9, 15, ""),
+    };
+    static const char *const names[] = {"translate", "complement", "names3", "names1"};
+    for (size_t i = 0; i < sizeof all / sizeof *all; i++) {
+        const struct plain *c = &all[i];
+        char name[200];
+        snprintf(name, sizeof name, "%s %s", names[c->entry], c->in);
+        plain_case(c->entry, name, bytes(c->in), c->len, c->table, c->full, bytes(c->x), c->x_len, c->room, c->refusal, c->want, strlen(c->want));
+    }
+    for (enum entry entry = TRANSLATE; entry <= NAMES1; entry++) {
+        struct garumbott_length none = call(entry, NULL, 0, 0, 0, NULL, 0, NULL, 0);
+        check(none.refusal == 0 && none.len == 0, names[entry], "NULL slices");
+    }
+    static uint8_t residues[10923], reversed[32768];
+    memset(residues, 'A', sizeof residues);
+    residues[0] = 'M';
+    for (size_t i = 0; i < 32768; i++) doubled[i] = (uint8_t) "GCC"[i % 3], reversed[32767 - i] = (uint8_t) "CGG"[i % 3];
+    memcpy(doubled, "ATG", 3);
+    memcpy(reversed + 32765, "CAT", 3);
+    residues[10922] = 'X';
+    plain_case(TRANSLATE, "translate 32,768 letters", doubled, 32768, 0, 0, NULL, 0, 10923, 0, residues, 10923);
+    plain_case(COMPLEMENT, "complement 32,768 letters", doubled, 32768, 0, 0, NULL, 0, 32768, 0, reversed, 32768);
+}
+
+static void trims(void)
+{
+    static const struct {
+        const char *a, *b;
+        uint64_t prefix, suffix;
+    } all[] = {
+        {"", "", 0, 0}, {"A", "", 0, 0}, {"", "A", 0, 0}, {"A", "A", 1, 1}, {"A", "C", 0, 0}, {"MAKW*", "MARW*", 2, 2},
+        {"MA", "MAMA", 2, 2}, {"MAMA", "MA", 2, 2}, {"AAAA", "AAA", 3, 3}, {"ABC", "XBC", 0, 2}, {"ABC", "ABX", 2, 0}, {"Aa", "aA", 0, 0},
+    };
+    for (size_t i = 0; i < sizeof all / sizeof *all; i++) {
+        size_t m = strlen(all[i].a), n = strlen(all[i].b);
+        for (int side = FENCE_END; side <= FENCE_START; side++) {
+            const uint8_t *a = fence_fill(&fences[LETTERS], side, all[i].a, m), *b = fence_fill(&fences[BASES], side, all[i].b, n);
+            check(garumbott_common_prefix(a, m, b, n) == all[i].prefix, all[i].a, "common prefix");
+            check(garumbott_common_suffix(a, m, b, n) == all[i].suffix, all[i].a, "common suffix");
+            check(garumbott_common_prefix(a, m, a, m) == m && garumbott_common_suffix(a, m, a, m) == m, all[i].a, "with itself");
+            check(fence_check(&fences[LETTERS], NULL, 0) && fence_check(&fences[BASES], NULL, 0), all[i].a, "input changed");
+        }
+    }
+    check(garumbott_common_prefix(NULL, 0, NULL, 0) == 0 && garumbott_common_suffix(NULL, 0, NULL, 0) == 0, "trims", "NULL slices");
+    check(garumbott_common_prefix(NULL, 0, bytes("A"), 1) == 0 && garumbott_common_suffix(bytes("A"), 1, NULL, 0) == 0, "trims", "one NULL slice");
+}
+
+/* NULL for every slice of length 0. */
+/* The text program over memory. */
+static void text(void)
+{
+    static const struct {
+        const char *name, *input, *output;
+    } all[] = {
+        {"no bytes", "", ""},
+        {"a line feed", "\n", "refused 30\n"},
+        {"document 01's lines", "ref 3 17 0 GGATGGCCAAATGGTAACCTGAC\n8A>G\n5del\n4_6dup\n12G>A\n13T>C\n6C>T\n4_6inv\n1A>G\n9_10insTAGC\n1_*6del\n1_*7del\n16del\n",
+         "reference MAKW*\nsubstitution 3 K R\nframeshift 3 KW* NGNLX\nduplication 3 - A 2\nstop-gained 4 W -\nextension 5 * QPD\nsilent 2 A A\n"
+         "substitution 2 A G\nstart-lost 1 M V\nstop-gained 4 W -\nno-protein\nunknown\nrefused 7\n"},
+        {"a last line without a line feed", "ref 1 6 0 ATGTAA\n1=", "reference M*\nsilent 1 M M\n"},
+        {"empty lines", "ref 1 6 0 ATGTAA\n\n\n1=\n", "reference M*\nrefused 30\nrefused 30\nsilent 1 M M\n"},
+        {"a refused first line", "ref 1 6 3 ATGTAA\n1=\n", "refused 4\n"},
+        {"no first line", "1=\n1=\n", "refused 30\n"},
+    };
+    for (size_t i = 0; i < sizeof all / sizeof *all; i++)
+        plain_case(RUN, all[i].name, (const uint8_t *)all[i].input, strlen(all[i].input), 0, 0, NULL, 0, strlen(all[i].output), 0, all[i].output, strlen(all[i].output));
+    struct garumbott_length none = garumbott_run(NULL, 0, NULL, 0);
+    check(none.refusal == 0 && none.len == 0, "run", "NULL");
+}
+
+static void nulls(void)
+{
+    struct garumbott_reference none = {0};
+    struct garumbott_coding_edit edit = {0}, whole = STAR(IDENTITY, 1, 1), in = TWO_NEW(INSERTION, 3, 4, "A");
+    struct garumbott_buffers buffers = {0};
+    struct garumbott_answer a = garumbott_record_of(&none, &edit, &buffers), one = {.refusal = 1}, unknown = {.answer = 1}, eleven = {.refusal = 11};
+    check(same(&a, &one), "NULL everywhere", "record");
+    a = garumbott_edit_of(&none, &edit, &buffers);
+    check(same(&a, &one), "NULL everywhere", "edit");
+    a = garumbott_record_of(&SHORT, &whole, &buffers);
+    check(same(&a, &unknown), "NULL buffers", "record, Unknown");
+    a = garumbott_edit_of(&SHORT, &whole, &buffers);
+    check(same(&a, &unknown), "NULL buffers", "edit, Unknown");
+    a = garumbott_record_of(&SHORT, &in, &buffers);
+    check(same(&a, &eleven), "NULL buffers", "record");
+    a = garumbott_edit_of(&SHORT, &in, &buffers);
+    check(same(&a, &eleven), "NULL buffers", "edit");
+}
+
+/* ---- threads and stack ------------------------------------------------------------------------------------------------------------- */
+
+/* One of document 01's lines over and over, in buffers of its own. */
+static void *many_calls(void *given)
+{
+    static const struct garumbott_coding_edit edit = TWO(DUPLICATION, 4, 6);
+    static const struct garumbott_answer want = {.answer = 4, .transcript_len = 26, .reference_len = 5, .altered_len = 6, .change = 7, .number = 3,
+                                                 .deleted_at = 2, .inserted_at = 2, .inserted_len = 1, .first = 2};
+    uint8_t t[32], r[8], a[16];
+    struct garumbott_buffers b = {t, sizeof t, r, sizeof r, a, sizeof a};
+    unsigned long *wrong = given;
+    for (int i = 0; i < 2000; i++) {
+        memset(a, 0, sizeof a);
+        struct garumbott_answer got = garumbott_record_of(&W, &edit, &b);
+        if (!same(&got, &want) || memcmp(a, "MAAKW*", 6) != 0) ++*wrong;
+    }
+    return NULL;
+}
+
+static void threads(void)
+{
+    pthread_t all[4];
+    unsigned long wrong[4] = {0};
+    for (int i = 0; i < 4; i++) {
+        if (pthread_create(&all[i], NULL, many_calls, &wrong[i]) != 0) exit(2);
+    }
+    for (int i = 0; i < 4; i++) {
+        pthread_join(all[i], NULL);
+        check(wrong[i] == 0, "four threads", "an answer differs");
+    }
+}
+
+static uint8_t on_t[GARUMBOTT_TRANSCRIPT_ROOM], on_r[GARUMBOTT_REFERENCE_ROOM], on_a[GARUMBOTT_ALTERED_ROOM];
+
+static void *call_nothing(void *given)
+{
+    return given;
+}
+
+static void *call_record(void *given)
+{
+    struct garumbott_buffers b = {on_t, sizeof on_t, on_r, sizeof on_r, on_a, sizeof on_a};
+    struct garumbott_reference r = longest_reference();
+    garumbott_record_of(&r, given, &b);
+    return NULL;
+}
+
+static void *call_edit(void *given)
+{
+    struct garumbott_buffers b = {on_t, sizeof on_t, on_r, sizeof on_r, on_a, sizeof on_a};
+    struct garumbott_reference r = longest_reference();
+    garumbott_edit_of(&r, given, &b);
+    return NULL;
+}
+
+static void *call_stored(void *given)
+{
+    static uint8_t form[GARUMBOTT_LONGEST + 64];
+    struct garumbott_reference r = longest_reference();
+    r.exceptions = bytes("\0\2U");
+    r.exceptions_len = 3;
+    garumbott_read_stored(form, store(form, &r));
+    return given;
+}
+
+static void *call_translate(void *given)
+{
+    longest[5] = 'N';
+    garumbott_translate(longest, GARUMBOTT_LONGEST, 2, 0, bytes("\0\2U"), 3, on_a, sizeof on_a);
+    longest[5] = 'C';
+    return given;
+}
+
+static void *call_strings(void *given)
+{
+    garumbott_complement(longest, GARUMBOTT_LONGEST, on_t, sizeof on_t);
+    garumbott_names3(protein, sizeof protein, on_t, sizeof on_t);
+    garumbott_names1(on_t, 3 * sizeof protein, on_a, sizeof on_a);
+    garumbott_common_prefix(longest, GARUMBOTT_LONGEST, on_t, sizeof on_t);
+    garumbott_common_suffix(longest, GARUMBOTT_LONGEST, on_t, sizeof on_t);
+    return given;
+}
+
+/* The bytes of its stack that a thread touches. */
+static size_t touched(void *(*run)(void *), void *given)
+{
+    enum { SIZE = 1 << 20 };
+    uint8_t *stack = mmap(NULL, SIZE, PROT_READ | PROT_WRITE, MAP_PRIVATE | MAP_ANONYMOUS, -1, 0);
+    pthread_attr_t attr;
+    pthread_t thread;
+    size_t low = 0;
+    if (stack == MAP_FAILED) exit(2);
+    memset(stack, 0xA5, SIZE);
+    if (pthread_attr_init(&attr) != 0 || pthread_attr_setstack(&attr, stack, SIZE) != 0 || pthread_create(&thread, &attr, run, given) != 0) exit(2);
+    pthread_join(thread, NULL);
+    pthread_attr_destroy(&attr);
+    while (low < SIZE && stack[low] == 0xA5) low++;
+    munmap(stack, SIZE);
+    return SIZE - low;
+}
+
+static void *call_run(void *given)
+{
+    static const char input[] = "ref 3 17 0 GGATGGCCAAATGGTAACCTGAC\n8A>G\n4_6dup\n4_6inv\n9_10insTAGC\n5del";
+    garumbott_run((const uint8_t *)input, sizeof input - 1, on_t, sizeof on_t);
+    return given;
+}
+
+static void stack(void)
+{
+    static struct garumbott_coding_edit edits[] = {STAR(DUPLICATION, 1, 1), TWO(INVERSION, 4, 9), TWO_NEW(INSERTION, 3, 4, "ACGTN"), ONE(DELETION, 5), ONE(DELETION, 0)};
+    size_t base = touched(call_nothing, NULL), most = 0;
+    for (size_t i = 0; i < sizeof edits / sizeof *edits; i++) {
+        size_t r = touched(call_record, &edits[i]) - base, e = touched(call_edit, &edits[i]) - base;
+        most = r > most ? r : most;
+        most = e > most ? e : most;
+    }
+    static void *(*const others[])(void *) = {call_stored, call_translate, call_strings};
+    for (size_t i = 0; i < sizeof others / sizeof *others; i++) {
+        size_t n = touched(others[i], NULL) - base;
+        most = n > most ? n : most;
+    }
+    size_t run = touched(call_run, NULL) - base;
+    printf("stack: %zu bytes at most, of %d; the text program %zu, of %d\n", most, GARUMBOTT_STACK, run, GARUMBOTT_RUN_STACK);
+    check(most <= GARUMBOTT_STACK, "stack", "more than GARUMBOTT_STACK");
+    check(run <= GARUMBOTT_RUN_STACK, "stack", "more than GARUMBOTT_RUN_STACK");
+}
+
+/* With an argument the stack isn't measured: a memory checker minds the reading of a stack whose thread has ended. */
+int main(int argc, char **argv)
+{
+    (void)argv;
+    for (int i = 0; i < FENCES; i++) fence_make(&fences[i], i == STORED ? 66000 : 40960);
+    make_longest();
+    rows();
+    refusals();
+    limits();
+    stored();
+    text();
+    nulls();
+    trims();
+    threads();
+    if (argc == 1) stack();
+    plain();
+    printf("%lu checks, %lu failed\n", checks, faults);
+    return faults == 0 ? 0 : 1;
+}

@@ -1,0 +1,159 @@
+"""The cases of the program stored_vectors, and what the second account of document 01 (tests/account) says of them.
+
+cases.py stdin    the program's input: names, stored bytes and edits, each string behind the two bytes of its length
+cases.py stdout   what the program must print
+"""
+import sys
+
+sys.path.insert(0, "tests/account")
+import account
+
+
+def field(tag, content):
+    return bytes([tag, len(content) // 256, len(content) % 256]) + content
+
+
+def bounds(cs, ce):
+    return field(2, bytes([cs // 256, cs % 256, ce // 256, ce % 256]))
+
+
+def form(letters, cs, ce, table=0, exceptions=None):
+    """A stored reference; exceptions are pairs of a codon and a residue's byte."""
+    data = field(1, letters) + bounds(cs, ce) + field(3, bytes([table]))
+    if exceptions is None:
+        return data
+    return data + field(4, b"".join(bytes([codon // 256, codon % 256, residue]) for codon, residue in exceptions))
+
+
+WHOLE = form(b"CCATGTGAAAATACG", 3, 14, 1, [(2, ord("W")), (4, ord("*"))])
+FIELDS = {1: field(1, b"ATGTAA"), 2: bounds(1, 6), 3: field(3, b"\0"), 4: field(4, b"\0\1U")}
+
+
+def changed():
+    """One stored reference: cut at each byte, changed in each byte, with bytes behind it, and damaged in three places."""
+    for n in range(len(WHOLE) + 1):
+        yield f"cut {n}", WHOLE[:n]
+    for i, b in enumerate(WHOLE):
+        for value in sorted(set(range(7)) | {255, (b + 1) % 256, (b - 1) % 256}):
+            yield f"byte {i} is {value}", WHOLE[:i] + bytes([value]) + WHOLE[i + 1:]
+    for value in (0, 1, 4, 5, 255):
+        for more in range(1, 7):
+            yield f"behind it {more} of {value}", WHOLE + bytes([value]) * more
+    state = 1
+    for number in range(200):
+        data = bytearray(WHOLE)
+        for _ in range(3):
+            state = (state * 1103515245 + 12345) % 2**31
+            data[state // 65536 % len(data)] = (0, 1, 2, 3, 4, 6, 65, 84)[state // 4096 % 8]
+        yield f"damaged {number}", bytes(data)
+
+
+def built():
+    """Fields in every order, of every length, with such exceptions, between such bounds, of such a size."""
+    for count in range(5):
+        for number in range(4**count):
+            tags = [number // 4**i % 4 + 1 for i in range(count)]
+            yield "order" + "".join(f" {t}" for t in tags), b"".join(FIELDS[t] for t in tags)
+    sized = {1: b"ATGTAAAA", 2: b"\0\1\0\6\0\1\0\6", 3: b"\0\1\2\3\4\5\6\7", 4: b"\0\1U\0\2*\0\3"}
+    for tag, content in sized.items():
+        for n in range(9):
+            yield f"length of {tag} is {n}", b"".join(field(tag, content[:n]) if t == tag else FIELDS[t] for t in FIELDS)
+    for count in range(19):
+        yield f"exceptions {count}", form(b"ATG" + b"AAA" * 16 + b"TAA", 1, 54, 0, [(i + 1, ord("U")) for i in range(count)])
+    singles = [[(codon, r)] for codon in (0, 1, 2, 3, 4, 256, 257) for r in b"()*+,?@ABUYZ[`az"]
+    pairs = [[(a, r), (b, ord("*"))] for a in range(5) for b in range(5) for r in b"U*"]
+    triples = [[(a, ord("U")), (b, ord("W")), (c, ord("*"))] for a in range(4) for b in range(4) for c in range(4)]
+    for exceptions in singles + pairs + triples:
+        yield "codons" + "".join(f" {n} {chr(r)}" for n, r in exceptions), form(b"ATGAAATAA", 1, 9, 0, exceptions)
+    for cs in list(range(11)) + [256, 257, 65535]:
+        for ce in list(range(11)) + [256, 265, 65535]:
+            yield f"bounds {cs} {ce}", form(b"ATGATGTAA", cs, ce)
+    for letters in ("ATGTAA", "ATGTGA", "ATGAGA", "ATGTRA", "ATGAGR", "ATGTAN", "ATGTUA", "ATGtaa"):
+        for table in (0, 1, 2, 3, 4, 255):
+            yield f"table {table} of {letters}", form(letters.encode(), 1, 6, table)
+    for size in (6, 255, 256, 257, 16383, 16384, 16385):
+        yield f"size {size}", form(b"A" * (size - 3) + b"TAA", size % 3 + 1, size)
+
+
+def read(data):
+    """The reference's numbers, and where its letters and its exceptions stand: letters behind the first head, exceptions behind the fourth."""
+    try:
+        ref = account.stored(data)
+    except account.Refused as refusal:
+        return f"refused {refusal.number}"
+    size = len(ref.letters)
+    exceptions = (17 + size, len(data) - 17 - size) if len(data) > 14 + size else (0, 0)
+    return f"cs {ref.cs} ce {ref.ce} table {ref.table} letters 3+{size} exceptions {exceptions[0]}+{exceptions[1]}"
+
+
+def edited():
+    """Document 01's run, edits of references with exceptions, and edits of references that are refused."""
+    run = form(b"GGATGGCCAAATGGTAACCTGAC", 3, 17)
+    for line in "8A>G 5del 4_6dup 12G>A 13T>C 6C>T 4_6inv 1A>G 9_10insTAGC 1_*6del 1_*7del 16del -2_2del 4_6delinsTTT 4= 0=".split():
+        yield line, run, line
+    two = form(b"ATGAAATAA", 1, 9, 0, [(2, ord("U"))])
+    three = form(b"ATGAAAAAA", 1, 9, 0, [(3, ord("*"))])
+    for line in "1= 4A>G 6A>G 4_6del 3_4insAAA 4_6dup 7_9inv 3del".split():
+        yield f"{line} 2 U", two, line
+        yield f"{line} 3 *", three, line
+    wrong = {
+        "cut off": run[:-1],
+        "a byte behind it": run + b"\0",
+        "no table": run[:-4],
+        "two bytes of exceptions": run + field(4, b"\0\1"),
+        "no letters": form(b"", 1, 6),
+        "letter U": form(b"ATGUAA", 1, 6),
+        "bounds 1 7": form(b"ATGTAA", 1, 7),
+        "table 3": form(b"ATGTAA", 1, 6, 3),
+        "17 exceptions": form(b"ATGTAA", 1, 6, 0, [(1, ord("U"))] * 17),
+        "no stop": form(b"ATGAAA", 1, 6),
+        "two stops": form(b"ATGTAATAA", 1, 9),
+    }
+    for name, data in wrong.items():
+        for line in ("0=", "1="):
+            yield f"{line} {name}", data, line
+
+
+ROOM = (32, 8, 16)
+
+
+def answered(data, edit):
+    """The answer, and what the three buffers of dots hold."""
+    texts = ("", "", "")
+    try:
+        ref = account.stored(data)
+        record, altered = account.answer(ref, edit)
+        if altered:
+            account.check_room(ref, altered, *ROOM)
+            texts = (altered.transcript, ref.protein, altered.protein)
+        if record.word in ("unknown", "no-protein"):
+            words = record.word
+        elif record.word == "silent":
+            words = f"silent {record.number}"
+        else:
+            words = f"changed {record.number} {record.deleted[1]} {record.inserted[1]}"
+    except account.Refused as refusal:
+        words = f"refused {refusal.number}"
+    return " ".join([words] + [text.ljust(room, ".") for text, room in zip(texts, ROOM)])
+
+
+def packed(edit):
+    """An edit: its kind's number, two positions, each a sign and two bytes, and the new bases."""
+    places = b"".join((sign or "+").encode() + bytes([n // 256, n % 256]) for sign, n in (edit.start, edit.end))
+    return bytes([account.KINDS.index(edit.kind) + 1]) + places + edit.bases.encode()
+
+
+def cases():
+    for name, data in list(changed()) + list(built()):
+        yield name, data, b"", read(data)
+    for name, data, line in edited():
+        edit = account.edit_line(line)
+        yield name, data, packed(edit), answered(data, edit)
+
+
+for name, data, edit, words in cases():
+    if sys.argv[1:] == ["stdin"]:
+        for part in (name.encode(), data, edit):
+            sys.stdout.buffer.write(bytes([len(part) // 256, len(part) % 256]) + part)
+    else:
+        print(f"{name}: {words}")
