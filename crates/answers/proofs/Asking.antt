@@ -1,17 +1,15 @@
 -- Laws of an edit line's answer: what the whole answer to an edit prints as, and which lines are in the form.
 -- Assumes nothing.
-use mathlib.Core.Path.{_≡_, refl, sym, ap, subst, _∙_}
+use mathlib.Core.Path.{_≡_, refl, ap, subst, _∙_}
 use mathlib.Core.Bool.{Bool, true, false}
 use mathlib.Core.List.{List, [], _∷_, _++_}
-use mathlib.Core.Option.{Option, none, some}
-use Prim.Native.Nat.{ℕ, zero, suc, _+_, _≤_, _<_}
+use mathlib.Core.Option.{some}
+use Prim.Native.Nat.{ℕ, zero, suc, _≤_, _<_}
 use native.Mathlib.Omega.{arith}
-use lib.ListN.{length, take, drop, length-take, length-append}
+use lib.ListN.{length, take, drop}
 use lib.Seq.{length-take-le}
-use borrow.Author.Tests.{le-leb, lt-leb}
 use Rattle.rules.specs.declared.Edit.{Edit}
 use Rattle.rules.specs.declared.Exceptions.{Exceptions}
-use Rattle.rules.specs.declared.Record.the-variants.{Unknown}
 use Rattle.rules.specs.declared.Report.{Report}
 use Rattle.rules.specs.declared.Answer.{Answer}
 use Rattle.rules.specs.declared.Answer.the-variants as answer
@@ -35,16 +33,8 @@ use Rattle.altseq.specs.Known.{referenceOf, roomOf, Knows}
 use Rattle.forms.specs.declared.line.EditLine.{EditLine}
 use Rattle.forms.specs.declared.line.EditLine.the-variants as edit-line
 use Rattle.forms.specs.Views.{askedIn}
-use Rattle.prints.proofs.Sizes.{refused-size, record-size}
+use Rattle.prints.proofs.Sizes.{record-size}
 use Rattle.answers.specs.Lines.{noExceptions, Ample, Line}
-
-pub fits-line : (l : List ℕ) → length l ≤ 20480 → fitsLine l ≡ true
-unfolding fitsLine
-fits-line l h = le-leb (length l) 20480 h
-
-pub long-line : (l : List ℕ) → 20480 < length l → fitsLine l ≡ false
-unfolding fitsLine
-long-line l h = lt-leb (length l) 20480 h
 
 -- a line that is written over a buffer
 pub line-of : (l k text old : List ℕ) (n : ℕ) → l ≡ k → n ≡ length (k ++ (lineFeed ∷ [])) → text ≡ over (k ++ (lineFeed ∷ [])) old → Line n text l
@@ -150,15 +140,15 @@ module _ (x₀ : Exceptions) (are : x₀ ≡ noExceptions) (s : List ℕ) (k : K
 
 -- the forms of an edit line
 module _ (r : Reference) (line : List ℕ) where
-  pub edit-long : 20480 < length line → editLineAnswer r line ≡ refusedLine 30
+  pub edit-long : fitsLine line ≡ false → editLineAnswer r line ≡ refusedLine 30
   unfolding editLineAnswer editAnswer
-  edit-long h = rw (long-line line h)
+  edit-long h = rw h
 
-  module _ (h : length line ≤ 20480) (x : EditLine) (is : askedIn line x ≡ editLine line) where
+  module _ (h : fitsLine line ≡ true) (x : EditLine) (is : askedIn line x ≡ editLine line) where
     pub edit-formless : x ≡ edit-line.Not → editLineAnswer r line ≡ refusedLine 30
     unfolding editLineAnswer editAnswer
-    edit-formless q = rw (fits-line line h, ← is, q)
+    edit-formless q = rw (h, ← is, q)
 
     pub edit-asked : (e : Edit) (at : ℕ) → x ≡ edit-line.Asked e at → editLineAnswer r line ≡ editAnswer r (some (asked e (drop at line)))
     unfolding editLineAnswer
-    edit-asked e at q = rw (fits-line line h, ← is, q)
+    edit-asked e at q = rw (h, ← is, q)

@@ -1,16 +1,15 @@
 -- Laws of a first line's answer: what the check of a reference prints and leaves, and which lines are in the form.
 -- Assumes nothing.
 use mathlib.Core.Path.{_≡_, refl, sym, ap, _∙_}
-use mathlib.Core.Bool.{Bool, true, false}
+use mathlib.Core.Bool.{true, false}
 use mathlib.Core.List.{List, [], _∷_, _++_}
 use mathlib.Core.Option.{Option, none, some}
 use Prim.Native.Nat.{ℕ, zero, suc, _≤_, _<_}
 use native.Mathlib.Omega.{arith}
 use lib.ListN.{length, take, drop}
-use lib.Seq.{length-take-le}
 use Rattle.rules.specs.declared.Exceptions.{Exceptions}
-use Rattle.rules.specs.Bytes.{bytes, if_then_else_, over}
-use Rattle.rules.specs.Translation.{exceptionList, residueCount}
+use Rattle.rules.specs.Bytes.{if_then_else_, bytes, over}
+use Rattle.rules.specs.Translation.{exceptionList}
 use Rattle.rules.specs.Reference.{Reference, size, referenceProtein}
 use Rattle.rules.specs.Refusal.{limits, referenceRefusal}
 use Rattle.rules.specs.Line.{referenceLine, fitsLine}
@@ -30,7 +29,7 @@ use Rattle.forms.specs.Views.{referenceIn}
 use Rattle.answers.specs.declared.Follows.{Follows}
 use Rattle.answers.specs.declared.Follows.the-variants.{Edits, Nothing}
 use Rattle.answers.specs.Lines.{noExceptions, acceptedBy, accepted, Opens}
-use Rattle.answers.proofs.Asking.{protein-short, fits-line, long-line}
+use Rattle.answers.proofs.Asking.{protein-short}
 
 -- a refused first line: n bytes of its answer over a buffer
 pub opens-none : (n : ℕ) (letters protein text old : List ℕ) → n ≡ length (refusedLine 30 ++ (lineFeed ∷ [])) → text ≡ over (refusedLine 30 ++ (lineFeed ∷ [])) old
@@ -116,12 +115,12 @@ module _ (x₀ : Exceptions) (are : x₀ ≡ noExceptions) (s : List ℕ) (c : C
 
 -- the forms of a first line
 module _ (line : List ℕ) where
-  pub first-long : 20480 < length line → (if fitsLine line then referenceLine line else none) ≡ none
-  first-long h = rw (long-line line h)
+  pub first-long : fitsLine line ≡ false → (if fitsLine line then referenceLine line else none) ≡ none
+  first-long h = rw h
 
-  module _ (h : length line ≤ 20480) (x : ReferenceLine) (is : referenceIn line x ≡ referenceLine line) where
+  module _ (h : fitsLine line ≡ true) (x : ReferenceLine) (is : referenceIn line x ≡ referenceLine line) where
     pub first-formless : x ≡ reference-line.Not → (if fitsLine line then referenceLine line else none) ≡ none
-    first-formless q = rw (fits-line line h, ← is, q)
+    first-formless q = rw (h, ← is, q)
 
     pub first-given : (cs ce t at : ℕ) → x ≡ reference-line.Given cs ce t at → (if fitsLine line then referenceLine line else none) ≡ some (bare (drop at line) (cdsOf cs ce t))
-    first-given cs ce t at q = rw (fits-line line h, ← is, q)
+    first-given cs ce t at q = rw (h, ← is, q)

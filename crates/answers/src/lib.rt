@@ -17,7 +17,6 @@ use rules::Exceptions;
 use rules::Limits;
 ghost use mathlib.Core.Path.{_≡_};
 ghost use mathlib.Core.Option.{none, some};
-ghost use Prim.Native.Nat.{_≤_};
 ghost use lib.ListN.{length};
 ghost use Rattle.rules.specs.Bytes.{if_then_else_};
 ghost use Rattle.rules.specs.Refusal.{limits};
@@ -38,6 +37,13 @@ fn no_exceptions() -> Exceptions
         }; 16],
         count: 0,
     }
+}
+
+// Lines above 20,480 bytes are 30.
+fn fits_line(line: &[u8]) -> bool
+    ensures { λ r. ⌜ r ≡ fitsLine (now (line .entry)) ⌝ }
+{
+    line.len() <= 20480
 }
 
 // An edit of the reference. Its answer goes to the transcript's buffer, once the altered transcript there isn't wanted any more.
@@ -114,7 +120,7 @@ pub fn answer_edit(
     requires { ⌜ Ample (now tx) (now rp) (now ap) ⌝ }
     ensures { λ r. ⌜ Line r (now (tx .exit)) (editLineAnswer (bare (now (letters .entry)) (known .cds)) (now (line .entry))) ⌝ }
 {
-    if 20480 < line.len() {
+    if !fits_line(line) {
         return print_refused(30, tx);
     }
     let parsed = parse_edit(line);
@@ -183,7 +189,7 @@ pub fn answer_first(line: &[u8], letters: &mut [u8], protein: &mut [u8], text: &
     requires { ⌜ (length (now letters) ≡ 16384) × (length (now protein) ≡ 5462) × (length (now text) ≡ 8192) ⌝ }
     ensures { λ r. ⌜ Opens (if fitsLine (now (line .entry)) then referenceLine (now (line .entry)) else none) (r .follows) (r .size) (now (letters .exit)) (now (protein .exit)) (now (text .exit)) ⌝ }
 {
-    if 20480 < line.len() {
+    if !fits_line(line) {
         return Opened {
             follows: Follows::Nothing,
             size: print_refused(30, text),

@@ -1,17 +1,17 @@
 -- Laws of the first line: what a step that ends before it, or with it, leaves.
 -- Assumes nothing.
-use mathlib.Core.Path.{_≡_, refl, sym, ap, _∙_}
-use mathlib.Core.List.{List, [], _∷_, _++_}
+use mathlib.Core.Path.{_≡_, refl, ap, _∙_}
+use mathlib.Core.List.{List, [], _++_}
 use mathlib.Core.Option.{Option, none, some}
 use Prim.Native.Nat.{ℕ, _+_, _-_, _≤_, _<_}
 use native.Mathlib.Omega.{arith}
 use lib.ListN.{length, take, drop, getD}
 use lib.Seq.{length-take-le}
-use Rattle.bytes.specs.Bytes.{slice, indexOf}
 use Rattle.rules.specs.Bytes.{if_then_else_}
+use Rattle.bytes.specs.Bytes.{slice, indexOf}
 use Rattle.rules.specs.Reference.{Reference}
 use Rattle.rules.specs.Line.{referenceLine, fitsLine}
-use Rattle.rules.specs.Run.{answersOf, answers, lineFeed, unlines}
+use Rattle.rules.specs.Run.{answers, lineFeed}
 use Rattle.positions.specs.Views.{bare}
 use Rattle.answers.specs.declared.Follows.{Follows}
 use Rattle.answers.specs.declared.Follows.the-variants.{Edits, Nothing}

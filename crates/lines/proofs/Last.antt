@@ -15,12 +15,11 @@ use Rattle.rules.specs.Bytes.{if_then_else_, given, refused, over}
 use Rattle.rules.specs.Answer.{writtenOf, bytesOf}
 use Rattle.rules.specs.Run.{lineFeed}
 use Rattle.rules.proofs.Fills.{refuses, gives}
-use Rattle.answers.specs.declared.Follows.{Follows}
 use Rattle.answers.specs.declared.Follows.the-variants.{Edits, Nothing}
 use Rattle.lines.specs.declared.Phase.{Phase}
 use Rattle.lines.specs.declared.Phase.the-variants.{Opening, Behind}
 use Rattle.lines.specs.declared.State.{State}
-use Rattle.lines.specs.Stages.{Stage, opening, editing, ended, lineOf, answered, printed, printedLast, last, Steps}
+use Rattle.lines.specs.Stages.{Stage, answered, printed, printedLast, last, Steps}
 use Rattle.lines.specs.Memory.{stageBy, stageOf, Holds}
 use Rattle.lines.proofs.Pieces.{printed-feed}
 

@@ -1,15 +1,14 @@
 -- How long a line's answer is at most, and that a step into as much room as that takes something.
 -- Assumes nothing.
-use mathlib.Core.Path.{_≡_, refl, sym, ap, subst, _∙_}
+use mathlib.Core.Path.{_≡_, refl}
 use mathlib.Core.Bool.{Bool, true, false}
 use mathlib.Core.List.{List, [], _∷_, _++_}
 use mathlib.Core.Option.{Option, none, some}
-use Prim.Native.Nat.{ℕ, zero, suc, _+_, _-_, _≤_, _<_}
+use Prim.Native.Nat.{ℕ, zero, suc, _+_, _≤_, _<_}
 use native.Mathlib.Omega.{arith}
 use lib.Dec.{eqb}
 use lib.ListN.{length, take, length-append}
-use borrow.Author.Tests.{eqb-true, eqb-false}
-use Rattle.rules.specs.Bytes.{bytes, if_then_else_, isNone, Result, given, refused, unless}
+use Rattle.rules.specs.Bytes.{if_then_else_, bytes, isNone, unless}
 use Rattle.rules.specs.Translation.{exceptionList, residueCount}
 use Rattle.rules.specs.Reference.{Reference, size, cdsSize, codons, referenceProtein}
 use Rattle.rules.specs.Edit.{Asked}
@@ -20,7 +19,7 @@ use Rattle.rules.specs.Line.{editLine, fitsLine, referenceLine}
 use Rattle.rules.specs.Run.{refusedLine, answerLine, editAnswer, editLineAnswer, answersFrom, answersOf, answers, lineFeed, unlines}
 use Rattle.rules.proofs.Reference.{accepted, protein-read}
 use Rattle.rules.proofs.Refusal.{reference-accepted}
-use Rattle.rules.proofs.Altered.{longestAltered, altered-fits}
+use Rattle.rules.proofs.Altered.{altered-fits}
 use Rattle.rules.proofs.Protein.{altered-room}
 use Rattle.positions.specs.Views.{bare}
 use Rattle.answers.specs.declared.Follows.the-variants.{Edits, Nothing}

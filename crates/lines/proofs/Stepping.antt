@@ -1,8 +1,8 @@
 -- Laws of a step by the phase that it finds.
 -- Assumes nothing.
-use mathlib.Core.Path.{_≡_, refl, sym, ap, subst, _∙_}
+use mathlib.Core.Path.{_≡_, sym, subst}
 use mathlib.Core.List.{List}
-use Prim.Native.Nat.{ℕ, _<_}
+use Prim.Native.Nat.{ℕ}
 use native.Mathlib.Omega.{arith}
 use lib.ListN.{length, take}
 use Rattle.positions.specs.Views.{bare}
@@ -13,8 +13,8 @@ use Rattle.answers.specs.Lines.{KnownIn}
 use Rattle.lines.specs.declared.Phase.{Phase}
 use Rattle.lines.specs.declared.Phase.the-variants.{Opening, Behind}
 use Rattle.lines.specs.declared.State.{State}
-use Rattle.lines.specs.Stages.{Stage, opening, editing, ended, Steps}
-use Rattle.lines.specs.Memory.{stageBehind, stageBy, stageOf, KnownBy, Rooms, Holds}
+use Rattle.lines.specs.Stages.{Stage, opening, editing, Steps}
+use Rattle.lines.specs.Memory.{stageBehind, stageBy, stageOf, KnownBy, Holds}
 use Rattle.lines.proofs.Turns.{moves-ended}
 
 -- what follows the first line

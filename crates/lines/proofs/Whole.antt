@@ -4,17 +4,16 @@ use mathlib.Core.Path.{_≡_, refl, sym, ap, _∙_}
 use mathlib.Core.Bool.{Bool, true, false}
 use mathlib.Core.List.{List, [], _∷_, _++_, append-assoc, append-nil, map}
 use mathlib.Core.Option.{Option, none, some}
-use Prim.Native.Nat.{ℕ, zero, suc, _≤_, _<_}
-use native.Mathlib.Omega.{arith}
+use Prim.Native.Nat.{ℕ, zero, suc}
 use lib.Dec.{eqb}
 use borrow.Author.Tests.{eqb-true}
-use Rattle.rules.specs.Bytes.{bytes, if_then_else_}
+use Rattle.rules.specs.Bytes.{if_then_else_, bytes}
 use Rattle.rules.specs.Reference.{Reference, referenceProtein}
 use Rattle.rules.specs.Refusal.{limits, referenceRefusal}
 use Rattle.rules.specs.Line.{referenceLine, fitsLine}
-use Rattle.rules.specs.Run.{refusedLine, editAnswer, editLineAnswer, answersFrom, answersOf, answers, lineFeed, linesFrom, lines, unlines, run}
+use Rattle.rules.specs.Run.{refusedLine, editLineAnswer, answersFrom, answersOf, answers, lineFeed, linesFrom, lines, unlines, run}
 use Rattle.answers.specs.Lines.{acceptedBy, accepted}
-use Rattle.lines.specs.Stages.{Stage, opening, editing, ended, start, kept, lineOf, longer, behindFirst, nextLine, answered, after, printed, printedLast}
+use Rattle.lines.specs.Stages.{Stage, opening, editing, ended, start, kept, longer, behindFirst, nextLine, answered, after, printed, printedLast}
 use Rattle.lines.proofs.Kept.{kept-front, kept-fits, kept-unfit}
 use Rattle.lines.proofs.Pieces.{after-append, printed-append, after-ended, printed-ended}
 
@@ -102,12 +101,12 @@ edits-all r l (b ∷ s) = by (eqb b lineFeed) refl (edits-all r [] s) (edits-all
 first-all : (o : Option Reference) (s : List ℕ) → ((r : Reference) → printedAll (editing r (kept [])) s ≡ unlines (map (editLineAnswer r) (linesFrom [] s)))
     → unlines (answersOf o []) ++ printedAll (behindFirst (accepted o)) s ≡ unlines (answersOf o (linesFrom [] s))
 unfolding answersOf accepted acceptedBy behindFirst kept answersFrom
-first-all none s h = rw (ended-all s) (append-nil (unlines (refusedLine 30 ∷ [])))
+first-all none s h = ap (λ (t : List ℕ). unlines (refusedLine 30 ∷ []) ++ t) (ended-all s) ∙ append-nil (unlines (refusedLine 30 ∷ []))
 first-all (some r) s h = by (referenceRefusal (limits .longest) r)
   where
     by : (n : ℕ) → unlines (answersFrom n r []) ++ printedAll (behindFirst (acceptedBy n r)) s ≡ unlines (answersFrom n r (linesFrom [] s))
     by zero = rw (h r) (unlines-more (bytes "reference " ++ referenceProtein r) (map (editLineAnswer r) (linesFrom [] s)))
-    by (suc n) = rw (ended-all s) (append-nil (unlines (refusedLine (suc n) ∷ [])))
+    by (suc n) = ap (λ (t : List ℕ). unlines (refusedLine (suc n) ∷ []) ++ t) (ended-all s) ∙ append-nil (unlines (refusedLine (suc n) ∷ []))
 
 -- from a first line that is begun
 opening-end : (l : List ℕ) → printedAll (opening (kept l)) [] ≡ unlines (answers (linesFrom l []))

@@ -1,19 +1,18 @@
 -- How long the lines are at most, whatever they say.
 -- Assumes nothing.
-use mathlib.Core.Path.{_≡_, refl}
 use mathlib.Core.Bool.{Bool, true, false}
 use mathlib.Core.List.{List, [], _∷_, _++_}
 use Prim.Native.Nat.{ℕ, _+_, _≤_}
 use native.Mathlib.Omega.{arith}
 use lib.Dec.{eqb}
-use lib.ListN.{length, take, drop, length-append, length-take, length-drop}
+use lib.ListN.{length, length-append, length-take, length-drop}
 use Rattle.rules.specs.declared.Class.{Class}
 use Rattle.rules.specs.declared.Class.the-variants.{StartLost, Extension, StopGained, Frameshift, Substitution, Deletion, Duplication, Insertion, Delins}
 use Rattle.rules.specs.declared.Part.{Part}
 use Rattle.rules.specs.declared.Change.{Change}
 use Rattle.rules.specs.declared.Record.{Record}
 use Rattle.rules.specs.declared.Record.the-variants.{Unknown, NoProtein, Silent, Changed}
-use Rattle.rules.specs.Bytes.{bytes, if_then_else_}
+use Rattle.rules.specs.Bytes.{if_then_else_, bytes}
 use Rattle.rules.specs.Record.{partOf}
 use Rattle.rules.specs.Run.{decimal, shown, className, refusedLine, shownFirst, changeLine, recordLine}
 use Rattle.prints.proofs.Digits.{few-decimals}

@@ -2,12 +2,12 @@
 -- Assumes nothing.
 use mathlib.Core.Path.{_≡_, refl, sym, ap, _∙_}
 use mathlib.Core.Bool.{Bool, true, false}
-use mathlib.Core.List.{List, [], _++_, append-assoc}
+use mathlib.Core.List.{List, _++_}
 use Prim.Native.Nat.{ℕ, _+_, _-_, _≤_, _<_}
 use native.Mathlib.Omega.{arith}
 use lib.Dec.{leb}
 use lib.ListN.{length, take, drop, length-append, length-drop}
-use lib.Seq.{length-take-le, take-length, take-all, take-add}
+use lib.Seq.{length-take-le, take-length}
 use borrow.Rule.Slice.PartMut.{putMid}
 use borrow.Author.Tests.{le-leb, lt-leb, leb-true, leb-false}
 use Rattle.rules.specs.declared.Written.{Written}
@@ -16,12 +16,10 @@ use Rattle.rules.specs.Bytes.{if_then_else_, given, refused, over}
 use Rattle.rules.specs.Answer.{writtenOf, bytesOf}
 use Rattle.rules.specs.Run.{run}
 use Rattle.rules.proofs.Over.{lent-on-by, tail-is, length-over}
-use Rattle.rules.proofs.Fills.{refuses, gives}
 use Rattle.lines.specs.declared.Phase.the-variants.{Opening}
 use Rattle.lines.specs.declared.State.{State}
-use Rattle.lines.specs.Stages.{Stage, start, after, printed, printedLast, last, Moves, Steps}
+use Rattle.lines.specs.Stages.{Stage, start, after, printed, printedLast, last, Steps}
 use Rattle.lines.specs.Memory.{stageOf, Rooms, Holds}
-use Rattle.lines.proofs.Pieces.{after-append, printed-append}
 use Rattle.lines.proofs.Turns.{row-reached, row-prints}
 use Rattle.lines.proofs.Whole.{printedAll, whole}
 use Rattle.lines.proofs.Single.{printed-grows}
