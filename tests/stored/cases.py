@@ -1,4 +1,4 @@
-"""The cases of the program stored_vectors, and what the second account of document 01 (tests/account) says of them.
+"""The cases of the program vectors_stored, and what the second account of document 01 (tests/account) says of them.
 
 cases.py stdin    the program's input: names, stored bytes and edits, each string behind the two bytes of its length
 cases.py stdout   what the program must print

@@ -3,12 +3,12 @@
 // account of document 01 in another language (tests/account).
 use libc::STDIN_FILENO;
 use libc::STDOUT_FILENO;
-use lines::Phase;
-use lines::State;
+use text_lines::Phase;
+use text_lines::State;
 use rules::Written;
 ghost use mathlib.Core.Path.{_≡_};
 ghost use lib.ListN.{length};
-ghost use Rattle.lines.specs.Memory.{Holds};
+ghost use Rattle.text_lines.specs.Memory.{Holds};
 
 // What comes behind a read: another, the answer to the last line, or nothing more.
 enum Next {
@@ -24,7 +24,7 @@ struct Turn {
 
 // Nothing follows a refused first line.
 fn next_of(state: State) -> Next {
-    if lines::is_over(state) {
+    if text_lines::is_over(state) {
         Next::Stop
     } else {
         Next::Read
@@ -47,7 +47,7 @@ fn run_piece(
     let mut reached = state;
     let mut at = 0;
     while at < input.len() {
-        let stepped = lines::step(reached, line, letters, protein, &input[at..], out);
+        let stepped = text_lines::step(reached, line, letters, protein, &input[at..], out);
         reached = stepped.state;
         at = at + stepped.taken;
         let used = stepped.used;
@@ -99,7 +99,7 @@ fn run_last(state: State, line: &mut [u8], letters: &mut [u8], protein: &mut [u8
     requires { ⌜ Holds state (now line) (now letters) (now protein) ⌝ }
     requires { ⌜ length (now out) ≡ 65536 ⌝ }
 {
-    match lines::finish(state, line, letters, protein, out) {
+    match text_lines::finish(state, line, letters, protein, out) {
         Written::Bytes(n) => {
             io::write_all(STDOUT_FILENO, &out[..n]);
         }

@@ -5,7 +5,7 @@ ghost use mathlib.Core.Path.{_≡_};
 ghost use lib.ListN.{length};
 ghost use Rattle.rules.specs.Bytes.{over};
 ghost use Rattle.rules.specs.Answer.{writtenOf, bytesOf};
-ghost use Rattle.runs.specs.Runs.{runWithin};
+ghost use Rattle.text_run.specs.Runs.{runWithin};
 ghost use Rattle.garumbott.specs.Host.{lengthOf};
 
 #[no_mangle]
@@ -13,5 +13,5 @@ pub extern "C" fn garumbott_run(input: &[u8], out: &mut [u8]) -> GarumbottLength
     ensures { λ r. ⌜ r ≡ lengthOf (writtenOf (runWithin (now (input .entry)) (length (now (out .entry))))) ⌝ }
     ensures { λ _. ⌜ now (out .exit) ≡ over (bytesOf (runWithin (now (input .entry)) (length (now (out .entry))))) (now (out .entry)) ⌝ }
 {
-    length_of(runs::run(input, out))
+    length_of(text_run::run(input, out))
 }

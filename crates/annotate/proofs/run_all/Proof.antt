@@ -2,7 +2,7 @@
 use mathlib.Core.Path.{_≡_, sym, _∙_}
 use native.Mathlib.Omega.{arith}
 use lib.ListN.{length}
-use Rattle.lines.specs.Memory.{Holds}
+use Rattle.text_lines.specs.Memory.{Holds}
 use borrow.Author.Needs.{needs}
 use Rattle.annotate.proofs.run_all.Statement.{statement}
 use Rattle.annotate.proofs.run_all.Tie as tie

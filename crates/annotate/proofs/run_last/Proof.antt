@@ -3,7 +3,7 @@ use mathlib.Core.Path.{sym}
 use native.Mathlib.Omega.{arith}
 use lib.ListN.{length}
 use lib.Seq.{length-take-le}
-use Rattle.lines.proofs.Last.{last-within}
+use Rattle.text_lines.proofs.Last.{last-within}
 use borrow.Author.Needs.{needs}
 use Rattle.annotate.proofs.run_last.Statement.{statement}
 use Rattle.annotate.proofs.run_last.Tie as tie

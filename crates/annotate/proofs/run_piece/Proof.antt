@@ -4,8 +4,8 @@ use Prim.Native.Nat.{_-_, _≤_}
 use native.Mathlib.Omega.{arith}
 use lib.ListN.{length, take, drop, length-drop}
 use lib.Seq.{length-take-le}
-use Rattle.lines.specs.Memory.{Holds}
-use Rattle.lines.proofs.Room.{takes-some}
+use Rattle.text_lines.specs.Memory.{Holds}
+use Rattle.text_lines.proofs.Room.{takes-some}
 use borrow.Author.Needs.{needs}
 use Rattle.annotate.proofs.run_piece.Statement.{statement}
 use Rattle.annotate.proofs.run_piece.Tie as tie

@@ -1,0 +1,111 @@
+// The two lines: an edit, and `ref CS CE TABLE LETTERS`.
+use crate::number::NumberAt;
+use crate::number::parse_number;
+use crate::position::RangeAt;
+use crate::position::parse_range;
+use crate::verb::VerbAt;
+use crate::verb::are_capitals;
+use crate::verb::parse_verb;
+use crate::verb::starts_with;
+use rules::Edit;
+ghost use mathlib.Core.Path.{_≡_};
+ghost use Prim.Native.Nat.{_≤_};
+ghost use lib.ListN.{length, drop};
+ghost use Rattle.rules.specs.Line.{editLine, spaced, referenceLine};
+ghost use Rattle.text_forms.specs.Views.{numberIn, numberNext, askedIn, askedAt, referenceIn, referenceAt};
+
+// The new bases are the line from `at` on; `at` is the line's length where there are none.
+pub enum EditLine {
+    Not,
+    Asked { edit: Edit, at: usize },
+}
+
+// The letters are the line from `at` on.
+pub enum ReferenceLine {
+    Not,
+    Given {
+        cs: usize,
+        ce: usize,
+        table: usize,
+        at: usize,
+    },
+}
+
+// An edit line: its positions, its kind, and where its new bases begin.
+pub fn parse_edit(line: &[u8]) -> EditLine
+    ensures { λ r. ⌜ askedIn (now (line .entry)) r ≡ editLine (now (line .entry)) ⌝ }
+    ensures within { λ r. ⌜ askedAt r ≤ length (now (line .entry)) ⌝ }
+{
+    let g = parse_range(line);
+    let RangeAt::Found { start, end, next } = g else {
+        return EditLine::Not;
+    };
+    let v = parse_verb(line, next);
+    let VerbAt::Found { kind, at } = v else {
+        return EditLine::Not;
+    };
+    EditLine::Asked {
+        edit: Edit { kind, start, end },
+        at,
+    }
+}
+
+// The number at a place of a line, with one space behind it.
+fn parse_spaced(line: &[u8], at: usize) -> NumberAt
+    requires { ⌜ at ≤ length (now line) ⌝ }
+    ensures { λ r. ⌜ numberIn (now (line .entry)) r ≡ spaced (drop at (now (line .entry))) ⌝ }
+    ensures within { λ r. ⌜ numberNext r ≤ length (now (line .entry)) ⌝ }
+{
+    let n = parse_number(line, at);
+    let NumberAt::Found { value, next } = n else {
+        return NumberAt::Not;
+    };
+    if line.len() <= next {
+        return NumberAt::Not;
+    }
+    if line[next] != b' ' {
+        return NumberAt::Not;
+    }
+    NumberAt::Found {
+        value,
+        next: next + 1,
+    }
+}
+
+// `ref CS CE TABLE LETTERS`: the numbers, and where the letters begin.
+pub fn parse_reference(line: &[u8]) -> ReferenceLine
+    ensures { λ r. ⌜ referenceIn (now (line .entry)) r ≡ referenceLine (now (line .entry)) ⌝ }
+    ensures within { λ r. ⌜ referenceAt r ≤ length (now (line .entry)) ⌝ }
+{
+    if !starts_with(b"ref ", line) {
+        return ReferenceLine::Not;
+    }
+    let a = parse_spaced(line, 4);
+    let NumberAt::Found {
+        value: cs,
+        next: behind_cs,
+    } = a
+    else {
+        return ReferenceLine::Not;
+    };
+    let b = parse_spaced(line, behind_cs);
+    let NumberAt::Found {
+        value: ce,
+        next: behind_ce,
+    } = b
+    else {
+        return ReferenceLine::Not;
+    };
+    let c = parse_spaced(line, behind_ce);
+    let NumberAt::Found {
+        value: table,
+        next: at,
+    } = c
+    else {
+        return ReferenceLine::Not;
+    };
+    if !are_capitals(&line[at..]) {
+        return ReferenceLine::Not;
+    }
+    ReferenceLine::Given { cs, ce, table, at }
+}
