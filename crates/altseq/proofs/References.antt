@@ -16,7 +16,7 @@ use Rattle.rules.specs.declared.Limits.{Limits}
 use Rattle.rules.specs.Bytes.{byte, if_then_else_, all, count, _↯_, firstOf, over}
 use Rattle.rules.specs.Letters.{isLetter}
 use Rattle.rules.specs.Codons.{isTable}
-use Rattle.rules.specs.Translation.{noException, exceptionList, residueCount, areLetters, plainTranslated}
+use Rattle.rules.specs.Translation.{noException, exceptionList, residueCount, foldToLetters, foldedTranslated}
 use Rattle.rules.specs.Reference.{Reference, size, isSize, cdsSize, areBounds, cds, codons, areRising, fitExceptions, referenceProtein, endsInStop, referenceTests}
 use Rattle.rules.specs.Refusal.{referenceRefusal}
 use Rattle.rules.proofs.Tests.{and-left, and-right, or-left, or-right, first-clear, first-behind, first-before, all-take, all-drop}
@@ -24,7 +24,7 @@ use Rattle.rules.proofs.Over.{length-over, fits-over, read-back, read-at}
 use Rattle.rules.proofs.Translation.{length-exceptions, first-exceptions}
 use Rattle.rules.proofs.Reference.{Bounds, bounds-of, length-cds, length-protein, protein-read}
 use Rattle.rules.proofs.Altered.{longestAltered}
-use Rattle.codons.specs.Tables.{isBase}
+use Rattle.codons.specs.Tables.{foldsToBase}
 use Rattle.positions.specs.declared.Cds.{Cds}
 use Rattle.positions.specs.Views.{bare, Sound}
 use Rattle.altseq.specs.declared.reference.Known.{Known}
@@ -32,7 +32,7 @@ use Rattle.altseq.specs.declared.reference.Early.{Early}
 use Rattle.altseq.specs.declared.reference.Early.the-variants as early
 use Rattle.altseq.specs.declared.reference.Checked.{Checked}
 use Rattle.altseq.specs.declared.reference.Checked.the-variants as checked
-use Rattle.translation.specs.Residues.{areBases}
+use Rattle.translation.specs.Residues.{foldToBases}
 use Rattle.translation.proofs.Strict.{strict-letters, strict-translated, whole-bases}
 use Rattle.altseq.specs.Known.{referenceOf, isException, earlyRefusal, earlyBy, earlyOf, proteinUnless, knownOf, checkedBy, readOf, checkedOf, Readable, Knows}
 
@@ -203,15 +203,15 @@ module _ (longest : ℕ) (s : List ℕ) (c : Cds) (e : Exceptions) where
     unfolding earlyOf earlyBy
     was-refused n h = by (earlyRefusal longest (referenceOf s c e)) (sym is ∙ h)
       where
-        by : (m : ℕ) → earlyBy m (all isBase s) ≡ early.Refused n → (n ≡ m) × (n ≡ 0 → ⊥)
+        by : (m : ℕ) → earlyBy m (all foldsToBase s) ≡ early.Refused n → (n ≡ m) × (n ≡ 0 → ⊥)
         by zero q = let z : _≡_ {A = ℕ} 0 1 = cc in absurd (omega arith)
         by (suc m) q = let same : n ≡ suc m = cc in (same, λ z. omega arith)
 
-    pub was-clear : (plain : Bool) → x ≡ early.Clear plain → (earlyRefusal longest (referenceOf s c e) ≡ 0) × (plain ≡ all isBase s)
+    pub was-clear : (plain : Bool) → x ≡ early.Clear plain → (earlyRefusal longest (referenceOf s c e) ≡ 0) × (plain ≡ all foldsToBase s)
     unfolding earlyOf earlyBy
     was-clear plain h = by (earlyRefusal longest (referenceOf s c e)) (sym is ∙ h)
       where
-        by : (m : ℕ) → earlyBy m (all isBase s) ≡ early.Clear plain → (m ≡ 0) × (plain ≡ all isBase s)
+        by : (m : ℕ) → earlyBy m (all foldsToBase s) ≡ early.Clear plain → (m ≡ 0) × (plain ≡ all foldsToBase s)
         by zero q = (refl, cc)
         by (suc m) q = let z : _≡_ {A = ℕ} 0 1 = cc in absurd (omega arith)
 
@@ -363,13 +363,13 @@ module _ (s : List ℕ) (c : Cds) (e : Exceptions) (x : Readable s c e) where
   part-letters : all isLetter (take (c .ce - (c .cs - 1)) (drop (c .cs - 1) s)) ≡ true
   part-letters = all-take isLetter (c .ce - (c .cs - 1)) (drop (c .cs - 1) s) (all-drop isLetter (c .cs - 1) s (x .sound .letters))
 
-  pub part-readable : areLetters (take (c .ce - (c .cs - 1)) (drop (c .cs - 1) s)) ≡ true
+  pub part-readable : foldToLetters (take (c .ce - (c .cs - 1)) (drop (c .cs - 1) s)) ≡ true
   part-readable = strict-letters (take (c .ce - (c .cs - 1)) (drop (c .cs - 1) s)) part-letters
 
-  pub part-plain : (plain : Bool) → plain ≡ all isBase s → plain ≡ true → areBases (take (c .ce - (c .cs - 1)) (drop (c .cs - 1) s)) ≡ true
+  pub part-plain : (plain : Bool) → plain ≡ all foldsToBase s → plain ≡ true → foldToBases (take (c .ce - (c .cs - 1)) (drop (c .cs - 1) s)) ≡ true
   part-plain plain is h =
       whole-bases (take (c .ce - (c .cs - 1)) (drop (c .cs - 1) s))
-      (all-take isBase (c .ce - (c .cs - 1)) (drop (c .cs - 1) s) (all-drop isBase (c .cs - 1) s (sym is ∙ h)))
+      (all-take foldsToBase (c .ce - (c .cs - 1)) (drop (c .cs - 1) s) (all-drop foldsToBase (c .cs - 1) s (sym is ∙ h)))
 
   pub part-room : (room : ℕ) → codons (bare s c) ≤ room → residueCount (length (take (c .ce - (c .cs - 1)) (drop (c .cs - 1) s))) ≤ room
   unfolding codons cdsSize residueCount
@@ -378,7 +378,7 @@ module _ (s : List ℕ) (c : Cds) (e : Exceptions) (x : Readable s c e) where
       rw (cds-part, length-cds (referenceOf s c e) reference-bounds) (omega arith)
 
   -- R is written
-  module _ (old out : List ℕ) (written : out ≡ over (plainTranslated (c .table) (exceptionList e) (take (c .ce - (c .cs - 1)) (drop (c .cs - 1) s))) old) where
+  module _ (old out : List ℕ) (written : out ≡ over (foldedTranslated (c .table) (exceptionList e) (take (c .ce - (c .cs - 1)) (drop (c .cs - 1) s))) old) where
     pub holds-protein : out ≡ over (referenceProtein (referenceOf s c e)) old
     unfolding referenceProtein
     holds-protein = written ∙ rw (strict-translated (take (c .ce - (c .cs - 1)) (drop (c .cs - 1) s)) part-letters (c .table) (exceptionList e), cds-part)
@@ -399,7 +399,7 @@ module _ (s : List ℕ) (c : Cds) (e : Exceptions) (x : Readable s c e) where
     unfolding readOf endsInStop
     read-stopless h = rw (ne-eqb (getD (referenceProtein (referenceOf s c e)) (codons (referenceOf s c e) - 1) 0) (byte "*") (λ q. h (last-residue ∙ q)))
 
-    pub read-known : (plain several : Bool) → getD out ((c .ce - (c .cs - 1)) / 3 - 1) 0 ≡ byte "*" → plain ≡ all isBase s
+    pub read-known : (plain several : Bool) → getD out ((c .ce - (c .cs - 1)) / 3 - 1) 0 ≡ byte "*" → plain ≡ all foldsToBase s
         → several ≡ ltb 1 (count (byte "*") (take ((c .ce - (c .cs - 1)) / 3) out))
         → checked.Known (record { cds = c; residues = (c .ce - (c .cs - 1)) / 3; plain = plain; several = several }) ≡ readOf s c e
     unfolding readOf endsInStop knownOf

@@ -15,7 +15,7 @@ use Rattle.rules.specs.declared.Record.{Record}
 use Rattle.rules.specs.declared.Answer.the-variants.{Reported}
 use Rattle.rules.specs.Bytes.{all, over}
 use Rattle.rules.specs.Letters.{isLetter}
-use Rattle.rules.specs.Translation.{throughStop, residueCount, areLetters, plainTranslated}
+use Rattle.rules.specs.Translation.{throughStop, residueCount, foldToLetters, foldedTranslated}
 use Rattle.rules.specs.Trims.{commonPrefix}
 use Rattle.rules.specs.Reference.{Reference, size, cdsSize, referenceProtein}
 use Rattle.rules.specs.Edit.{Asked, kindOf}
@@ -32,11 +32,11 @@ use Rattle.rules.proofs.Refusal.{reference-accepted, edit-allowed}
 use Rattle.rules.proofs.Altered.{AlteredLength, altered-length, altered-letters}
 use Rattle.rules.proofs.Records.{record-known}
 use Rattle.rules.proofs.Answers.{Fits, fits}
-use Rattle.codons.specs.Tables.{isBase}
+use Rattle.codons.specs.Tables.{foldsToBase}
 use Rattle.exceptions.specs.Moving.{Moves, Given}
 use Rattle.positions.proofs.Tests.{fitting}
 use Rattle.exceptions.proofs.Moving.{moves-of, given-of, moved-is}
-use Rattle.translation.specs.Residues.{areBases}
+use Rattle.translation.specs.Residues.{foldToBases}
 use Rattle.edits.specs.Plans.{planOf, silentWithin}
 use Rattle.altseq.specs.Transcript.{carriedBy}
 use Rattle.altseq.specs.Transcript as transcript
@@ -103,15 +103,15 @@ module _ (r : Reference) (a : Asked) (room : Room) (x : Clear r a room) where
       coding-letters : all isLetter (take (n - (r .cs - 1)) (drop (r .cs - 1) tx′)) ≡ true
       coding-letters = rw coding-back (all-drop isLetter (r .cs - 1) (alteredTranscript r a) (altered-letters (x .limits) r a (x .allowed)))
 
-      pub coding-readable : areLetters (take (n - (r .cs - 1)) (drop (r .cs - 1) tx′)) ≡ true
+      pub coding-readable : foldToLetters (take (n - (r .cs - 1)) (drop (r .cs - 1) tx′)) ≡ true
       coding-readable = strict-letters (take (n - (r .cs - 1)) (drop (r .cs - 1) tx′)) coding-letters
 
-      pub coding-bases : (plain bases : Bool) → plain ≡ all isBase (r .letters) → bases ≡ all isBase (a .new) → (plain && bases) ≡ true
-          → areBases (take (n - (r .cs - 1)) (drop (r .cs - 1) tx′)) ≡ true
+      pub coding-bases : (plain bases : Bool) → plain ≡ all foldsToBase (r .letters) → bases ≡ all foldsToBase (a .new) → (plain && bases) ≡ true
+          → foldToBases (take (n - (r .cs - 1)) (drop (r .cs - 1) tx′)) ≡ true
       coding-bases plain bases p b h =
           let new = fitting (x .limits .most) (kindOf a) (a .new) (edit-allowed (x .limits) r a (x .allowed) .bases) in
           let stay = bases-stay r a (accepts .letters) (new .letters) (sym p ∙ and-left plain bases h) (sym b ∙ and-right plain bases h) in
-          whole-bases (take (n - (r .cs - 1)) (drop (r .cs - 1) tx′)) (rw coding-back (all-drop isBase (r .cs - 1) (alteredTranscript r a) stay))
+          whole-bases (take (n - (r .cs - 1)) (drop (r .cs - 1) tx′)) (rw coding-back (all-drop foldsToBase (r .cs - 1) (alteredTranscript r a) stay))
 
       pub coding-room : residueCount (length (take (n - (r .cs - 1)) (drop (r .cs - 1) tx′))) ≤ room .altered
       unfolding residueCount
@@ -119,15 +119,15 @@ module _ (r : Reference) (a : Asked) (room : Room) (x : Clear r a room) where
 
       -- the exceptions are moved, and A is written
       module _ (es : List Exception) (moved : es ≡ movedAll (commonPrefix (r .letters) (take n tx′)) (r .cs - 1) (r .letters) (take n tx′) (r .exceptions)) where
-        protein-is : throughStop (plainTranslated (r .table) es (take (n - (r .cs - 1)) (drop (r .cs - 1) tx′))) ≡ alteredProtein r a
+        protein-is : throughStop (foldedTranslated (r .table) es (take (n - (r .cs - 1)) (drop (r .cs - 1) tx′))) ≡ alteredProtein r a
         unfolding alteredProtein proteinOf
         protein-is =
             let is = moved-is r (alteredTranscript r a) (r .cs - 1) (r .exceptions) es refl refl (rw transcript-back at moved) in
             rw (strict-translated (take (n - (r .cs - 1)) (drop (r .cs - 1) tx′)) coding-letters (r .table) es, coding-back, is)
 
         module _ (k : ℕ) (alt alt′ : List ℕ)
-            (read : k ≡ length (throughStop (plainTranslated (r .table) es (take (n - (r .cs - 1)) (drop (r .cs - 1) tx′)))))
-            (held : alt′ ≡ over (throughStop (plainTranslated (r .table) es (take (n - (r .cs - 1)) (drop (r .cs - 1) tx′)))) alt) where
+            (read : k ≡ length (throughStop (foldedTranslated (r .table) es (take (n - (r .cs - 1)) (drop (r .cs - 1) tx′)))))
+            (held : alt′ ≡ over (throughStop (foldedTranslated (r .table) es (take (n - (r .cs - 1)) (drop (r .cs - 1) tx′)))) alt) where
           altered-length-is : k ≡ length (alteredProtein r a)
           altered-length-is = rw protein-is at read
 

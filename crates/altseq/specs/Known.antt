@@ -12,7 +12,7 @@ use Rattle.rules.specs.Bytes.{byte, if_then_else_, all, count, firstOf}
 use Rattle.rules.specs.Translation.{exceptionList, isResidue}
 use Rattle.rules.specs.Reference.{Reference, codons, fitExceptions, referenceProtein, endsInStop, referenceTests}
 use Rattle.rules.specs.Refusal.{referenceRefusal, Room}
-use Rattle.codons.specs.Tables.{isBase}
+use Rattle.codons.specs.Tables.{foldsToBase}
 use Rattle.positions.specs.declared.Cds.{Cds}
 use Rattle.positions.specs.Views.{Sound}
 use Rattle.altseq.specs.declared.reference.Known.{Known}
@@ -45,7 +45,7 @@ earlyBy (suc n) plain = early.Refused (suc n)
 
 -- 1 to 5, else whether each letter is one base
 unfoldable pub earlyOf : ℕ → List ℕ → Cds → Exceptions → Early
-earlyOf longest s c e = earlyBy (earlyRefusal longest (referenceOf s c e)) (all isBase s)
+earlyOf longest s c e = earlyBy (earlyRefusal longest (referenceOf s c e)) (all foldsToBase s)
 
 -- what the check writes: R, unless one of 1 to 5 applies
 unfoldable pub proteinUnless : ℕ → Reference → List ℕ
@@ -59,7 +59,7 @@ knownOf s c e =
     record {
       cds = c;
       residues = codons (referenceOf s c e);
-      plain = all isBase s;
+      plain = all foldsToBase s;
       several = ltb 1 (count (byte "*") (referenceProtein (referenceOf s c e)));
     }
 

@@ -8,7 +8,7 @@ use crate::reference::early_refusal;
 use crate::reference::read_reference;
 use crate::transcript::write_transcript;
 use codons::complement::complements;
-use codons::letters::plain_sets;
+use codons::letters::folded_sets;
 use codons::tables::plain_code;
 use codons::tables::residues_of;
 use edits::swaps::Plan;
@@ -23,13 +23,13 @@ use rules::Exceptions;
 use rules::Limits;
 use rules::Record;
 use rules::Report;
-use translation::all_bases;
+use translation::all_fold_to_bases;
 use translation::write_through_stop;
 ghost use mathlib.Core.Path.{_≡_};
 ghost use Rattle.rules.specs.Reference.{referenceProtein};
 ghost use Rattle.rules.specs.Refusal.{limits};
 ghost use Rattle.rules.specs.Answer.{unknownReport, writesAll, outcome, Answers};
-ghost use Rattle.codons.specs.Tables.{plainSet, HoldsSets, HoldsCode, HoldsPlain, HoldsComplements};
+ghost use Rattle.codons.specs.Tables.{foldedSet, HoldsSets, HoldsCode, HoldsPlain, HoldsComplements};
 ghost use Rattle.positions.specs.Views.{asked};
 ghost use Rattle.edits.specs.Plans.{planOf};
 ghost use Rattle.altseq.specs.Known.{cdsOf, referenceOf, roomOf, knownOf, Knows};
@@ -69,7 +69,7 @@ fn write(
     requires { ⌜ known ≡ knownOf (now letters) (known .cds) e ⌝ }
     requires { ⌜ now protein ≡ referenceProtein (referenceOf (now letters) (known .cds) e) ⌝ }
     requires { ⌜ plan ≡ planOf (referenceOf (now letters) (known .cds) e) (asked edit (now new)) ⌝ }
-    requires { ⌜ HoldsSets plainSet (now sets) ⌝ }
+    requires { ⌜ HoldsSets foldedSet (now sets) ⌝ }
     requires { ⌜ HoldsCode (known .cds .table) (now lut) ⌝ }
     requires { ⌜ HoldsPlain (known .cds .table) (now code) ⌝ }
     requires { ⌜ HoldsComplements (now pairs) ⌝ }
@@ -81,7 +81,7 @@ fn write(
     let n = write_transcript(letters, plan, new, pairs, tx);
     let m = bytes::copy(protein, rp);
     let moved = alt_translation_exceptions(letters, &tx[..n], first, e);
-    let plain = known.plain & all_bases(new);
+    let plain = known.plain & all_fold_to_bases(new);
     let k = write_through_stop(&tx[first..n], c.table, plain, sets, lut, code, moved, ap);
     let number = silent_number(m, edit);
     let found = record_from(protein, &ap[..k], plan.shift, number);
@@ -112,7 +112,7 @@ pub fn build_altseq_in(
     ap: &mut [u8],
 ) -> Answer
     requires { ⌜ Knows limits (now letters) known e (now protein) ⌝ }
-    requires { ⌜ HoldsSets plainSet (now sets) ⌝ }
+    requires { ⌜ HoldsSets foldedSet (now sets) ⌝ }
     requires { ⌜ HoldsCode (known .cds .table) (now lut) ⌝ }
     requires { ⌜ HoldsPlain (known .cds .table) (now code) ⌝ }
     requires { ⌜ HoldsComplements (now pairs) ⌝ }
@@ -174,7 +174,7 @@ pub fn build_altseq(
     match early_refusal(letters, c, e, limits.longest) {
         Early::Refused(n) => Answer::Refused(n),
         Early::Clear { plain } => {
-            let sets = plain_sets();
+            let sets = folded_sets();
             let lut = residues_of(table);
             let code = plain_code(table);
             let pairs = complements();

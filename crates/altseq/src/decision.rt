@@ -7,7 +7,7 @@ use positions::refusals::ends_after_transcript;
 use rules::Edit;
 ghost use mathlib.Core.Path.{_≡_};
 ghost use Prim.Native.Nat.{_<_};
-ghost use Rattle.codons.specs.Tables.{plainSet, HoldsSets, HoldsCode};
+ghost use Rattle.codons.specs.Tables.{foldedSet, HoldsSets, HoldsCode};
 ghost use Rattle.positions.specs.Views.{bare, asked, Sound};
 ghost use Rattle.altseq.specs.Decisions.{decisionOf};
 
@@ -30,7 +30,7 @@ pub fn decide(
 ) -> Decision
     requires { ⌜ Sound (now letters) c ⌝ }
     requires { ⌜ most < 4294967296 ⌝ }
-    requires { ⌜ HoldsSets plainSet (now sets) ⌝ }
+    requires { ⌜ HoldsSets foldedSet (now sets) ⌝ }
     requires { ⌜ HoldsCode (c .table) (now lut) ⌝ }
     ensures { λ r. ⌜ r ≡ decisionOf most several (bare (now (letters .entry)) c) (asked edit (now (new .entry))) ⌝ }
 {

@@ -1,13 +1,13 @@
 // "Reference": refusals 1 to 6, and the reference protein R, read once.
-use codons::letters::plain_sets;
+use codons::letters::folded_sets;
 use codons::tables::plain_code;
 use codons::tables::residues_of;
 use positions::Cds;
 use positions::places::least;
 use rules::Exception;
 use rules::Exceptions;
-use sequences::all_strict;
-use translation::all_plain;
+use sequences::all_letters;
+use translation::all_bases;
 use translation::write_translated;
 ghost use mathlib.Core.Path.{_≡_};
 ghost use mathlib.Core.Bool.{_&&_};
@@ -19,7 +19,7 @@ ghost use Rattle.rules.specs.Bytes.{byte, all, count, over};
 ghost use Rattle.rules.specs.Letters.{isLetter};
 ghost use Rattle.rules.specs.Translation.{exceptionList, residueCount};
 ghost use Rattle.rules.specs.Reference.{areBounds, codons, areRising, referenceProtein};
-ghost use Rattle.codons.specs.Tables.{plainSet, isBase, isPlain, HoldsSets, HoldsCode, HoldsPlain};
+ghost use Rattle.codons.specs.Tables.{foldedSet, foldsToBase, isBase, HoldsSets, HoldsCode, HoldsPlain};
 ghost use Rattle.positions.specs.Views.{bare};
 ghost use Rattle.altseq.specs.Known.{cdsOf, referenceOf, isException, earlyRefusal, earlyOf, proteinUnless, readOf, checkedOf, Readable};
 
@@ -86,13 +86,13 @@ fn fit_exceptions(e: Exceptions, most: usize) -> bool
 
 // Whether each letter is of the fifteen. Plain ones are, and needn't be looked at again.
 fn are_letters(letters: &[u8], plain: bool) -> bool
-    requires { ⌜ plain ≡ all isPlain (now letters) ⌝ }
+    requires { ⌜ plain ≡ all isBase (now letters) ⌝ }
     ensures { λ r. ⌜ r ≡ all isLetter (now (letters .entry)) ⌝ }
 {
     if plain {
         return true;
     }
-    all_strict(letters)
+    all_letters(letters)
 }
 
 // The lowest of 1 to 5 that applies, or whether the letters are plain.
@@ -102,7 +102,7 @@ pub fn early_refusal(letters: &[u8], c: Cds, e: Exceptions, longest: usize) -> E
     if (letters.len() < 1) | (longest < letters.len()) {
         return Early::Refused(1);
     }
-    let plain = all_plain(letters);
+    let plain = all_bases(letters);
     if !are_letters(letters, plain) {
         return Early::Refused(2);
     }
@@ -173,9 +173,9 @@ pub fn read_reference(
     protein: &mut [u8],
 ) -> Checked
     requires { ⌜ Readable (now letters) c e ⌝ }
-    requires { ⌜ plain ≡ all isBase (now letters) ⌝ }
+    requires { ⌜ plain ≡ all foldsToBase (now letters) ⌝ }
     requires { ⌜ codons (bare (now letters) c) ≤ length (now protein) ⌝ }
-    requires { ⌜ HoldsSets plainSet (now sets) ⌝ }
+    requires { ⌜ HoldsSets foldedSet (now sets) ⌝ }
     requires { ⌜ HoldsCode (c .table) (now lut) ⌝ }
     requires { ⌜ HoldsPlain (c .table) (now code) ⌝ }
     ensures { λ r. ⌜ r ≡ readOf (now (letters .entry)) c e ⌝ }
@@ -225,7 +225,7 @@ pub fn check_reference(
     match early_refusal(letters, c, e, longest) {
         Early::Refused(n) => Checked::Refused(n),
         Early::Clear { plain } => {
-            let sets = plain_sets();
+            let sets = folded_sets();
             let lut = residues_of(table);
             let code = plain_code(table);
             read_reference(letters, c, e, plain, &sets, &lut, &code, protein)

@@ -7,8 +7,8 @@ use native.Mathlib.Omega.{arith}
 use lib.Dec.{eqb, leb, ltb, lit<}
 use borrow.Author.Tests.{ltb-true, leb-true, eqb-true}
 use Rattle.rules.specs.Bytes.{if_then_else_}
-use Rattle.rules.specs.Letters.{pick, valueOf, bases, letters, letterSet, isLetter, upper, plainLetter}
-use Rattle.codons.specs.Tables.{plainSet, isBase, baseSet}
+use Rattle.rules.specs.Letters.{pick, valueOf, bases, letters, letterSet, isLetter, upper, folded}
+use Rattle.codons.specs.Tables.{foldedSet, foldsToBase, baseSet}
 use Rattle.codons.proofs.Listed.{at-byte}
 
 pub and-left : (a b : Bool) → a && b ≡ true → a ≡ true
@@ -53,18 +53,18 @@ pub letter-small : (b : ℕ) → letterSet b < 16
 unfolding letterSet
 letter-small b = value-small 64 96 16 b letters (lit< tt) refl
 
-pub plain-small : (b : ℕ) → plainSet b < 16
-unfolding plainSet
-plain-small b = letter-small (plainLetter b)
+pub plain-small : (b : ℕ) → foldedSet b < 16
+unfolding foldedSet
+plain-small b = letter-small (folded b)
 
 -- a letter's set is not empty
 pub letter-some : (b : ℕ) → isLetter b ≡ true → 0 < letterSet b
 unfolding isLetter
 letter-some b e = ltb-true 0 (letterSet b) e
 
-pub plain-some : (b : ℕ) → isLetter (plainLetter b) ≡ true → 0 < plainSet b
-unfolding plainSet
-plain-some b e = letter-some (plainLetter b) e
+pub plain-some : (b : ℕ) → isLetter (folded b) ≡ true → 0 < foldedSet b
+unfolding foldedSet
+plain-some b e = letter-some (folded b) e
 
 -- a letter is a byte from 64 to 95
 pub letter-within : (b : ℕ) → isLetter b ≡ true → (64 ≤ b) × (b < 96)
@@ -84,29 +84,29 @@ plain-case : (t : Bool) (u : ℕ) → eqb u 85 ≡ t → (if t then 84 else u) <
 plain-case true u e h = rw (eqb-true u 85 e) (lit< tt)
 plain-case false u e h = h
 
-plain-byte : (b : ℕ) → plainLetter b < 96 → b < 256
-unfolding plainLetter
+plain-byte : (b : ℕ) → folded b < 96 → b < 256
+unfolding folded
 plain-byte b h = upper-byte b (plain-case (eqb (upper b) 85) (upper b) refl h)
 
 -- plain translation takes a letter for itself
-pub letter-plain : (b : ℕ) → isLetter b ≡ true → plainLetter b ≡ b
-unfolding letterSet isLetter upper plainLetter
+pub letter-plain : (b : ℕ) → isLetter b ≡ true → folded b ≡ b
+unfolding letterSet isLetter upper folded
 letter-plain b e =
     let h = letter-within b e in
-    rw e at (at-byte 0 (λ (k : ℕ). if isLetter k then plainLetter k else 0) (λ (k : ℕ). if isLetter k then k else 0) refl b (omega arith))
+    rw e at (at-byte 0 (λ (k : ℕ). if isLetter k then folded k else 0) (λ (k : ℕ). if isLetter k then k else 0) refl b (omega arith))
 
-base-byte : (b : ℕ) → isBase b ≡ true → b < 256
-unfolding isBase
+base-byte : (b : ℕ) → foldsToBase b ≡ true → b < 256
+unfolding foldsToBase
 base-byte b e =
-    plain-byte b (key-within 64 96 16 (plainLetter b) bases refl (ltb-true 0 (valueOf (plainLetter b) bases) e) .1)
+    plain-byte b (key-within 64 96 16 (folded b) bases refl (ltb-true 0 (valueOf (folded b) bases) e) .1)
 
 -- a base's set is that of its letter's number
-pub base-set : (b : ℕ) → isBase b ≡ true → plainSet b ≡ baseSet (b / 2 % 4)
-unfolding letterSet upper plainLetter plainSet isBase
+pub base-set : (b : ℕ) → foldsToBase b ≡ true → foldedSet b ≡ baseSet (b / 2 % 4)
+unfolding letterSet upper folded foldedSet foldsToBase
 base-set b e =
-    rw e at (at-byte 0 (λ (k : ℕ). if isBase k then plainSet k else 0) (λ (k : ℕ). if isBase k then baseSet (k / 2 % 4) else 0) refl b (base-byte b e))
+    rw e at (at-byte 0 (λ (k : ℕ). if foldsToBase k then foldedSet k else 0) (λ (k : ℕ). if foldsToBase k then baseSet (k / 2 % 4) else 0) refl b (base-byte b e))
 
-pub base-letter : (b : ℕ) → isBase b ≡ true → isLetter (plainLetter b) ≡ true
-unfolding letterSet isLetter upper plainLetter isBase
+pub base-letter : (b : ℕ) → foldsToBase b ≡ true → isLetter (folded b) ≡ true
+unfolding letterSet isLetter upper folded foldsToBase
 base-letter b e =
-    rw e at (at-byte false (λ (k : ℕ). if isBase k then isLetter (plainLetter k) else true) (λ (k : ℕ). true) refl b (base-byte b e))
+    rw e at (at-byte false (λ (k : ℕ). if foldsToBase k then isLetter (folded k) else true) (λ (k : ℕ). true) refl b (base-byte b e))

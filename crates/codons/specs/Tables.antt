@@ -5,21 +5,21 @@ use mathlib.Core.Bool.{Bool, _&&_}
 use mathlib.Core.Path.{_≡_}
 use lib.Dec.{ltb}
 use lib.ListN.{getD}
-use Rattle.rules.specs.Letters.{valueOf, bases, letterSet, isLetter, plainLetter}
+use Rattle.rules.specs.Letters.{valueOf, bases, letterSet, isLetter, folded}
 use Rattle.rules.specs.Codons.{codonRule}
 use Rattle.rules.specs.Complement.{complement}
 
 -- the set of a byte in plain translation, and the empty set of a byte that it refuses
-unfoldable pub plainSet : ℕ → ℕ
-plainSet b = letterSet (plainLetter b)
+unfoldable pub foldedSet : ℕ → ℕ
+foldedSet b = letterSet (folded b)
 
 -- plain translation takes the byte for one base
-unfoldable pub isBase : ℕ → Bool
-isBase b = ltb 0 (valueOf (plainLetter b) bases)
+unfoldable pub foldsToBase : ℕ → Bool
+foldsToBase b = ltb 0 (valueOf (folded b) bases)
 
 -- one of the fifteen, and one base: A, C, G, T
-abbrev pub isPlain : ℕ → Bool
-isPlain b = isLetter b && isBase b
+abbrev pub isBase : ℕ → Bool
+isBase b = isLetter b && foldsToBase b
 
 -- the set that a reading of letters gives each byte stands at the byte, and is below 16
 pub record HoldsSets (read : ℕ → ℕ) (xs : List ℕ) : Type 0 where

@@ -1,8 +1,8 @@
 // The two readings of letters: plain translation takes either case, and U as T; transcripts and edits take the fifteen upper-case letters alone.
 ghost use mathlib.Core.Path.{_≡_};
 ghost use Prim.Native.Nat.{_<_};
-ghost use Rattle.rules.specs.Letters.{letterSet, isLetter, upper, plainLetter};
-ghost use Rattle.codons.specs.Tables.{HoldsSets, plainSet, isBase, isPlain};
+ghost use Rattle.rules.specs.Letters.{letterSet, isLetter, upper, folded};
+ghost use Rattle.codons.specs.Tables.{HoldsSets, foldedSet, foldsToBase, isBase};
 
 // The set of an upper-case letter, and 0 of any other byte.
 pub fn letter_set(b: u8) -> usize
@@ -41,7 +41,7 @@ pub fn upper(b: u8) -> u8
 
 // The letter that plain translation takes a byte for.
 pub fn plain_letter(b: u8) -> u8
-    ensures { λ r. ⌜ r ≡ plainLetter b ⌝ }
+    ensures { λ r. ⌜ r ≡ folded b ⌝ }
 {
     match upper(b) {
         b'U' => b'T',
@@ -51,7 +51,7 @@ pub fn plain_letter(b: u8) -> u8
 
 // The set of a byte in plain translation, and 0 of a byte that it refuses.
 pub fn plain_set_of(b: u8) -> usize
-    ensures { λ r. ⌜ r ≡ plainSet b ⌝ }
+    ensures { λ r. ⌜ r ≡ foldedSet b ⌝ }
     ensures small { λ r. ⌜ r < 16 ⌝ }
 {
     letter_set(plain_letter(b))
@@ -60,8 +60,8 @@ pub fn plain_set_of(b: u8) -> usize
 // The tests below have no table and no branch, so that a loop of one goes many bytes at a time.
 
 // Whether plain translation takes a byte: A to Y of either case, but for E, F, I, J, L, O, P, Q, X.
-pub fn is_letter(b: u8) -> bool
-    ensures { λ r. ⌜ r ≡ isLetter (plainLetter b) ⌝ }
+pub fn folds_to_letter(b: u8) -> bool
+    ensures { λ r. ⌜ r ≡ isLetter (folded b) ⌝ }
 {
     let u = b & 223;
     let within = (b'A' <= u) & (u <= b'Y');
@@ -71,30 +71,30 @@ pub fn is_letter(b: u8) -> bool
 }
 
 // Whether plain translation takes a byte for one base: A, C, G, T, U, of either case.
-pub fn is_base(b: u8) -> bool
-    ensures { λ r. ⌜ r ≡ isBase b ⌝ }
+pub fn folds_to_base(b: u8) -> bool
+    ensures { λ r. ⌜ r ≡ foldsToBase b ⌝ }
 {
     let u = b & 223;
     (u == b'A') | (u == b'C') | (u == b'G') | (u == b'T') | (u == b'U')
 }
 
 // Whether transcripts and edits take a byte: an upper-case letter of plain translation, but not U.
-pub fn is_strict(b: u8) -> bool
+pub fn is_letter(b: u8) -> bool
     ensures { λ r. ⌜ r ≡ isLetter b ⌝ }
 {
-    (b / 32 == 2) & (b != b'U') & is_letter(b)
+    (b / 32 == 2) & (b != b'U') & folds_to_letter(b)
 }
 
 // Whether a byte is one of A, C, G and T, which transcripts and edits take for one base.
-pub fn is_plain(b: u8) -> bool
-    ensures { λ r. ⌜ r ≡ isPlain b ⌝ }
+pub fn is_base(b: u8) -> bool
+    ensures { λ r. ⌜ r ≡ isBase b ⌝ }
 {
     (b == b'A') | (b == b'C') | (b == b'G') | (b == b'T')
 }
 
 // The sets of all bytes in plain translation.
-pub fn plain_sets() -> [u8; 256]
-    ensures { λ r. ⌜ HoldsSets plainSet r ⌝ }
+pub fn folded_sets() -> [u8; 256]
+    ensures { λ r. ⌜ HoldsSets foldedSet r ⌝ }
 {
     PLAIN
 }
@@ -107,9 +107,9 @@ pub fn strict_sets() -> [u8; 256]
 }
 
 // The set of a byte in plain translation, from the sets of all.
-pub fn plain_set(sets: &[u8; 256], b: u8) -> usize
-    requires { ⌜ HoldsSets plainSet (now sets) ⌝ }
-    ensures { λ r. ⌜ r ≡ plainSet b ⌝ }
+pub fn folded_set(sets: &[u8; 256], b: u8) -> usize
+    requires { ⌜ HoldsSets foldedSet (now sets) ⌝ }
+    ensures { λ r. ⌜ r ≡ foldedSet b ⌝ }
     ensures small { λ r. ⌜ r < 16 ⌝ }
 {
     let i = b as usize;

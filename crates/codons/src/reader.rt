@@ -62,7 +62,7 @@ fn expand(table: usize, sets: [usize; 3], left: usize, place: usize, found: u8) 
 }
 
 // The residue of a codon of three letter sets, none of them empty.
-pub fn plain_codon(table: usize, a: usize, b: usize, c: usize) -> u8
+pub fn read_codon(table: usize, a: usize, b: usize, c: usize) -> u8
     requires { ⌜ table < 3 ⌝ }
     requires { ⌜ (0 < a) × (a < 16) ⌝ }
     requires { ⌜ (0 < b) × (b < 16) ⌝ }

@@ -14,11 +14,11 @@ use Rattle.rules.specs.declared.Exceptions.{Exceptions}
 use Rattle.rules.specs.Bytes.{byte, if_then_else_, all}
 use Rattle.rules.specs.Letters.{letterSet, isLetter}
 use Rattle.rules.specs.Codons.{residueX, codonRule, codon}
-use Rattle.rules.specs.Translation.{exceptionList, excepted, residuesFrom, translated, residueCount, beforeStop, wholeCodons, plainTranslated}
+use Rattle.rules.specs.Translation.{exceptionList, excepted, residuesFrom, translated, residueCount, beforeStop, wholeCodons, foldedTranslated}
 use Rattle.rules.proofs.Lists.{all-at}
 use Rattle.rules.proofs.Translation.{length-translated}
 use Rattle.rules.proofs.Reading.{stop-found, no-stop}
-use Rattle.codons.specs.Tables.{plainSet}
+use Rattle.codons.specs.Tables.{foldedSet}
 use Rattle.codons.proofs.Sets.{letter-plain}
 use Rattle.translation.proofs.Strict.{strict-whole}
 use Rattle.edits.specs.declared.stops.Cut.{Cut}
@@ -76,21 +76,21 @@ framed-two t [] h = absurd (omega arith)
 framed-two t (a ∷ s) h = refl
 
 -- the set of a letter, by the reading of plain translation: it is not empty
-module _ (s : List ℕ) (i x : ℕ) (h : all isLetter s ≡ true) (k : i < length s) (e : x ≡ plainSet (getD s i 0)) where
+module _ (s : List ℕ) (i x : ℕ) (h : all isLetter s ≡ true) (k : i < length s) (e : x ≡ foldedSet (getD s i 0)) where
   pub set-is : x ≡ letterSet (getD s i 0)
-  unfolding plainSet
+  unfolding foldedSet
   set-is = e ∙ ap letterSet (letter-plain (getD s i 0) (all-at isLetter s i h k))
 
   pub set-there : 0 < x
   unfolding isLetter
   set-there = rw set-is (ltb-true 0 (letterSet (getD s i 0)) (all-at isLetter s i h k))
 
-module _ (t frame : ℕ) (put : List ℕ) (enough : 3 ≤ frame + length put) (letters : all isLetter put ≡ true) (a r : ℕ) (e : a ≡ plainSet (getD put 0 0)) where
+module _ (t frame : ℕ) (put : List ℕ) (enough : 3 ≤ frame + length put) (letters : all isLetter put ≡ true) (a r : ℕ) (e : a ≡ foldedSet (getD put 0 0)) where
   pub codon-of-two : frame ≡ 2 → r ≡ codonRule t 15 15 a → r ≡ getD (framedBy t frame put) 0 0
   unfolding codon letterSet
   codon-of-two f h = h ∙ rw (f, set-is put 0 a letters (omega arith) e) (sym (framed-two t put (omega arith)))
 
-  pub codon-of-one : 1 ≤ frame → frame < 3 → (frame ≡ 2 → ⊥) → (b : ℕ) → b ≡ plainSet (getD put 1 0) → r ≡ codonRule t 15 a b → r ≡ getD (framedBy t frame put) 0 0
+  pub codon-of-one : 1 ≤ frame → frame < 3 → (frame ≡ 2 → ⊥) → (b : ℕ) → b ≡ foldedSet (getD put 1 0) → r ≡ codonRule t 15 a b → r ≡ getD (framedBy t frame put) 0 0
   unfolding codon letterSet
   codon-of-one k l f b d h =
       let one : frame ≡ 1 = omega arith in
@@ -156,7 +156,7 @@ unfolding exceptionList
 none-listed e h = rw h
 
 -- the cut by the index of the first stop or the codon count
-module _ (t : ℕ) (put : List ℕ) (letters : all isLetter put ≡ true) (x : Exceptions) (none : x .count ≡ 0) (k : ℕ) (e : k ≡ beforeStop (plainTranslated t (exceptionList x) (wholeCodons put))) where
+module _ (t : ℕ) (put : List ℕ) (letters : all isLetter put ≡ true) (x : Exceptions) (none : x .count ≡ 0) (k : ℕ) (e : k ≡ beforeStop (foldedTranslated t (exceptionList x) (wholeCodons put))) where
   whole-before : beforeStop (translated t [] (wholeCodons put)) ≡ k
   whole-before = sym (e ∙ rw (none-listed x none) (ap beforeStop (strict-whole put letters t [])))
 

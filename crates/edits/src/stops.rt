@@ -1,5 +1,5 @@
 // The stop cut: what goes in ends with its first stop codon.
-use codons::letters::plain_set;
+use codons::letters::folded_set;
 use codons::tables::residue_in;
 use rules::Exception;
 use rules::Exceptions;
@@ -10,7 +10,7 @@ ghost use mathlib.Core.Bool.{true};
 ghost use lib.ListN.{length, getD};
 ghost use Rattle.rules.specs.Bytes.{all};
 ghost use Rattle.rules.specs.Letters.{isLetter};
-ghost use Rattle.codons.specs.Tables.{plainSet, HoldsSets, HoldsCode};
+ghost use Rattle.codons.specs.Tables.{foldedSet, HoldsSets, HoldsCode};
 ghost use Rattle.edits.specs.Cuts.{framedBy, cutOf};
 
 // Whether a `*` appears, and how many of the bases stay.
@@ -27,15 +27,15 @@ fn framed_codon(put: &[u8], frame: usize, table: usize, sets: &[u8; 256], lut: &
     requires { ⌜ (1 ≤ frame) × (frame < 3) ⌝ }
     requires { ⌜ 3 ≤ frame + length (now put) ⌝ }
     requires { ⌜ all isLetter (now put) ≡ true ⌝ }
-    requires { ⌜ HoldsSets plainSet (now sets) ⌝ }
+    requires { ⌜ HoldsSets foldedSet (now sets) ⌝ }
     requires { ⌜ HoldsCode table (now lut) ⌝ }
     ensures { λ r. ⌜ r ≡ getD (framedBy table frame (now (put .entry))) 0 0 ⌝ }
 {
-    let a = plain_set(sets, put[0]);
+    let a = folded_set(sets, put[0]);
     if frame == 2 {
         return residue_in(table, lut, ANY, ANY, a);
     }
-    let b = plain_set(sets, put[1]);
+    let b = folded_set(sets, put[1]);
     residue_in(table, lut, ANY, a, b)
 }
 
@@ -54,7 +54,7 @@ fn no_exceptions() -> Exceptions
 // The cut of bases that begin with a codon.
 fn cut_in_frame(put: &[u8], table: usize, sets: &[u8; 256], lut: &[u8; 4096]) -> Cut
     requires { ⌜ all isLetter (now put) ≡ true ⌝ }
-    requires { ⌜ HoldsSets plainSet (now sets) ⌝ }
+    requires { ⌜ HoldsSets foldedSet (now sets) ⌝ }
     requires { ⌜ HoldsCode table (now lut) ⌝ }
     ensures { λ r. ⌜ r ≡ cutOf table 0 (now (put .entry)) ⌝ }
 {
@@ -81,7 +81,7 @@ pub fn insert_stop_seq_end(
 ) -> Cut
     requires { ⌜ frame < 3 ⌝ }
     requires { ⌜ all isLetter (now put) ≡ true ⌝ }
-    requires { ⌜ HoldsSets plainSet (now sets) ⌝ }
+    requires { ⌜ HoldsSets foldedSet (now sets) ⌝ }
     requires { ⌜ HoldsCode table (now lut) ⌝ }
     ensures { λ r. ⌜ r ≡ cutOf table frame (now (put .entry)) ⌝ }
 {

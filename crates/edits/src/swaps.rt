@@ -17,7 +17,7 @@ ghost use Rattle.rules.specs.Letters.{isLetter};
 ghost use Rattle.rules.specs.Position.{isOutside, index};
 ghost use Rattle.rules.specs.Edit.{Asked};
 ghost use Rattle.rules.specs.Record.{within};
-ghost use Rattle.codons.specs.Tables.{plainSet, HoldsSets, HoldsCode};
+ghost use Rattle.codons.specs.Tables.{foldedSet, HoldsSets, HoldsCode};
 ghost use Rattle.positions.specs.declared.Cds.{Cds};
 ghost use Rattle.positions.specs.Views.{bare, asked, Bounded, Sound};
 ghost use Rattle.edits.specs.Plans.{planOf, Planned, Replaces, Inserts, Keeps, shiftBy, silentWithin, roomBy};
@@ -116,7 +116,7 @@ fn insert(
     requires { ⌜ (1 ≤ c .cs) × (c .cs - 1 ≤ at) ⌝ }
     requires { ⌜ (length (now letters) < 4294967296) × (length (now put) < 4294967296) ⌝ }
     requires { ⌜ all isLetter (now put) ≡ true ⌝ }
-    requires { ⌜ HoldsSets plainSet (now sets) ⌝ }
+    requires { ⌜ HoldsSets foldedSet (now sets) ⌝ }
     requires { ⌜ HoldsCode (c .table) (now lut) ⌝ }
     ensures { λ r. ⌜ ((e : Asked) → Inserts (bare (now (letters .entry)) c) e range source at (now (put .entry)) → r ≡ planOf (bare (now (letters .entry)) c) e) ⌝ }
 {
@@ -168,7 +168,7 @@ pub fn plan_of(
 ) -> Plan
     requires { ⌜ Sound (now letters) c ⌝ }
     requires { ⌜ Planned (bare (now letters) c) (asked edit (now new)) ⌝ }
-    requires { ⌜ HoldsSets plainSet (now sets) ⌝ }
+    requires { ⌜ HoldsSets foldedSet (now sets) ⌝ }
     requires { ⌜ HoldsCode (c .table) (now lut) ⌝ }
     ensures { λ r. ⌜ r ≡ planOf (bare (now (letters .entry)) c) (asked edit (now (new .entry))) ⌝ }
 {

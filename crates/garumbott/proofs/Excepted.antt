@@ -15,7 +15,7 @@ use Rattle.rules.specs.declared.Answer.the-variants as answer
 use Rattle.rules.specs.Bytes.{if_then_else_, all, firstOf, Result, refused, unless}
 use Rattle.rules.specs.Letters.{isLetter}
 use Rattle.rules.specs.Codons.{isTable}
-use Rattle.rules.specs.Translation.{noException, exceptionList, isResidue, areExceptions, plainTranslated, translationTests, translation}
+use Rattle.rules.specs.Translation.{noException, exceptionList, isResidue, areExceptions, foldedTranslated, translationTests, translation}
 use Rattle.rules.specs.Reference.{Reference, size, isSize, cdsSize, areBounds, codons, areRising, fitExceptions, referenceTests}
 use Rattle.rules.specs.Edit.{Asked}
 use Rattle.rules.specs.Refusal.{Room, refusal}
@@ -62,7 +62,7 @@ module _ {B : Type 0} (f : List Exception → B) (alike : (es fs : List Exceptio
 -- plain translation
 translation-unfit : (table : ℕ) (es : List Exception) (full : Bool) (s : List ℕ) (room : ℕ) → Unfit es → translation table es full s room ≡ refused (if isTable table then 5 else 4)
 unfolding translation translationTests firstOf unless
-translation-unfit table es full s room u = rw (u .plain) (by (isTable table) (plainTranslated table es s))
+translation-unfit table es full s room u = rw (u .plain) (by (isTable table) (foldedTranslated table es s))
   where
     by : (t : Bool) (p : List ℕ) → unless (if not t then 4 else 5) p ≡ refused (if t then 5 else 4)
     by true p = refl

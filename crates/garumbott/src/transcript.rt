@@ -9,7 +9,7 @@ use altseq::decision::Decision;
 use altseq::decision::decide;
 use altseq::write_transcript;
 use codons::complement::complements;
-use codons::letters::plain_sets;
+use codons::letters::folded_sets;
 use codons::tables::residues_of;
 use edits::swaps::Plan;
 use rules::Edit;
@@ -58,7 +58,7 @@ pub fn build_transcript(
     match check_reference(letters, cs, ce, table, e, 16384, &mut protein) {
         Checked::Refused(n) => alone(0, wide(n)),
         Checked::Known(known) => {
-            let sets = plain_sets();
+            let sets = folded_sets();
             let lut = residues_of(table);
             let c = known.cds;
             match decide(letters, c, known.several, 4096, edit, new, &sets, &lut) {

@@ -19,7 +19,7 @@ use Rattle.rules.specs.Bytes.{isNone, all, firstOf}
 use Rattle.rules.specs.Letters.{isLetter}
 use Rattle.rules.specs.Reference.{Reference, size}
 use Rattle.rules.specs.Position.{isOutside}
-use Rattle.rules.specs.Edit.{Asked, is, kindOf, endsPast, isMisplaced, areBases, fitBases, editTests}
+use Rattle.rules.specs.Edit.{Asked, is, kindOf, endsPast, isMisplaced, areNewBases, fitBases, editTests}
 use Rattle.rules.proofs.Tests.{and-left, and-right, or-left, or-right}
 use Rattle.rules.proofs.Reference.{Bounds}
 use Rattle.rules.proofs.Refusal.{Allowed, allowed}
@@ -70,8 +70,8 @@ pub record Fitting (most : ℕ) (s : List ℕ) : Type 0 where
   pub few : length s ≤ max most 1
   pub letters : all isLetter s ≡ true
 
-some-fit : (n most : ℕ) (s : List ℕ) → n ≤ max most 1 → areBases n s ≡ true → Fitting most s
-unfolding areBases
+some-fit : (n most : ℕ) (s : List ℕ) → n ≤ max most 1 → areNewBases n s ≡ true → Fitting most s
+unfolding areNewBases
 some-fit n most s k h =
     let counted = leb 1 (length s) && leb (length s) n in
     let fits = leb-true (length s) n (and-right (leb 1 (length s)) (leb (length s) n) (and-left counted (all isLetter s) h)) in

@@ -6,14 +6,14 @@ use crate::places::is_outside;
 use crate::places::place_of;
 use rules::Edit;
 use rules::Kind;
-use sequences::all_strict;
+use sequences::all_letters;
 ghost use Prim.Native.Nat.{ℕ};
 ghost use mathlib.Core.Path.{_≡_};
 ghost use mathlib.Core.Bool.{false};
 ghost use mathlib.Core.List.{List};
 ghost use Rattle.rules.specs.Bytes.{firstOf};
 ghost use Rattle.rules.specs.Position.{isOutside};
-ghost use Rattle.rules.specs.Edit.{kindNumber, is, endsPast, isMisplaced, isDisordered, isOutOfCds, areBases, fitBases, editTests};
+ghost use Rattle.rules.specs.Edit.{kindNumber, is, endsPast, isMisplaced, isDisordered, isOutOfCds, areNewBases, fitBases, editTests};
 ghost use Rattle.rules.specs.declared.Kind.the-variants.{Substitution, Insertion, Duplication};
 ghost use Rattle.positions.specs.Views.{bare, asked, Bounded, Sound};
 
@@ -58,8 +58,8 @@ pub fn is_duplication(kind: Kind) -> bool
 }
 
 // Whether they are new bases, 1 to `most` of them.
-fn are_bases(most: usize, s: &[u8]) -> bool
-    ensures { λ r. ⌜ r ≡ areBases most (now (s .entry)) ⌝ }
+fn are_new_bases(most: usize, s: &[u8]) -> bool
+    ensures { λ r. ⌜ r ≡ areNewBases most (now (s .entry)) ⌝ }
 {
     if s.len() < 1 {
         return false;
@@ -67,7 +67,7 @@ fn are_bases(most: usize, s: &[u8]) -> bool
     if most < s.len() {
         return false;
     }
-    all_strict(s)
+    all_letters(s)
 }
 
 // Whether the new bases are those that the kind takes.
@@ -75,10 +75,10 @@ fn fit_bases(most: usize, kind: Kind, new: &[u8]) -> bool
     ensures { λ r. ⌜ r ≡ fitBases most kind (now (new .entry)) ⌝ }
 {
     match kind {
-        Kind::Substitution => are_bases(1, new),
+        Kind::Substitution => are_new_bases(1, new),
         Kind::Deletion => new.len() == 0,
-        Kind::Delins => are_bases(most, new),
-        Kind::Insertion => are_bases(most, new),
+        Kind::Delins => are_new_bases(most, new),
+        Kind::Insertion => are_new_bases(most, new),
         Kind::Duplication => new.len() == 0,
         Kind::Inversion => new.len() == 0,
         Kind::Identity => new.len() == 0,

@@ -16,7 +16,7 @@ use Rattle.rules.specs.Letters.{isLetter}
 use Rattle.rules.specs.Translation.{beforeStop}
 use Rattle.rules.specs.Complement.{reverseComplement}
 use Rattle.rules.specs.Reference.{Reference, size}
-use Rattle.rules.specs.Edit.{Asked, kindOf, startIndex, endIndex, areBases, fitBases}
+use Rattle.rules.specs.Edit.{Asked, kindOf, startIndex, endIndex, areNewBases, fitBases}
 use Rattle.rules.specs.Altered.{part, Swap, carried, swapBy, swap, frame, framed, findsStop, throughStopCodon, kept, cutSwap, alteredTranscript, deleted, inserted, cutOff, alteredLength}
 use Rattle.rules.specs.declared.Limits.{Limits}
 use Rattle.rules.specs.Refusal.{refusal}
@@ -40,8 +40,8 @@ unfolding all
 no-bases most s [] h = record { fits = zero-le; letters = refl }
 no-bases most s (x ∷ new) h = let z : _≡_ {A = ℕ} 0 1 = cc in absurd (omega arith)
 
-some-bases : (n most : ℕ) (s new : List ℕ) → n ≤ max most (length s) → areBases n new ≡ true → Puts most s new
-unfolding areBases
+some-bases : (n most : ℕ) (s new : List ℕ) → n ≤ max most (length s) → areNewBases n new ≡ true → Puts most s new
+unfolding areNewBases
 some-bases n most s new k h =
     let both = and-left (leb 1 (length new) && leb (length new) n) (all isLetter new) h in
     record {

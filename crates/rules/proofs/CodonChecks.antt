@@ -6,7 +6,7 @@ use Prim.Native.Nat.{ℕ, zero, suc, _+_, _-_, _*_, _^_}
 use Prim.Native.String.{String}
 use lib.Dec.{eqb}
 use Rattle.rules.specs.Bytes.{byte, bytes, if_then_else_, isCapital}
-use Rattle.rules.specs.Letters.{letterSet, isLetter, upper, plainLetter}
+use Rattle.rules.specs.Letters.{letterSet, isLetter, upper, folded}
 use Rattle.rules.specs.Codons.{placeFrom, isTable, basesOf, codonRule, codon, forEach}
 use Rattle.rules.specs.Complement.{complement}
 use Rattle.rules.specs.Translation.{isResidue}
@@ -41,7 +41,7 @@ byte-checks =
     ∷ map complement fifteen gives bytes "TGCAYRSWMKVHDBN"
     -- upper case, and U as T in plain translation; every other byte stays
     ∷ map upper every-byte gives (run-of 97 0 ++ (bytes "ABCDEFGHIJKLMNOPQRSTUVWXYZ" ++ run-of 133 123))
-    ∷ map plainLetter every-byte gives (run-of 65 0 ++ (bytes "ABCDEFGHIJKLMNOPQRSTTVWXYZ" ++ (run-of 6 91 ++ (bytes "ABCDEFGHIJKLMNOPQRSTTVWXYZ" ++ run-of 133 123))))
+    ∷ map folded every-byte gives (run-of 65 0 ++ (bytes "ABCDEFGHIJKLMNOPQRSTTVWXYZ" ++ (run-of 6 91 ++ (bytes "ABCDEFGHIJKLMNOPQRSTTVWXYZ" ++ run-of 133 123))))
     ∷ passing isCapital every-byte gives bytes "ABCDEFGHIJKLMNOPQRSTUVWXYZ"
     ∷ passing isResidue every-byte gives bytes "*ABCDEFGHIJKLMNOPQRSTUVWXYZ"
     ∷ passing isDigit every-byte gives bytes "0123456789"

@@ -14,7 +14,7 @@ use Rattle.rules.specs.declared.Record.{Record}
 use Rattle.rules.specs.declared.Record.the-variants.{NoProtein, Silent}
 use Rattle.rules.specs.Bytes.{byte, bytes, same, count}
 use Rattle.rules.specs.Position.{place, isOutside, index, isBefore, isBehind, counted}
-use Rattle.rules.specs.Edit.{kindNumber, is, startPlace, endPlace, startIndex, endIndex, endsPast, isOutOfCds, areBases}
+use Rattle.rules.specs.Edit.{kindNumber, is, startPlace, endPlace, startIndex, endIndex, endsPast, isOutOfCds, areNewBases}
 use Rattle.rules.specs.Altered.{Swap, part, carried, swapBy, swap, frame, framed, findsStop, kept, deleted, inserted, cutOff, alteredLength, leavesCds, putsBack, frameshift}
 use Rattle.rules.specs.Record.{within, silentNumber, ending, isCopy, classByCounts, classBy, classOf, firstCopied, recordFrom, replayed}
 use Rattle.rules.specs.Refusal.{limits}
@@ -158,7 +158,7 @@ test-checks =
     ∷ map isOutOfCds (edit-of kind.Deletion (Minus 2) (Minus 1) "" ∷ edit-of kind.Deletion (Plus 1) (Minus 1) "" ∷ edit-of kind.Deletion (Minus 1) (Plus 1) "" ∷ edit-of kind.Deletion (Star 1) (Star 2) "" ∷ edit-of kind.Deletion (Star 1) (Plus 1) "" ∷ edit-of kind.Deletion (Plus 1) (Star 1) "" ∷ edit-of kind.Deletion (Minus 1) (Star 1) "" ∷ edit-of kind.Deletion (Plus 1) (Plus 2) "" ∷ []) gives (true ∷ false ∷ false ∷ true ∷ false ∷ false ∷ false ∷ false ∷ [])
     ∷ map isOutOfCds (edit-of kind.Insertion (Minus 1) (Plus 1) "" ∷ edit-of kind.Insertion (Plus 1) (Minus 1) "" ∷ edit-of kind.Insertion (Plus 1) (Plus 2) "" ∷ []) gives (true ∷ false ∷ false ∷ [])
     -- new bases: 1 to 2
-    ∷ map (λ (s : String). areBases 2 (bytes s)) ("" ∷ "A" ∷ "AC" ∷ "ACG" ∷ "U" ∷ "AU" ∷ []) gives (false ∷ true ∷ true ∷ false ∷ false ∷ false ∷ [])
+    ∷ map (λ (s : String). areNewBases 2 (bytes s)) ("" ∷ "A" ∷ "AC" ∷ "ACG" ∷ "U" ∷ "AU" ∷ []) gives (false ∷ true ∷ true ∷ false ∷ false ∷ false ∷ [])
     -- a deletion, delins or substitution with start < ce < end: bases on both sides of the CDS's end
     ∷ map (λ (k : Kind). leavesCds worked (edit-of k (Plus 15) (Star 1) "")) every-kind gives (true ∷ true ∷ true ∷ false ∷ false ∷ false ∷ false ∷ false ∷ [])
     ∷ map (leavesCds worked) (edit-of kind.Deletion (Plus 14) (Plus 15) "" ∷ edit-of kind.Deletion (Star 1) (Star 2) "" ∷ edit-of kind.Deletion (Plus 1) (Star 6) "" ∷ edit-of kind.Deletion (Minus 1) (Star 1) "" ∷ []) gives (false ∷ false ∷ true ∷ true ∷ [])

@@ -75,15 +75,15 @@ isOutOfCds e =
     || (is Insertion (kindOf e) && isBefore (e .edit .start))
 
 -- new bases, 1 to `most` of them, all of the fifteen letters
-unfoldable pub areBases : ℕ → List ℕ → Bool
-areBases most s = leb 1 (length s) && leb (length s) most && all isLetter s
+unfoldable pub areNewBases : ℕ → List ℕ → Bool
+areNewBases most s = leb 1 (length s) && leb (length s) most && all isLetter s
 
 -- the new bases are those that the kind takes: one, 1 to `most`, or none; an unknown kind is refused whatever they are
 unfoldable pub fitBases : ℕ → Kind → List ℕ → Bool
-fitBases most Substitution s = areBases 1 s
+fitBases most Substitution s = areNewBases 1 s
 fitBases most Deletion s = isNone s
-fitBases most Delins s = areBases most s
-fitBases most Insertion s = areBases most s
+fitBases most Delins s = areNewBases most s
+fitBases most Insertion s = areNewBases most s
 fitBases most Duplication s = isNone s
 fitBases most Inversion s = isNone s
 fitBases most Identity s = isNone s

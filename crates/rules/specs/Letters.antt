@@ -48,5 +48,5 @@ unfoldable pub upper : ℕ → ℕ
 upper b = if leb (byte "a") b && leb b (byte "z") then b - 32 else b
 
 -- plain translation takes either case, and U as T
-unfoldable pub plainLetter : ℕ → ℕ
-plainLetter b = if eqb (upper b) (byte "U") then byte "T" else upper b
+unfoldable pub folded : ℕ → ℕ
+folded b = if eqb (upper b) (byte "U") then byte "T" else upper b

@@ -7,7 +7,7 @@ use lib.ListN.{length, take, replicate}
 use Rattle.rules.specs.declared.Exception.{Exception}
 use Rattle.rules.specs.declared.Exceptions.{Exceptions}
 use Rattle.rules.specs.Bytes.{byte, if_then_else_, all, isCapital, Test, _↯_, firstOf, Result, unless}
-use Rattle.rules.specs.Letters.{isLetter, plainLetter}
+use Rattle.rules.specs.Letters.{isLetter, folded}
 use Rattle.rules.specs.Codons.{isTable, residueX, codon}
 
 -- what stands behind the sixteen
@@ -59,11 +59,11 @@ unfoldable pub wholeCodons : List ℕ → List ℕ
 wholeCodons s = take (length s - length s % 3) s
 
 -- any other byte in a whole codon is refused; a remaining byte is not looked at
-unfoldable pub areLetters : List ℕ → Bool
-areLetters s = all isLetter (map plainLetter (wholeCodons s))
+unfoldable pub foldToLetters : List ℕ → Bool
+foldToLetters s = all isLetter (map folded (wholeCodons s))
 
-unfoldable pub plainTranslated : ℕ → List Exception → List ℕ → List ℕ
-plainTranslated table es s = translated table es (map plainLetter s)
+unfoldable pub foldedTranslated : ℕ → List Exception → List ℕ → List ℕ
+foldedTranslated table es s = translated table es (map folded s)
 
 -- 4, then 5, 14, 15, 2
 unfoldable pub translationTests : ℕ → List Exception → Bool → List ℕ → ℕ → List Test
@@ -71,10 +71,10 @@ translationTests table es full s room =
     not (isTable table) ↯ 4
     ∷ not (areExceptions es) ↯ 5
     ∷ (full && ltb 0 (length s % 3)) ↯ 14
-    ∷ ltb room (length (plainTranslated table es s)) ↯ 15
-    ∷ not (areLetters s) ↯ 2
+    ∷ ltb room (length (foldedTranslated table es s)) ↯ 15
+    ∷ not (foldToLetters s) ↯ 2
     ∷ []
 
 -- plain translation, with full codons demanded or not, into a buffer with so much room
 unfoldable pub translation : ℕ → List Exception → Bool → List ℕ → ℕ → Result (List ℕ)
-translation table es full s room = unless (firstOf (translationTests table es full s room)) (plainTranslated table es s)
+translation table es full s room = unless (firstOf (translationTests table es full s room)) (foldedTranslated table es s)

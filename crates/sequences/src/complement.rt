@@ -1,7 +1,7 @@
 // The reverse complement of letters.
 use codons::complement::complement_of;
 use codons::complement::complements;
-use codons::letters::is_strict;
+use codons::letters::is_letter;
 use rules::Written;
 ghost use mathlib.Core.Path.{_≡_};
 ghost use mathlib.Core.Bool.{true};
@@ -14,13 +14,13 @@ ghost use Rattle.rules.specs.Answer.{writtenOf, bytesOf};
 ghost use Rattle.codons.specs.Tables.{HoldsComplements};
 
 // Whether each byte is one of the fifteen letters. No byte ends the loop early, so that it goes many at a time.
-pub fn all_strict(seq: &[u8]) -> bool
+pub fn all_letters(seq: &[u8]) -> bool
     ensures { λ r. ⌜ r ≡ all isLetter (now (seq .entry)) ⌝ }
 {
     let mut good = true;
     let mut i = 0;
     while i < seq.len() {
-        good = good & is_strict(seq[i]);
+        good = good & is_letter(seq[i]);
         i += 1;
     }
     good
@@ -49,7 +49,7 @@ pub fn revcomp(seq: &[u8], out: &mut [u8]) -> Written
     if out.len() < seq.len() {
         return Written::Refused(15);
     }
-    if !all_strict(seq) {
+    if !all_letters(seq) {
         return Written::Refused(2);
     }
     let letters = complements();

@@ -2,7 +2,7 @@
 mod complement;
 mod trims;
 
-pub use complement::all_strict;
+pub use complement::all_letters;
 pub use complement::revcomp;
 pub use complement::write_revcomp;
 pub use trims::common_prefix_len;

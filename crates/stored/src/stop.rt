@@ -1,6 +1,6 @@
 // Refusal 6, by the last CDS codon alone: the reference protein isn't read.
 use codons::letters::letter_set;
-use codons::reader::plain_codon;
+use codons::reader::read_codon;
 use positions::Cds;
 use rules::Exception;
 use rules::Exceptions;
@@ -44,6 +44,6 @@ pub fn ends_in_stop(letters: &[u8], c: Cds, e: Exceptions) -> bool
     let first = letter_set(letters[at]);
     let second = letter_set(letters[at + 1]);
     let third = letter_set(letters[at + 2]);
-    let residue = plain_codon(c.table, first, second, third);
+    let residue = read_codon(c.table, first, second, third);
     excepted_of(e, (c.ce - (c.cs - 1)) / 3, residue) == b'*'
 }

@@ -22,7 +22,7 @@ ghost use Rattle.rules.specs.Bytes.{if_then_else_};
 ghost use Rattle.rules.specs.Refusal.{limits};
 ghost use Rattle.rules.specs.Line.{referenceLine, fitsLine};
 ghost use Rattle.rules.specs.Run.{editAnswer, editLineAnswer};
-ghost use Rattle.codons.specs.Tables.{plainSet, HoldsSets, HoldsCode, HoldsPlain, HoldsComplements};
+ghost use Rattle.codons.specs.Tables.{foldedSet, HoldsSets, HoldsCode, HoldsPlain, HoldsComplements};
 ghost use Rattle.positions.specs.Views.{bare, asked};
 ghost use Rattle.altseq.specs.Known.{cdsOf, Knows};
 ghost use Rattle.text_answers.specs.Lines.{noExceptions, Ample, Line, Opens};
@@ -62,7 +62,7 @@ fn answer_asked(
     ap: &mut [u8],
 ) -> usize
     requires { ⌜ Knows limits (now letters) known noExceptions (now protein) ⌝ }
-    requires { ⌜ HoldsSets plainSet (now sets) ⌝ }
+    requires { ⌜ HoldsSets foldedSet (now sets) ⌝ }
     requires { ⌜ HoldsCode (known .cds .table) (now lut) ⌝ }
     requires { ⌜ HoldsPlain (known .cds .table) (now code) ⌝ }
     requires { ⌜ HoldsComplements (now pairs) ⌝ }
@@ -113,7 +113,7 @@ pub fn answer_edit(
     ap: &mut [u8],
 ) -> usize
     requires { ⌜ Knows limits (now letters) known noExceptions (now protein) ⌝ }
-    requires { ⌜ HoldsSets plainSet (now sets) ⌝ }
+    requires { ⌜ HoldsSets foldedSet (now sets) ⌝ }
     requires { ⌜ HoldsCode (known .cds .table) (now lut) ⌝ }
     requires { ⌜ HoldsPlain (known .cds .table) (now code) ⌝ }
     requires { ⌜ HoldsComplements (now pairs) ⌝ }

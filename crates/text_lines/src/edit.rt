@@ -7,14 +7,14 @@ use altseq::Known;
 use text_answers::Follows;
 use text_answers::answer_edit;
 use codons::complement::complements;
-use codons::letters::plain_sets;
+use codons::letters::folded_sets;
 use codons::tables::plain_code;
 use codons::tables::residues_of;
 ghost use mathlib.Core.Path.{_≡_};
 ghost use Prim.Native.Nat.{_≤_};
 ghost use lib.ListN.{length, take};
 ghost use Rattle.rules.specs.Refusal.{limits};
-ghost use Rattle.codons.specs.Tables.{plainSet, HoldsSets, HoldsCode, HoldsPlain, HoldsComplements};
+ghost use Rattle.codons.specs.Tables.{foldedSet, HoldsSets, HoldsCode, HoldsPlain, HoldsComplements};
 ghost use Rattle.positions.specs.Views.{bare};
 ghost use Rattle.altseq.specs.Known.{Knows};
 ghost use Rattle.text_lines.specs.Stages.{editing, Steps};
@@ -46,7 +46,7 @@ fn edit_lines(
 ) -> Moved
     requires { ⌜ (length (now line) ≡ 20481) × (held ≤ 20481) ⌝ }
     requires { ⌜ Knows limits (now letters) known noExceptions (now protein) ⌝ }
-    requires { ⌜ HoldsSets plainSet (now sets) ⌝ }
+    requires { ⌜ HoldsSets foldedSet (now sets) ⌝ }
     requires { ⌜ HoldsCode (known .cds .table) (now lut) ⌝ }
     requires { ⌜ HoldsPlain (known .cds .table) (now code) ⌝ }
     requires { ⌜ HoldsComplements (now pairs) ⌝ }
@@ -121,7 +121,7 @@ pub(crate) fn edit_some(
 {
     let cds = known.cds;
     let residues = known.residues;
-    let sets = plain_sets();
+    let sets = folded_sets();
     let lut = residues_of(cds.table);
     let code = plain_code(cds.table);
     let pairs = complements();

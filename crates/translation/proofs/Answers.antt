@@ -11,15 +11,15 @@ use Rattle.rules.specs.declared.Exception.{Exception}
 use Rattle.rules.specs.declared.Written.{Written}
 use Rattle.rules.specs.declared.Written.the-variants.{Refused, Bytes}
 use Rattle.rules.specs.Bytes.{all, firstOf, given, refused, unless, over}
-use Rattle.rules.specs.Letters.{isLetter, plainLetter}
+use Rattle.rules.specs.Letters.{isLetter, folded}
 use Rattle.rules.specs.Codons.{isTable}
-use Rattle.rules.specs.Translation.{areExceptions, wholeCodons, areLetters, plainTranslated, translationTests, translation}
+use Rattle.rules.specs.Translation.{areExceptions, wholeCodons, foldToLetters, foldedTranslated, translationTests, translation}
 use Rattle.rules.specs.Answer.{writtenOf, bytesOf}
 use Rattle.rules.proofs.Lists.{all-map}
 use Rattle.rules.proofs.Tests.{first-clear}
-use Rattle.codons.specs.Tables.{isBase}
+use Rattle.codons.specs.Tables.{foldsToBase}
 use Rattle.codons.proofs.Sets.{base-letter}
-use Rattle.translation.specs.Residues.{areBases, exceptedFrom}
+use Rattle.translation.specs.Residues.{foldToBases, exceptedFrom}
 use Rattle.translation.proofs.Residues.{length-plain}
 use Rattle.translation.proofs.Excepted.{excepted-over}
 
@@ -44,13 +44,13 @@ module _ (t : ℕ) (es : List Exception) (full : Bool) (s : List ℕ) (room : �
         no-room r = rw (le-leb t 2 h, a, f, length-plain t es s, lt-ltb room ((length s + 2) / 3) r)
 
         module _ (r : (length s + 2) / 3 ≤ room) where
-          pub no-letter : areLetters s ≡ false → translation t es full s room ≡ refused 2
+          pub no-letter : foldToLetters s ≡ false → translation t es full s room ≡ refused 2
           unfolding translation translationTests firstOf unless isTable
           no-letter l = rw (le-leb t 2 h, a, f, length-plain t es s, le-ltb room ((length s + 2) / 3) r, l)
 
-          pub all-letters : areLetters s ≡ true → translation t es full s room ≡ given (plainTranslated t es s)
+          pub all-fold-to-letters : foldToLetters s ≡ true → translation t es full s room ≡ given (foldedTranslated t es s)
           unfolding translation translationTests firstOf unless isTable
-          all-letters l = rw (le-leb t 2 h, a, f, length-plain t es s, le-ltb room ((length s + 2) / 3) r, l)
+          all-fold-to-letters l = rw (le-leb t 2 h, a, f, length-plain t es s, le-ltb room ((length s + 2) / 3) r, l)
 
 -- an answer isn't another
 other : (n m : ℕ) → Refused n ≡ Bytes m → ⊥
@@ -69,9 +69,9 @@ all-implied p q f (x ∷ s) e =
     rw (f x (both .0), all-implied p q f s (both .1))
 
 -- bases are letters
-pub bases-letters : (s : List ℕ) → areBases s ≡ true → areLetters s ≡ true
-unfolding areBases areLetters
-bases-letters s e = all-map isLetter plainLetter (wholeCodons s) ∙ all-implied isBase (λ b. isLetter (plainLetter b)) base-letter (wholeCodons s) e
+pub bases-letters : (s : List ℕ) → foldToBases s ≡ true → foldToLetters s ≡ true
+unfolding foldToBases foldToLetters
+bases-letters s e = all-map isLetter folded (wholeCodons s) ∙ all-implied foldsToBase (λ b. isLetter (folded b)) base-letter (wholeCodons s) e
 
 pub none-taken : areExceptions [] ≡ true
 unfolding areExceptions all
@@ -89,7 +89,7 @@ module _ (t : ℕ) (es : List Exception) (full : Bool) (s : List ℕ) (room : �
       let table = first-clear (not (isTable t)) 3 _ e .1 in
       let taken = first-clear (not (areExceptions es)) 4 _ table .1 in
       let codons = first-clear (full && ltb 0 (length s % 3)) 13 _ taken .1 in
-      let fits : ltb room (length (plainTranslated t es s)) ≡ false = first-clear (ltb room (length (plainTranslated t es s))) 14 _ codons .0 in
+      let fits : ltb room (length (foldedTranslated t es s)) ≡ false = first-clear (ltb room (length (foldedTranslated t es s))) 14 _ codons .0 in
       ltb-false room ((length s + 2) / 3) (sym (ap (ltb room) (length-plain t es s)) ∙ fits)
 
   module _ (a : areExceptions es ≡ true) (n : ℕ) (old out : List ℕ) (left : out ≡ over (bytesOf (translation t [] full s room)) old) where
@@ -98,8 +98,8 @@ module _ (t : ℕ) (es : List Exception) (full : Bool) (s : List ℕ) (room : �
     unfolding translation unless writtenOf bytesOf
     refused-too e = by (firstOf (translationTests t [] full s room)) (firstOf (translationTests t es full s room)) (same-tests a) e left
       where
-        by : (k m : ℕ) → k ≡ m → Refused n ≡ writtenOf (unless k (plainTranslated t [] s)) → out ≡ over (bytesOf (unless k (plainTranslated t [] s))) old → (Refused n ≡ writtenOf (unless m (plainTranslated t es s))) × (out ≡ over (bytesOf (unless m (plainTranslated t es s))) old)
-        by zero m g e l = absurd (other n (length (plainTranslated t [] s)) e)
+        by : (k m : ℕ) → k ≡ m → Refused n ≡ writtenOf (unless k (foldedTranslated t [] s)) → out ≡ over (bytesOf (unless k (foldedTranslated t [] s))) old → (Refused n ≡ writtenOf (unless m (foldedTranslated t es s))) × (out ≡ over (bytesOf (unless m (foldedTranslated t es s))) old)
+        by zero m g e l = absurd (other n (length (foldedTranslated t [] s)) e)
         by (suc k) m g e l = rw (← g) (e, l)
 
     -- what is given without them has room for them, and is given with them
@@ -107,7 +107,7 @@ module _ (t : ℕ) (es : List Exception) (full : Bool) (s : List ℕ) (room : �
     unfolding translation unless writtenOf
     given-room e = by (firstOf (translationTests t [] full s room)) refl e
       where
-        by : (k : ℕ) → firstOf (translationTests t [] full s room) ≡ k → Bytes n ≡ writtenOf (unless k (plainTranslated t [] s)) → length s / 3 ≤ room
+        by : (k : ℕ) → firstOf (translationTests t [] full s room) ≡ k → Bytes n ≡ writtenOf (unless k (foldedTranslated t [] s)) → length s / 3 ≤ room
         by zero g e = let fits : (length s + 2) / 3 ≤ room = room-found (sym (same-tests a) ∙ g) in omega arith
         by (suc k) g e = absurd (other (suc k) n (sym e))
 
@@ -115,6 +115,6 @@ module _ (t : ℕ) (es : List Exception) (full : Bool) (s : List ℕ) (room : �
     unfolding translation unless writtenOf bytesOf
     given-too new put e = by (firstOf (translationTests t [] full s room)) (firstOf (translationTests t es full s room)) (same-tests a) e left
       where
-        by : (k m : ℕ) → k ≡ m → Bytes n ≡ writtenOf (unless k (plainTranslated t [] s)) → out ≡ over (bytesOf (unless k (plainTranslated t [] s))) old → (Bytes n ≡ writtenOf (unless m (plainTranslated t es s))) × (new ≡ over (bytesOf (unless m (plainTranslated t es s))) old)
+        by : (k m : ℕ) → k ≡ m → Bytes n ≡ writtenOf (unless k (foldedTranslated t [] s)) → out ≡ over (bytesOf (unless k (foldedTranslated t [] s))) old → (Bytes n ≡ writtenOf (unless m (foldedTranslated t es s))) × (new ≡ over (bytesOf (unless m (foldedTranslated t es s))) old)
         by zero m g e l = rw (← g) (e ∙ ap Bytes (length-plain t [] s ∙ sym (length-plain t es s)), put ∙ rw l (excepted-over t es s old))
         by (suc k) m g e l = absurd (other (suc k) n (sym e))

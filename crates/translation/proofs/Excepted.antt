@@ -13,9 +13,9 @@ use borrow.Author.Tests.{eq-eqb, ne-eqb, le-leb, lt-leb, leb-true, leb-false, lt
 use Rattle.rules.specs.declared.Exception.{Exception}
 use Rattle.rules.specs.declared.Exceptions.{Exceptions}
 use Rattle.rules.specs.Bytes.{if_then_else_, all, over}
-use Rattle.rules.specs.Letters.{plainLetter}
+use Rattle.rules.specs.Letters.{folded}
 use Rattle.rules.specs.Codons.{codon}
-use Rattle.rules.specs.Translation.{exceptionList, excepted, residuesFrom, translated, residueCount, isResidue, areExceptions, wholeCodons, plainTranslated}
+use Rattle.rules.specs.Translation.{exceptionList, excepted, residuesFrom, translated, residueCount, isResidue, areExceptions, wholeCodons, foldedTranslated}
 use Rattle.rules.proofs.Lists.{all-append}
 use Rattle.rules.proofs.Translation.{first-exceptions, length-exceptions, length-translated}
 use Rattle.rules.proofs.Reading.{restOf, excepted-append, length-whole, whole-and-rest}
@@ -157,12 +157,12 @@ unfolding translated
 with-exceptions t es s h = residues-excepted t es 1 s h
 
 -- the exceptions put over a translation without them
-pub excepted-over : (t : ℕ) (es : List Exception) (s out : List ℕ) → exceptedFrom es 1 (take (length s / 3) (over (plainTranslated t [] s) out)) ++ drop (length s / 3) (over (plainTranslated t [] s) out) ≡ over (plainTranslated t es s) out
-unfolding plainTranslated over residueCount
+pub excepted-over : (t : ℕ) (es : List Exception) (s out : List ℕ) → exceptedFrom es 1 (take (length s / 3) (over (foldedTranslated t [] s) out)) ++ drop (length s / 3) (over (foldedTranslated t [] s) out) ≡ over (foldedTranslated t es s) out
+unfolding foldedTranslated over residueCount
 excepted-over t es s out =
-    let l : List ℕ = map plainLetter s in
+    let l : List ℕ = map folded s in
     let n : ℕ = length s / 3 in
-    let long : length l ≡ length s = length-map s plainLetter in
+    let long : length l ≡ length s = length-map s folded in
     let w : List ℕ = translated t [] (wholeCodons l) in
     let w′ : List ℕ = translated t es (wholeCodons l) in
     let r : List ℕ = restOf (length l % 3) in

@@ -8,11 +8,11 @@ use native.Mathlib.Omega.{arith}
 use lib.Bits.{bitAnd, and-block, and-high, and-zero-r}
 use lib.Dec.{lit<}
 use lib.ListN.{length, getD, set, length-set}
-use Rattle.rules.specs.Letters.{plainLetter}
+use Rattle.rules.specs.Letters.{folded}
 use Rattle.rules.proofs.Over.{overFrom}
-use Rattle.codons.specs.Tables.{HoldsPlain, plainSet, isBase, baseSet}
+use Rattle.codons.specs.Tables.{HoldsPlain, foldedSet, foldsToBase, baseSet}
 use Rattle.codons.proofs.Sets.{base-set}
-use Rattle.translation.specs.Residues.{codonAt, numberOf, placeAt, areBases, eightAt}
+use Rattle.translation.specs.Residues.{codonAt, numberOf, placeAt, foldToBases, eightAt}
 use Rattle.translation.proofs.Residues.{codon-sets, base-at, leftFrom, codon-turn}
 
 -- the two bits of a byte's number, kept where they stand
@@ -92,23 +92,23 @@ unfolding placeAt
 place-small s i = omega arith
 
 -- the table has a plain codon's residue at its place
-pub place-residue : (t : ℕ) (code s : List ℕ) (i : ℕ) → HoldsPlain t code → areBases s ≡ true → i < length s / 3 → getD code (placeAt s i) 0 ≡ codonAt t (map plainLetter s) i
+pub place-residue : (t : ℕ) (code s : List ℕ) (i : ℕ) → HoldsPlain t code → foldToBases s ≡ true → i < length s / 3 → getD code (placeAt s i) 0 ≡ codonAt t (map folded s) i
 unfolding placeAt
 place-residue t code s i holds e h =
-    let a : plainSet (getD s (i * 3) 0) ≡ baseSet (numberOf (getD s (i * 3) 0)) = base-set (getD s (i * 3) 0) (base-at s (i * 3) e (omega arith)) in
-    let b : plainSet (getD s (i * 3 + 1) 0) ≡ baseSet (numberOf (getD s (i * 3 + 1) 0)) = base-set (getD s (i * 3 + 1) 0) (base-at s (i * 3 + 1) e (omega arith)) in
-    let c : plainSet (getD s (i * 3 + 2) 0) ≡ baseSet (numberOf (getD s (i * 3 + 2) 0)) = base-set (getD s (i * 3 + 2) 0) (base-at s (i * 3 + 2) e (omega arith)) in
+    let a : foldedSet (getD s (i * 3) 0) ≡ baseSet (numberOf (getD s (i * 3) 0)) = base-set (getD s (i * 3) 0) (base-at s (i * 3) e (omega arith)) in
+    let b : foldedSet (getD s (i * 3 + 1) 0) ≡ baseSet (numberOf (getD s (i * 3 + 1) 0)) = base-set (getD s (i * 3 + 1) 0) (base-at s (i * 3 + 1) e (omega arith)) in
+    let c : foldedSet (getD s (i * 3 + 2) 0) ≡ baseSet (numberOf (getD s (i * 3 + 2) 0)) = base-set (getD s (i * 3 + 2) 0) (base-at s (i * 3 + 2) e (omega arith)) in
     rw (codon-sets t s i, a, b, c)
     (holds .entry (numberOf (getD s (i * 3) 0)) (numberOf (getD s (i * 3 + 1) 0)) (numberOf (getD s (i * 3 + 2) 0)) (number-small _) (number-small _) (number-small _))
 
-module _ (t : ℕ) (code s : List ℕ) (holds : HoldsPlain t code) (bases : areBases s ≡ true) (i : ℕ) (out e : List ℕ) where
+module _ (t : ℕ) (code s : List ℕ) (holds : HoldsPlain t code) (bases : foldToBases s ≡ true) (i : ℕ) (out e : List ℕ) where
   -- a turn stores the residue at its codon's place
   pub place-turn : (p : ℕ) → i < length s / 3 → i < length out → p ≡ placeAt s i → overFrom i (leftFrom t [] s i) out ≡ e → overFrom (i + 1) (leftFrom t [] s (i + 1)) (set out i (getD code p 0)) ≡ e
   place-turn p h k is left =
       codon-turn t s i out e (getD code p 0) h k (ap (λ (n : ℕ). getD code n 0) is ∙ place-residue t code s i holds bases h) left
 
 -- a turn that stores two
-pub pair-turn : (t : ℕ) (code s : List ℕ) → HoldsPlain t code → areBases s ≡ true → (i : ℕ) (out e : List ℕ) (p q : ℕ) → i + 1 < length s / 3 → i + 1 < length out → p ≡ placeAt s i → q ≡ placeAt s (i + 1)
+pub pair-turn : (t : ℕ) (code s : List ℕ) → HoldsPlain t code → foldToBases s ≡ true → (i : ℕ) (out e : List ℕ) (p q : ℕ) → i + 1 < length s / 3 → i + 1 < length out → p ≡ placeAt s i → q ≡ placeAt s (i + 1)
     → overFrom i (leftFrom t [] s i) out ≡ e → overFrom (i + 2) (leftFrom t [] s (i + 2)) (set (set out i (getD code p 0)) (i + 1) (getD code q 0)) ≡ e
 pair-turn t code s holds bases i out e p q h k is is′ left =
     let two : i + 2 ≡ i + 1 + 1 = omega arith in

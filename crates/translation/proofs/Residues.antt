@@ -8,23 +8,23 @@ use lib.ListN.{length, getD, take, drop, set, length-map, length-drop, List·get
 use lib.Seq.{getD-take, length-take-le, take-add}
 use Rattle.rules.specs.declared.Exception.{Exception}
 use Rattle.rules.specs.Bytes.{byte, all, over}
-use Rattle.rules.specs.Letters.{isLetter, upper, plainLetter}
+use Rattle.rules.specs.Letters.{isLetter, upper, folded}
 use Rattle.rules.specs.Codons.{codonRule, codon}
-use Rattle.rules.specs.Translation.{excepted, residuesFrom, translated, residueCount, plainTranslated, wholeCodons, areLetters}
+use Rattle.rules.specs.Translation.{excepted, residuesFrom, translated, residueCount, foldedTranslated, wholeCodons, foldToLetters}
 use Rattle.rules.proofs.Lists.{all-at, all-append, all-map}
 use Rattle.rules.proofs.Over.{overFrom, from-end, from-turn}
 use Rattle.rules.proofs.Translation.{length-residues}
 use Rattle.rules.proofs.Reading.{restOf, residues-more, residues-rest, length-whole}
-use Rattle.codons.specs.Tables.{plainSet, isBase}
+use Rattle.codons.specs.Tables.{foldedSet, foldsToBase}
 use Rattle.codons.proofs.Sets.{plain-some}
-use Rattle.translation.specs.Residues.{codonAt, areBases}
+use Rattle.translation.specs.Residues.{codonAt, foldToBases}
 
-pub plain-at : (s : List ℕ) (k : ℕ) → getD (map plainLetter s) k 0 ≡ plainLetter (getD s k 0)
-unfolding upper plainLetter
-plain-at s k = List·getD-map plainLetter s k 0
+pub plain-at : (s : List ℕ) (k : ℕ) → getD (map folded s) k 0 ≡ folded (getD s k 0)
+unfolding upper folded
+plain-at s k = List·getD-map folded s k 0
 
-pub codon-sets : (t : ℕ) (s : List ℕ) (i : ℕ) → codonAt t (map plainLetter s) i ≡ codonRule t (plainSet (getD s (i * 3) 0)) (plainSet (getD s (i * 3 + 1) 0)) (plainSet (getD s (i * 3 + 2) 0))
-unfolding codonAt codon plainSet
+pub codon-sets : (t : ℕ) (s : List ℕ) (i : ℕ) → codonAt t (map folded s) i ≡ codonRule t (foldedSet (getD s (i * 3) 0)) (foldedSet (getD s (i * 3 + 1) 0)) (foldedSet (getD s (i * 3 + 2) 0))
+unfolding codonAt codon foldedSet
 codon-sets t s i = rw (plain-at s (i * 3), plain-at s (i * 3 + 1), plain-at s (i * 3 + 2))
 
 -- a byte of a whole codon passes what all of them pass
@@ -35,42 +35,42 @@ whole-at p s k e h =
     let long : length (take n s) ≡ n = length-take-le n s (omega arith) in
     ap p (sym (getD-take n s k 0 (omega arith))) ∙ all-at p (take n s) k e (omega arith)
 
-pub letter-at : (s : List ℕ) (k : ℕ) → areLetters s ≡ true → k < length s / 3 * 3 → isLetter (plainLetter (getD s k 0)) ≡ true
-unfolding areLetters
-letter-at s k e h = whole-at (λ b. isLetter (plainLetter b)) s k (sym (all-map isLetter plainLetter (wholeCodons s)) ∙ e) h
+pub letter-at : (s : List ℕ) (k : ℕ) → foldToLetters s ≡ true → k < length s / 3 * 3 → isLetter (folded (getD s k 0)) ≡ true
+unfolding foldToLetters
+letter-at s k e h = whole-at (λ b. isLetter (folded b)) s k (sym (all-map isLetter folded (wholeCodons s)) ∙ e) h
 
-pub base-at : (s : List ℕ) (k : ℕ) → areBases s ≡ true → k < length s / 3 * 3 → isBase (getD s k 0) ≡ true
-unfolding areBases
-base-at s k e h = whole-at isBase s k e h
+pub base-at : (s : List ℕ) (k : ℕ) → foldToBases s ≡ true → k < length s / 3 * 3 → foldsToBase (getD s k 0) ≡ true
+unfolding foldToBases
+base-at s k e h = whole-at foldsToBase s k e h
 
 -- what is read there is a set that isn't empty
-pub set-there : (s : List ℕ) (k : ℕ) {r : ℕ} → areLetters s ≡ true → k < length s / 3 * 3 → (r ≡ plainSet (getD s k 0)) × (r < 16) → (0 < r) × (r < 16)
+pub set-there : (s : List ℕ) (k : ℕ) {r : ℕ} → foldToLetters s ≡ true → k < length s / 3 * 3 → (r ≡ foldedSet (getD s k 0)) × (r < 16) → (0 < r) × (r < 16)
 set-there s k e h is = (rw (is .0) (plain-some (getD s k 0) (letter-at s k e h)), is .1)
 
 -- the residues from codon i on, counted from 0
 unfoldable pub leftFrom : ℕ → List Exception → List ℕ → ℕ → List ℕ
-leftFrom t es s i = residuesFrom t es (i + 1) (drop (i * 3) (map plainLetter s))
+leftFrom t es s i = residuesFrom t es (i + 1) (drop (i * 3) (map folded s))
 
 module _ (t : ℕ) (es : List Exception) (s : List ℕ) where
-  pub length-plain : length (plainTranslated t es s) ≡ (length s + 2) / 3
-  unfolding plainTranslated translated residueCount
-  length-plain = length-residues t es 1 (map plainLetter s) ∙ ap (λ (n : ℕ). (n + 2) / 3) (length-map s plainLetter)
+  pub length-plain : length (foldedTranslated t es s) ≡ (length s + 2) / 3
+  unfolding foldedTranslated translated residueCount
+  length-plain = length-residues t es 1 (map folded s) ∙ ap (λ (n : ℕ). (n + 2) / 3) (length-map s folded)
 
-  pub left-all : leftFrom t es s 0 ≡ plainTranslated t es s
-  unfolding leftFrom plainTranslated translated
+  pub left-all : leftFrom t es s 0 ≡ foldedTranslated t es s
+  unfolding leftFrom foldedTranslated translated
   left-all = refl
 
-  pub left-more : (i : ℕ) → i < length s / 3 → leftFrom t es s i ≡ excepted es (i + 1) (codonAt t (map plainLetter s) i) ∷ leftFrom t es s (i + 1)
+  pub left-more : (i : ℕ) → i < length s / 3 → leftFrom t es s i ≡ excepted es (i + 1) (codonAt t (map folded s) i) ∷ leftFrom t es s (i + 1)
   unfolding leftFrom codonAt
-  left-more i h = residues-more t es (map plainLetter s) i (rw length-map h)
+  left-more i h = residues-more t es (map folded s) i (rw length-map h)
 
   pub left-rest : (i : ℕ) → i ≡ length s / 3 → leftFrom t es s i ≡ restOf (length s % 3)
   unfolding leftFrom
   left-rest i e =
-      residues-rest t es (map plainLetter s) i (i + 1) (rw length-map e) ∙ ap (λ (n : ℕ). restOf (n % 3)) (length-map s plainLetter)
+      residues-rest t es (map folded s) i (i + 1) (rw length-map e) ∙ ap (λ (n : ℕ). restOf (n % 3)) (length-map s folded)
 
 -- without exceptions
-pub left-codon : (t : ℕ) (s : List ℕ) (i : ℕ) → i < length s / 3 → leftFrom t [] s i ≡ codonAt t (map plainLetter s) i ∷ leftFrom t [] s (i + 1)
+pub left-codon : (t : ℕ) (s : List ℕ) (i : ℕ) → i < length s / 3 → leftFrom t [] s i ≡ codonAt t (map folded s) i ∷ leftFrom t [] s (i + 1)
 unfolding excepted
 left-codon t s i h = left-more t [] s i h
 
@@ -88,18 +88,18 @@ map-drop f (suc k) [] = refl
 map-drop f (suc k) (x ∷ s) = map-drop f k s
 
 -- the part from codon i on
-pub left-part : (t : ℕ) (s : List ℕ) (i : ℕ) → plainTranslated t [] (drop (i * 3) s) ≡ leftFrom t [] s i
-unfolding plainTranslated translated leftFrom
-left-part t s i = ap (residuesFrom t [] 1) (map-drop plainLetter (i * 3) s) ∙ any-number t 1 (i + 1) (drop (i * 3) (map plainLetter s))
+pub left-part : (t : ℕ) (s : List ℕ) (i : ℕ) → foldedTranslated t [] (drop (i * 3) s) ≡ leftFrom t [] s i
+unfolding foldedTranslated translated leftFrom
+left-part t s i = ap (residuesFrom t [] 1) (map-drop folded (i * 3) s) ∙ any-number t 1 (i + 1) (drop (i * 3) (map folded s))
 
-pub bases-part : (s : List ℕ) (i : ℕ) → i ≤ length s / 3 → areBases s ≡ true → areBases (drop (i * 3) s) ≡ true
-unfolding areBases wholeCodons
+pub bases-part : (s : List ℕ) (i : ℕ) → i ≤ length s / 3 → foldToBases s ≡ true → foldToBases (drop (i * 3) s) ≡ true
+unfolding foldToBases wholeCodons
 bases-part s i h e =
     let u : List ℕ = drop (i * 3) s in
     let n : ℕ = length u - length u % 3 in
     let whole : length s - length s % 3 ≡ i * 3 + n = omega (arith, length-drop (i * 3) s) in
     let split : take (length s - length s % 3) s ≡ take (i * 3) s ++ take n u = ap (λ (k : ℕ). take k s) whole ∙ take-add (i * 3) n s in
-    and-eq-true-iff (all isBase (take (i * 3) s)) (all isBase (take n u)) .0 (sym (all-append isBase (take (i * 3) s) (take n u)) ∙ ap (all isBase) (sym split) ∙ e) .1
+    and-eq-true-iff (all foldsToBase (take (i * 3) s)) (all foldsToBase (take n u)) .0 (sym (all-append foldsToBase (take (i * 3) s) (take n u)) ∙ ap (all foldsToBase) (sym split) ∙ e) .1
 
 -- the buffer where no byte remains, and where one does
 rest-some : (r : ℕ) → (r ≡ 0 → ⊥) → restOf r ≡ byte "X" ∷ []
@@ -115,7 +115,7 @@ module _ (k r : ℕ) (out e : List ℕ) (left : overFrom k (restOf r) out ≡ e)
 
 module _ (t : ℕ) (s : List ℕ) (i : ℕ) (out e : List ℕ) where
   -- a turn stores the residue of its codon
-  pub codon-turn : (v : ℕ) → i < length s / 3 → i < length out → v ≡ codonAt t (map plainLetter s) i → overFrom i (leftFrom t [] s i) out ≡ e → overFrom (i + 1) (leftFrom t [] s (i + 1)) (set out i v) ≡ e
+  pub codon-turn : (v : ℕ) → i < length s / 3 → i < length out → v ≡ codonAt t (map folded s) i → overFrom i (leftFrom t [] s i) out ≡ e → overFrom (i + 1) (leftFrom t [] s (i + 1)) (set out i v) ≡ e
   codon-turn v h k is left =
       from-turn i v (leftFrom t [] s i) (leftFrom t [] s (i + 1)) out e k (left-codon t s i h ∙ ap (λ (r : ℕ). r ∷ leftFrom t [] s (i + 1)) (sym is)) left
 

@@ -7,13 +7,13 @@ use Prim.Native.Nat.{ℕ, zero, suc, _-_, _%_}
 use lib.ListN.{length, take}
 use Rattle.rules.specs.declared.Exception.{Exception}
 use Rattle.rules.specs.Bytes.{all}
-use Rattle.rules.specs.Letters.{isLetter, plainLetter}
-use Rattle.rules.specs.Translation.{translated, plainTranslated, wholeCodons, areLetters}
-use Rattle.codons.specs.Tables.{isBase}
+use Rattle.rules.specs.Letters.{isLetter, folded}
+use Rattle.rules.specs.Translation.{translated, foldedTranslated, wholeCodons, foldToLetters}
+use Rattle.codons.specs.Tables.{foldsToBase}
 use Rattle.codons.proofs.Sets.{letter-plain}
-use Rattle.translation.specs.Residues.{areBases}
+use Rattle.translation.specs.Residues.{foldToBases}
 
-same-letters : (s : List ℕ) → all isLetter s ≡ true → map plainLetter s ≡ s
+same-letters : (s : List ℕ) → all isLetter s ≡ true → map folded s ≡ s
 unfolding all
 same-letters [] e = refl
 same-letters (b ∷ s) e =
@@ -29,21 +29,21 @@ all-take p (suc n) (x ∷ s) e =
     rw (both .0, all-take p n s (both .1))
 
 module _ (s : List ℕ) (e : all isLetter s ≡ true) where
-  pub strict-letters : areLetters s ≡ true
-  unfolding areLetters wholeCodons
+  pub strict-letters : foldToLetters s ≡ true
+  unfolding foldToLetters wholeCodons
   strict-letters =
       let whole : all isLetter (take (length s - length s % 3) s) ≡ true = all-take isLetter (length s - length s % 3) s e in
       ap (all isLetter) (same-letters (take (length s - length s % 3) s) whole) ∙ whole
 
-  pub strict-translated : (t : ℕ) (es : List Exception) → plainTranslated t es s ≡ translated t es s
-  unfolding plainTranslated
+  pub strict-translated : (t : ℕ) (es : List Exception) → foldedTranslated t es s ≡ translated t es s
+  unfolding foldedTranslated
   strict-translated t es = ap (translated t es) (same-letters s e)
 
-  pub strict-whole : (t : ℕ) (es : List Exception) → plainTranslated t es (wholeCodons s) ≡ translated t es (wholeCodons s)
-  unfolding plainTranslated wholeCodons
+  pub strict-whole : (t : ℕ) (es : List Exception) → foldedTranslated t es (wholeCodons s) ≡ translated t es (wholeCodons s)
+  unfolding foldedTranslated wholeCodons
   strict-whole t es =
       ap (translated t es) (same-letters (take (length s - length s % 3) s) (all-take isLetter (length s - length s % 3) s e))
 
-pub whole-bases : (s : List ℕ) → all isBase s ≡ true → areBases s ≡ true
-unfolding areBases wholeCodons
-whole-bases s e = all-take isBase (length s - length s % 3) s e
+pub whole-bases : (s : List ℕ) → all foldsToBase s ≡ true → foldToBases s ≡ true
+unfolding foldToBases wholeCodons
+whole-bases s e = all-take foldsToBase (length s - length s % 3) s e

@@ -9,8 +9,8 @@ use borrow.Rule.Slice.PartMut.{putMid}
 use Rattle.rules.specs.declared.Exception.{Exception}
 use Rattle.rules.specs.declared.Exceptions.{Exceptions}
 use Rattle.rules.specs.Bytes.{byte, over}
-use Rattle.rules.specs.Letters.{plainLetter}
-use Rattle.rules.specs.Translation.{exceptionList, excepted, plainTranslated, beforeStop, throughStop, wholeCodons}
+use Rattle.rules.specs.Letters.{folded}
+use Rattle.rules.specs.Translation.{exceptionList, excepted, foldedTranslated, beforeStop, throughStop, wholeCodons}
 use Rattle.rules.proofs.Over.{overFrom, from-start, from-end, from-turn, tail-is}
 use Rattle.rules.proofs.Reading.{restOf, before-here, before-later, through-here, through-later, through-rest, length-whole}
 use Rattle.translation.specs.Residues.{codonAt, nextFrom, WalkedTo}
@@ -19,10 +19,10 @@ use Rattle.translation.proofs.Excepted.{Clear, next-clear, still-clear}
 
 -- the residue of codon i, exceptions applied
 unfoldable pub residueAt : ℕ → List Exception → List ℕ → ℕ → ℕ
-residueAt t es s i = excepted es (i + 1) (codonAt t (map plainLetter s) i)
+residueAt t es s i = excepted es (i + 1) (codonAt t (map folded s) i)
 
 -- a codon with an exception, and one without
-module _ (t : ℕ) (es : List Exception) (s : List ℕ) (i next c : ℕ) (is : c ≡ codonAt t (map plainLetter s) i) where
+module _ (t : ℕ) (es : List Exception) (s : List ℕ) (i next c : ℕ) (is : c ≡ codonAt t (map folded s) i) where
   pub at-exception : (past r next′ : ℕ) → i + 1 < past → i + 1 ≡ next → r ≡ excepted es next c → next′ ≡ nextFrom es (next + 1) past → (r ≡ residueAt t es s i) × Clear es (i + 1) next′
   unfolding residueAt
   at-exception past r next′ h e x n = (x ∙ rw (e, is), next-clear es (i + 1) past next′ h (rw e n))
@@ -39,11 +39,11 @@ pub record Walk (t : ℕ) (es : List Exception) (s A old out : List ℕ) (i : �
   pub long : i + length (throughStop (leftFrom t es s i)) ≡ length A
   pub same : length out ≡ length old
 
-pub walk-start : (t : ℕ) (es : List Exception) (s old : List ℕ) → Walk t es s (throughStop (plainTranslated t es s)) old old 0
+pub walk-start : (t : ℕ) (es : List Exception) (s old : List ℕ) → Walk t es s (throughStop (foldedTranslated t es s)) old old 0
 walk-start t es s old =
-    let e : throughStop (leftFrom t es s 0) ≡ throughStop (plainTranslated t es s) = ap throughStop (left-all t es s) in
+    let e : throughStop (leftFrom t es s 0) ≡ throughStop (foldedTranslated t es s) = ap throughStop (left-all t es s) in
     record {
-      left = ap (λ (l : List ℕ). overFrom 0 l old) e ∙ from-start (throughStop (plainTranslated t es s)) old;
+      left = ap (λ (l : List ℕ). overFrom 0 l old) e ∙ from-start (throughStop (foldedTranslated t es s)) old;
       long = omega (arith, ap (λ (l : List ℕ). length l) e);
       same = refl;
     }
@@ -96,17 +96,17 @@ behind f p r k = rw (take-append-add f p k, drop-append-add f p k, append-assoc)
 
 -- the walk goes on in the part from codon i on
 module _ (t : ℕ) (s A old out : List ℕ) (i : ℕ) (w : Walk t [] s A old out i) (h : i ≤ length s / 3) (fits : i ≤ length out) where
-  put-on : take i out ++ over (throughStop (plainTranslated t [] (drop (i * 3) s))) (drop i out) ≡ over A old
+  put-on : take i out ++ over (throughStop (foldedTranslated t [] (drop (i * 3) s))) (drop i out) ≡ over A old
   unfolding overFrom
   put-on = ap (λ (l : List ℕ). take i out ++ over (throughStop l) (drop i out)) (left-part t s i) ∙ w .left
 
-  on : (part : List ℕ) (j : ℕ) → WalkedTo (throughStop (plainTranslated t [] (drop (i * 3) s))) (length (drop (i * 3) s)) (drop i out) part j
+  on : (part : List ℕ) (j : ℕ) → WalkedTo (throughStop (foldedTranslated t [] (drop (i * 3) s))) (length (drop (i * 3) s)) (drop i out) part j
       → WalkedTo A (length s) old (take i out ++ part) (i + j)
   on part j x =
       let u : List ℕ = drop (i * 3) s in
       let long : length (take i out) ≡ i = length-take-le i out fits in
       let size : length u ≡ length s - i * 3 = length-drop (i * 3) s in
-      let many : i + length (throughStop (plainTranslated t [] u)) ≡ length A = ap (λ (l : List ℕ). i + length (throughStop l)) (left-part t s i) ∙ w .long in
+      let many : i + length (throughStop (foldedTranslated t [] u)) ≡ length A = ap (λ (l : List ℕ). i + length (throughStop l)) (left-part t s i) ∙ w .long in
       let at : length s / 3 ≡ length (take i out) + length u / 3 = omega arith in
       let rest : length s % 3 ≡ length u % 3 = omega arith in
       record {
@@ -120,14 +120,14 @@ module _ (t : ℕ) (s A old out : List ℕ) (i : ℕ) (w : Walk t [] s A old out
       }
 
   pub walk-on : (part : List ℕ) (j : ℕ)
-      → WalkedTo (throughStop (plainTranslated t [] (take (length s - i * 3) (drop (i * 3) s)))) (length (take (length s - i * 3) (drop (i * 3) s))) (take (length out - i) (drop i out)) part j
+      → WalkedTo (throughStop (foldedTranslated t [] (take (length s - i * 3) (drop (i * 3) s)))) (length (take (length s - i * 3) (drop (i * 3) s))) (take (length out - i) (drop i out)) part j
       → WalkedTo A (length s) old (putMid i (length out - i) out part) (i + j)
   walk-on part j x =
       let none : drop (length out - i) (drop i out) ≡ [] = drop-of-length-le (drop i out) {i = length out - i} (rw length-drop (omega arith)) in
       simp (none, append-nil) (on part j (rw (tail-is (i * 3) s, tail-is i out) at x))
 
 -- the first stop among the whole codons
-whole-codon : (t : ℕ) (s : List ℕ) (i : ℕ) → i < length s / 3 → codonAt t (map plainLetter (wholeCodons s)) i ≡ codonAt t (map plainLetter s) i
+whole-codon : (t : ℕ) (s : List ℕ) (i : ℕ) → i < length s / 3 → codonAt t (map folded (wholeCodons s)) i ≡ codonAt t (map folded s) i
 unfolding codonAt wholeCodons
 whole-codon t s i h =
     let n : ℕ = length s - length s % 3 in
@@ -147,7 +147,7 @@ module _ (t : ℕ) (es : List Exception) (s : List ℕ) where
   abbrev pub stopsFrom : ℕ → ℕ
   stopsFrom i = i + beforeStop (leftFrom t es (wholeCodons s) i)
 
-  pub stops-all : stopsFrom 0 ≡ beforeStop (plainTranslated t es (wholeCodons s))
+  pub stops-all : stopsFrom 0 ≡ beforeStop (foldedTranslated t es (wholeCodons s))
   stops-all = omega (arith, ap beforeStop (left-all t es (wholeCodons s)))
 
   module _ (i v : ℕ) (h : i < length s / 3) (is : v ≡ residueAt t es s i) where

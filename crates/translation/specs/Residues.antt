@@ -11,7 +11,7 @@ use Rattle.rules.specs.Codons.{codon}
 use Rattle.rules.specs.Translation.{excepted, wholeCodons}
 use Rattle.rules.proofs.Over.{overFrom}
 use Rattle.rules.proofs.Reading.{restOf}
-use Rattle.codons.specs.Tables.{isBase}
+use Rattle.codons.specs.Tables.{foldsToBase}
 
 -- the residue of codon i, counted from 0, of a list of letters
 unfoldable pub codonAt : ℕ → List ℕ → ℕ → ℕ
@@ -40,8 +40,8 @@ unfoldable pub placeAt : List ℕ → ℕ → ℕ
 placeAt s i = numberOf (getD s (i * 3) 0) * 16 + numberOf (getD s (i * 3 + 1) 0) * 4 + numberOf (getD s (i * 3 + 2) 0)
 
 -- each byte of the whole codons is a base of plain translation
-unfoldable pub areBases : List ℕ → Bool
-areBases s = all isBase (wholeCodons s)
+unfoldable pub foldToBases : List ℕ → Bool
+foldToBases s = all foldsToBase (wholeCodons s)
 
 -- four bytes from place k on as one number, the first lowest, and eight
 abbrev pub fourAt : List ℕ → ℕ → ℕ

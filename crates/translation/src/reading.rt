@@ -1,5 +1,5 @@
 // Codons read by the tables, without exceptions.
-use codons::letters::plain_set;
+use codons::letters::folded_set;
 use codons::tables::residue_in;
 ghost use mathlib.Core.Path.{_≡_};
 ghost use mathlib.Core.Bool.{true};
@@ -7,22 +7,22 @@ ghost use mathlib.Core.List.{[], map};
 ghost use Prim.Native.Nat.{_+_, _*_, _/_, _%_, _<_, _≤_};
 ghost use lib.ListN.{length};
 ghost use Rattle.rules.specs.Bytes.{over};
-ghost use Rattle.rules.specs.Letters.{plainLetter};
-ghost use Rattle.rules.specs.Translation.{residueCount, areLetters, plainTranslated};
-ghost use Rattle.codons.specs.Tables.{HoldsCode, HoldsPlain, HoldsSets, plainSet};
-ghost use Rattle.translation.specs.Residues.{codonAt, placeAt, areBases, fourAt};
+ghost use Rattle.rules.specs.Letters.{folded};
+ghost use Rattle.rules.specs.Translation.{residueCount, foldToLetters, foldedTranslated};
+ghost use Rattle.codons.specs.Tables.{HoldsCode, HoldsPlain, HoldsSets, foldedSet};
+ghost use Rattle.translation.specs.Residues.{codonAt, placeAt, foldToBases, fourAt};
 
 // The residue of codon i, counted from 0, by the tables of sets and of residues.
 pub(crate) fn codon_at(seq: &[u8], table: usize, sets: &[u8; 256], lut: &[u8; 4096], i: usize) -> u8
-    requires { ⌜ HoldsSets plainSet (now sets) ⌝ }
+    requires { ⌜ HoldsSets foldedSet (now sets) ⌝ }
     requires { ⌜ HoldsCode table (now lut) ⌝ }
-    requires { ⌜ areLetters (now seq) ≡ true ⌝ }
+    requires { ⌜ foldToLetters (now seq) ≡ true ⌝ }
     requires { ⌜ i < length (now seq) / 3 ⌝ }
-    ensures { λ r. ⌜ r ≡ codonAt table (map plainLetter (now (seq .entry))) i ⌝ }
+    ensures { λ r. ⌜ r ≡ codonAt table (map folded (now (seq .entry))) i ⌝ }
 {
-    let a = plain_set(sets, seq[i * 3]);
-    let b = plain_set(sets, seq[i * 3 + 1]);
-    let c = plain_set(sets, seq[i * 3 + 2]);
+    let a = folded_set(sets, seq[i * 3]);
+    let b = folded_set(sets, seq[i * 3 + 1]);
+    let c = folded_set(sets, seq[i * 3 + 2]);
     residue_in(table, lut, a, b, c)
 }
 
@@ -34,11 +34,11 @@ pub(crate) fn write_any(
     lut: &[u8; 4096],
     out: &mut [u8],
 )
-    requires { ⌜ HoldsSets plainSet (now sets) ⌝ }
+    requires { ⌜ HoldsSets foldedSet (now sets) ⌝ }
     requires { ⌜ HoldsCode table (now lut) ⌝ }
-    requires { ⌜ areLetters (now seq) ≡ true ⌝ }
+    requires { ⌜ foldToLetters (now seq) ≡ true ⌝ }
     requires { ⌜ residueCount (length (now seq)) ≤ length (now out) ⌝ }
-    ensures { λ _. ⌜ now (out .exit) ≡ over (plainTranslated table [] (now (seq .entry))) (now (out .entry)) ⌝ }
+    ensures { λ _. ⌜ now (out .exit) ≡ over (foldedTranslated table [] (now (seq .entry))) (now (out .entry)) ⌝ }
 {
     let whole = seq.len() / 3;
     let mut i = 0;
@@ -92,9 +92,9 @@ pub(crate) fn place_at(seq: &[u8], i: usize) -> usize
 // Writes the residues of bases, without exceptions, to the buffer's start: two codons at a time, then those that are left.
 pub(crate) fn write_plain(seq: &[u8], table: usize, code: &[u8; 64], out: &mut [u8])
     requires { ⌜ HoldsPlain table (now code) ⌝ }
-    requires { ⌜ areBases (now seq) ≡ true ⌝ }
+    requires { ⌜ foldToBases (now seq) ≡ true ⌝ }
     requires { ⌜ residueCount (length (now seq)) ≤ length (now out) ⌝ }
-    ensures { λ _. ⌜ now (out .exit) ≡ over (plainTranslated table [] (now (seq .entry))) (now (out .entry)) ⌝ }
+    ensures { λ _. ⌜ now (out .exit) ≡ over (foldedTranslated table [] (now (seq .entry))) (now (out .entry)) ⌝ }
 {
     let whole = seq.len() / 3;
     let mut i = 0;
@@ -126,13 +126,13 @@ pub(crate) fn write_letters(
     code: &[u8; 64],
     out: &mut [u8],
 )
-    requires { ⌜ HoldsSets plainSet (now sets) ⌝ }
+    requires { ⌜ HoldsSets foldedSet (now sets) ⌝ }
     requires { ⌜ HoldsCode table (now lut) ⌝ }
     requires { ⌜ HoldsPlain table (now code) ⌝ }
-    requires { ⌜ areLetters (now seq) ≡ true ⌝ }
-    requires { ⌜ (plain ≡ true → areBases (now seq) ≡ true) ⌝ }
+    requires { ⌜ foldToLetters (now seq) ≡ true ⌝ }
+    requires { ⌜ (plain ≡ true → foldToBases (now seq) ≡ true) ⌝ }
     requires { ⌜ residueCount (length (now seq)) ≤ length (now out) ⌝ }
-    ensures { λ _. ⌜ now (out .exit) ≡ over (plainTranslated table [] (now (seq .entry))) (now (out .entry)) ⌝ }
+    ensures { λ _. ⌜ now (out .exit) ≡ over (foldedTranslated table [] (now (seq .entry))) (now (out .entry)) ⌝ }
 {
     if plain {
         write_plain(seq, table, code, out);

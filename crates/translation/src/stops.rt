@@ -11,9 +11,9 @@ ghost use mathlib.Core.List.{[]};
 ghost use Prim.Native.Nat.{_≤_};
 ghost use lib.ListN.{length};
 ghost use Rattle.rules.specs.Bytes.{over};
-ghost use Rattle.rules.specs.Translation.{exceptionList, residueCount, beforeStop, throughStop, wholeCodons, areLetters, plainTranslated};
-ghost use Rattle.codons.specs.Tables.{HoldsCode, HoldsPlain, HoldsSets, plainSet};
-ghost use Rattle.translation.specs.Residues.{areBases, WalkedTo};
+ghost use Rattle.rules.specs.Translation.{exceptionList, residueCount, beforeStop, throughStop, wholeCodons, foldToLetters, foldedTranslated};
+ghost use Rattle.codons.specs.Tables.{HoldsCode, HoldsPlain, HoldsSets, foldedSet};
+ghost use Rattle.translation.specs.Residues.{foldToBases, WalkedTo};
 
 // The index of the first codon that reads `*`, exceptions applied, or the number of whole codons.
 pub fn first_stop(
@@ -23,11 +23,11 @@ pub fn first_stop(
     lut: &[u8; 4096],
     e: Exceptions,
 ) -> usize
-    requires { ⌜ HoldsSets plainSet (now sets) ⌝ }
+    requires { ⌜ HoldsSets foldedSet (now sets) ⌝ }
     requires { ⌜ HoldsCode table (now lut) ⌝ }
-    requires { ⌜ areLetters (now seq) ≡ true ⌝ }
+    requires { ⌜ foldToLetters (now seq) ≡ true ⌝ }
     requires { ⌜ e .count ≤ 16 ⌝ }
-    ensures { λ r. ⌜ r ≡ beforeStop (plainTranslated table (exceptionList e) (wholeCodons (now (seq .entry)))) ⌝ }
+    ensures { λ r. ⌜ r ≡ beforeStop (foldedTranslated table (exceptionList e) (wholeCodons (now (seq .entry)))) ⌝ }
 {
     let whole = seq.len() / 3;
     let mut next = next_exception(e, 1, whole + 1);
@@ -59,12 +59,12 @@ fn write_to_stop(
     e: Exceptions,
     out: &mut [u8],
 ) -> usize
-    requires { ⌜ HoldsSets plainSet (now sets) ⌝ }
+    requires { ⌜ HoldsSets foldedSet (now sets) ⌝ }
     requires { ⌜ HoldsCode table (now lut) ⌝ }
-    requires { ⌜ areLetters (now seq) ≡ true ⌝ }
+    requires { ⌜ foldToLetters (now seq) ≡ true ⌝ }
     requires { ⌜ e .count ≤ 16 ⌝ }
     requires { ⌜ residueCount (length (now seq)) ≤ length (now out) ⌝ }
-    ensures { λ r. ⌜ WalkedTo (throughStop (plainTranslated table (exceptionList e) (now (seq .entry)))) (length (now (seq .entry))) (now (out .entry)) (now (out .exit)) r ⌝ }
+    ensures { λ r. ⌜ WalkedTo (throughStop (foldedTranslated table (exceptionList e) (now (seq .entry)))) (length (now (seq .entry))) (now (out .entry)) (now (out .exit)) r ⌝ }
 {
     let whole = seq.len() / 3;
     let mut next = next_exception(e, 1, whole + 1);
@@ -90,9 +90,9 @@ fn write_to_stop(
 // The same of bases without exceptions.
 fn write_codons_to_stop(seq: &[u8], table: usize, code: &[u8; 64], out: &mut [u8]) -> usize
     requires { ⌜ HoldsPlain table (now code) ⌝ }
-    requires { ⌜ areBases (now seq) ≡ true ⌝ }
+    requires { ⌜ foldToBases (now seq) ≡ true ⌝ }
     requires { ⌜ residueCount (length (now seq)) ≤ length (now out) ⌝ }
-    ensures { λ r. ⌜ WalkedTo (throughStop (plainTranslated table [] (now (seq .entry)))) (length (now (seq .entry))) (now (out .entry)) (now (out .exit)) r ⌝ }
+    ensures { λ r. ⌜ WalkedTo (throughStop (foldedTranslated table [] (now (seq .entry)))) (length (now (seq .entry))) (now (out .entry)) (now (out .exit)) r ⌝ }
 {
     let whole = seq.len() / 3;
     let mut i = 0;
@@ -114,9 +114,9 @@ fn write_codons_to_stop(seq: &[u8], table: usize, code: &[u8; 64], out: &mut [u8
 // The same, two codons at a time, then those that are left.
 fn write_plain_to_stop(seq: &[u8], table: usize, code: &[u8; 64], out: &mut [u8]) -> usize
     requires { ⌜ HoldsPlain table (now code) ⌝ }
-    requires { ⌜ areBases (now seq) ≡ true ⌝ }
+    requires { ⌜ foldToBases (now seq) ≡ true ⌝ }
     requires { ⌜ residueCount (length (now seq)) ≤ length (now out) ⌝ }
-    ensures { λ r. ⌜ WalkedTo (throughStop (plainTranslated table [] (now (seq .entry)))) (length (now (seq .entry))) (now (out .entry)) (now (out .exit)) r ⌝ }
+    ensures { λ r. ⌜ WalkedTo (throughStop (foldedTranslated table [] (now (seq .entry)))) (length (now (seq .entry))) (now (out .entry)) (now (out .exit)) r ⌝ }
 {
     let mut i = 0;
     while i * 3 + 8 <= seq.len() {
@@ -150,14 +150,14 @@ fn write_walk(
     e: Exceptions,
     out: &mut [u8],
 ) -> usize
-    requires { ⌜ HoldsSets plainSet (now sets) ⌝ }
+    requires { ⌜ HoldsSets foldedSet (now sets) ⌝ }
     requires { ⌜ HoldsCode table (now lut) ⌝ }
     requires { ⌜ HoldsPlain table (now code) ⌝ }
-    requires { ⌜ areLetters (now seq) ≡ true ⌝ }
-    requires { ⌜ (plain ≡ true → areBases (now seq) ≡ true) ⌝ }
+    requires { ⌜ foldToLetters (now seq) ≡ true ⌝ }
+    requires { ⌜ (plain ≡ true → foldToBases (now seq) ≡ true) ⌝ }
     requires { ⌜ e .count ≤ 16 ⌝ }
     requires { ⌜ residueCount (length (now seq)) ≤ length (now out) ⌝ }
-    ensures { λ r. ⌜ WalkedTo (throughStop (plainTranslated table (exceptionList e) (now (seq .entry)))) (length (now (seq .entry))) (now (out .entry)) (now (out .exit)) r ⌝ }
+    ensures { λ r. ⌜ WalkedTo (throughStop (foldedTranslated table (exceptionList e) (now (seq .entry)))) (length (now (seq .entry))) (now (out .entry)) (now (out .exit)) r ⌝ }
 {
     if plain & (e.count == 0) {
         return write_plain_to_stop(seq, table, code, out);
@@ -177,15 +177,15 @@ pub fn write_through_stop(
     e: Exceptions,
     out: &mut [u8],
 ) -> usize
-    requires { ⌜ HoldsSets plainSet (now sets) ⌝ }
+    requires { ⌜ HoldsSets foldedSet (now sets) ⌝ }
     requires { ⌜ HoldsCode table (now lut) ⌝ }
     requires { ⌜ HoldsPlain table (now code) ⌝ }
-    requires { ⌜ areLetters (now seq) ≡ true ⌝ }
-    requires { ⌜ (plain ≡ true → areBases (now seq) ≡ true) ⌝ }
+    requires { ⌜ foldToLetters (now seq) ≡ true ⌝ }
+    requires { ⌜ (plain ≡ true → foldToBases (now seq) ≡ true) ⌝ }
     requires { ⌜ e .count ≤ 16 ⌝ }
     requires { ⌜ residueCount (length (now seq)) ≤ length (now out) ⌝ }
-    ensures { λ r. ⌜ r ≡ length (throughStop (plainTranslated table (exceptionList e) (now (seq .entry)))) ⌝ }
-    ensures written { λ _. ⌜ now (out .exit) ≡ over (throughStop (plainTranslated table (exceptionList e) (now (seq .entry)))) (now (out .entry)) ⌝ }
+    ensures { λ r. ⌜ r ≡ length (throughStop (foldedTranslated table (exceptionList e) (now (seq .entry)))) ⌝ }
+    ensures written { λ _. ⌜ now (out .exit) ≡ over (throughStop (foldedTranslated table (exceptionList e) (now (seq .entry)))) (now (out .entry)) ⌝ }
 {
     let stop = write_walk(seq, table, plain, sets, lut, code, e, out);
     let whole = seq.len() / 3;

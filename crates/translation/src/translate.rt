@@ -1,12 +1,12 @@
 // Plain translation of a byte string, without and with exceptions.
-use crate::bases::all_bases;
-use crate::bases::all_letters;
+use crate::bases::all_fold_to_bases;
+use crate::bases::all_fold_to_letters;
 use crate::exceptions::are_exceptions;
 use crate::exceptions::put_exceptions;
 use crate::reading::write_any;
 use crate::reading::write_letters;
 use crate::reading::write_plain;
-use codons::letters::plain_sets;
+use codons::letters::folded_sets;
 use codons::tables::plain_code;
 use codons::tables::residues_of;
 use rules::Exceptions;
@@ -17,10 +17,10 @@ ghost use mathlib.Core.List.{[]};
 ghost use Prim.Native.Nat.{_≤_};
 ghost use lib.ListN.{length};
 ghost use Rattle.rules.specs.Bytes.{over};
-ghost use Rattle.rules.specs.Translation.{exceptionList, residueCount, areLetters, plainTranslated, translation};
+ghost use Rattle.rules.specs.Translation.{exceptionList, residueCount, foldToLetters, foldedTranslated, translation};
 ghost use Rattle.rules.specs.Answer.{writtenOf, bytesOf};
-ghost use Rattle.codons.specs.Tables.{HoldsCode, HoldsPlain, HoldsSets, plainSet};
-ghost use Rattle.translation.specs.Residues.{areBases};
+ghost use Rattle.codons.specs.Tables.{HoldsCode, HoldsPlain, HoldsSets, foldedSet};
+ghost use Rattle.translation.specs.Residues.{foldToBases};
 
 // Writes the translation of letters that were looked at to the buffer's start.
 pub fn write_translated(
@@ -33,14 +33,14 @@ pub fn write_translated(
     e: Exceptions,
     out: &mut [u8],
 )
-    requires { ⌜ HoldsSets plainSet (now sets) ⌝ }
+    requires { ⌜ HoldsSets foldedSet (now sets) ⌝ }
     requires { ⌜ HoldsCode table (now lut) ⌝ }
     requires { ⌜ HoldsPlain table (now code) ⌝ }
-    requires { ⌜ areLetters (now seq) ≡ true ⌝ }
-    requires { ⌜ (plain ≡ true → areBases (now seq) ≡ true) ⌝ }
+    requires { ⌜ foldToLetters (now seq) ≡ true ⌝ }
+    requires { ⌜ (plain ≡ true → foldToBases (now seq) ≡ true) ⌝ }
     requires { ⌜ e .count ≤ 16 ⌝ }
     requires { ⌜ residueCount (length (now seq)) ≤ length (now out) ⌝ }
-    ensures { λ _. ⌜ now (out .exit) ≡ over (plainTranslated table (exceptionList e) (now (seq .entry))) (now (out .entry)) ⌝ }
+    ensures { λ _. ⌜ now (out .exit) ≡ over (foldedTranslated table (exceptionList e) (now (seq .entry))) (now (out .entry)) ⌝ }
 {
     write_letters(seq, table, plain, sets, lut, code, out);
     let whole = seq.len() / 3;
@@ -64,13 +64,13 @@ pub fn translate_cds(seq: &[u8], table: usize, full: bool, out: &mut [u8]) -> Wr
         return Written::Refused(15);
     }
     let end = seq.len() - seq.len() % 3;
-    if all_bases(&seq[..end]) {
+    if all_fold_to_bases(&seq[..end]) {
         let code = plain_code(table);
         write_plain(seq, table, &code, out);
         return Written::Bytes(n);
     }
-    if all_letters(&seq[..end]) {
-        let sets = plain_sets();
+    if all_fold_to_letters(&seq[..end]) {
+        let sets = folded_sets();
         let lut = residues_of(table);
         write_any(seq, table, &sets, &lut, out);
         return Written::Bytes(n);

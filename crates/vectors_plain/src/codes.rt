@@ -2,7 +2,7 @@
 use crate::plain::count_of;
 use crate::plain::print_answer;
 use crate::plain::print_number;
-use codons::reader::plain_codon;
+use codons::reader::read_codon;
 use codons::tables::residue_in;
 use codons::tables::residues_of;
 use translation::translate_cds;
@@ -107,7 +107,7 @@ fn differs(table: usize, lut: &[u8; 4096], k: usize) -> usize
         return 0;
     }
     let x = residue_in(table, lut, a, b, c);
-    let y = plain_codon(table, a, b, c);
+    let y = read_codon(table, a, b, c);
     if x == y {
         return 0;
     }

@@ -76,7 +76,7 @@ build-altseq-in-requires c κs =
     let cds = sym (cds-known limits (a .letters .now) k (a .e) (c .before .before .before .before .before .before .before .before .before .known .given .0 .0) (known .0) (known .1)) in (
       knows limits (a .letters .now) k (a .e) (c .before .before .before .before .before .before .before .before .before .known .given .0 .0) (known .0) (known .1) _ _ (read .ensures .1) (omega arith),
       (
-        c .before .before .before .before .before .before .before .before .before .before .before .before .before .before .before .before .before .before .before .before .plain-sets .ensures,
+        c .before .before .before .before .before .before .before .before .before .before .before .before .before .before .before .before .before .before .before .before .folded-sets .ensures,
         (
           subst (λ (d : Cds). HoldsCode (d .table) (c .before .before .before .before .before .before .before .before .before .before .before .before .before .before .before .before .before .before .before .residues-of .result)) cds (c .before .before .before .before .before .before .before .before .before .before .before .before .before .before .before .before .before .before .before .residues-of .ensures),
           (subst (λ (d : Cds). HoldsPlain (d .table) (c .before .before .before .before .before .before .before .before .before .before .before .before .before .before .before .before .before .before .plain-code .result)) cds (c .before .before .before .before .before .before .before .before .before .before .before .before .before .before .before .before .before .before .plain-code .ensures), c .before .before .before .before .before .before .before .before .before .before .before .before .before .before .before .before .before .complements .ensures),

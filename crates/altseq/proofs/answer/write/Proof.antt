@@ -112,7 +112,7 @@ write-through-stop-requires c κs =
           (
             coding-readable r e room (pre .0) (a .plan) (pre .1 .1 .1 .0) (c .before .before .before .before .before .before .before .before .before .before .before .before .before .write-transcript .result) (a .tx .now) _ (c .before .before .before .before .before .before .before .before .before .before .before .before .before .write-transcript .ensures .0) (c .before .before .before .before .before .before .before .before .before .before .before .before .before .write-transcript .ensures .1),
             (
-              coding-bases r e room (pre .0) (a .plan) (pre .1 .1 .1 .0) (c .before .before .before .before .before .before .before .before .before .before .before .before .before .write-transcript .result) (a .tx .now) _ (c .before .before .before .before .before .before .before .before .before .before .before .before .before .write-transcript .ensures .0) (c .before .before .before .before .before .before .before .before .before .before .before .before .before .write-transcript .ensures .1) (a .known .plain) (c .before .before .before .before .all-bases .result) plain (c .before .before .before .before .all-bases .ensures),
+              coding-bases r e room (pre .0) (a .plan) (pre .1 .1 .1 .0) (c .before .before .before .before .before .before .before .before .before .before .before .before .before .write-transcript .result) (a .tx .now) _ (c .before .before .before .before .before .before .before .before .before .before .before .before .before .write-transcript .ensures .0) (c .before .before .before .before .before .before .before .before .before .before .before .before .before .write-transcript .ensures .1) (a .known .plain) (c .before .before .before .before .all-fold-to-bases .result) plain (c .before .before .before .before .all-fold-to-bases .ensures),
               (c .before .before .before .before .before .alt-translation-exceptions .ensures .1, coding-room r e room (pre .0) (a .plan) (pre .1 .1 .1 .0) (c .before .before .before .before .before .before .before .before .before .before .before .before .before .write-transcript .result) (a .tx .now) _ (c .before .before .before .before .before .before .before .before .before .before .before .before .before .write-transcript .ensures .0) (c .before .before .before .before .before .before .before .before .before .before .before .before .before .write-transcript .ensures .1)),
             ),
           ),

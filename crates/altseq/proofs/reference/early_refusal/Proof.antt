@@ -92,7 +92,7 @@ returns-6 c =
       ← c .before .fit-exceptions .ensures,
       c .if5 .left,
       ← plain-bases (a .letters .now) (sym (c .before .before .before .before .before .before .before .before .before .are-letters .ensures) ∙ not-false (c .before .before .before .before .before .before .before .before .before .are-letters .result) (c .before .before .before .before .before .before .before .before .if2 .left)),
-      ← c .before .before .before .before .before .before .before .before .before .before .all-plain .ensures,
+      ← c .before .before .before .before .before .before .before .before .before .before .all-bases .ensures,
     )
 
 pub early-refusal-spec : {M : Type 1} → statement M

@@ -3,21 +3,17 @@ use mathlib.Core.Bool.{false, _||_}
 use mathlib.Core.Path.{refl}
 use Prim.Native.Nat.{ℕ}
 use borrow.Author.Needs.{needs}
-use lib.Bits.{bitAnd}
 use lib.Dec.{eqb}
-use Rattle.rules.specs.Letters.{upper, plainLetter}
-use Rattle.codons.specs.Tables.{isBase}
+use Rattle.rules.specs.Letters.{letterSet, isLetter, upper, folded}
+use Rattle.codons.specs.Tables.{foldsToBase, isBase}
 use Rattle.codons.proofs.Listed.{at-byte}
 use Rattle.codons.proofs.letters.is_base.Statement.{statement}
 use Rattle.codons.proofs.letters.is_base.Tie as tie
 
 returns : tie.Need-returns
-unfolding upper plainLetter isBase
+unfolding letterSet isLetter upper folded foldsToBase
 returns c =
-    at-byte false (λ (b : ℕ).
-    let u : ℕ = bitAnd b 223 in
-    eqb u 65 || eqb u 67 || eqb u 71 || eqb u 84 || eqb u 85)
-    isBase refl (c .args .b) (search needs)
+    at-byte false (λ (b : ℕ). eqb b 65 || eqb b 67 || eqb b 71 || eqb b 84) isBase refl (c .args .b) (search needs)
 
 pub is-base-spec : {M : Type 1} → statement M
 is-base-spec = tie.close (tie.spec returns)

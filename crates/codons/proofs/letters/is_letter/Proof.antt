@@ -1,23 +1,19 @@
 -- `codons::letters::is_letter` meets its contract: antt computes the two tests alike for all bytes. Assumes nothing.
 use mathlib.Core.Bool.{false, _&&_, not}
 use mathlib.Core.Path.{refl}
-use Prim.Native.Nat.{ℕ, _+_}
-use native.Mathlib.Omega.{arith}
+use Prim.Native.Nat.{ℕ, _/_}
 use borrow.Author.Needs.{needs}
-use lib.Bits.{bitAnd, and-le-r}
-use lib.Dec.{eqb, leb}
-use Rattle.rules.specs.Letters.{letterSet, isLetter, upper, plainLetter}
+use lib.Dec.{eqb}
+use Rattle.rules.specs.Letters.{letterSet, isLetter, upper, folded}
 use Rattle.codons.proofs.Listed.{at-byte}
 use Rattle.codons.proofs.letters.is_letter.Statement.{statement}
 use Rattle.codons.proofs.letters.is_letter.Tie as tie
 
 returns : tie.Need-returns
-unfolding letterSet isLetter upper plainLetter
+unfolding letterSet isLetter upper folded
 returns c =
-    at-byte false (λ (b : ℕ).
-    let u : ℕ = bitAnd b 223 in
-    (leb 65 u && leb u 89) && not (eqb (bitAnd (u + 3) 250) 72) && not (leb 79 u && leb u 81) && not (eqb u 76) && not (eqb u 88))
-    (λ (b : ℕ). isLetter (plainLetter b)) refl (c .args .b) (search needs)
+    rw (c .folds-to-letter .ensures)
+    (at-byte false (λ (b : ℕ). (eqb (b / 32) 2 && not (eqb b 85)) && isLetter (folded b)) isLetter refl (c .before .args .b) (search needs))
 
 pub is-letter-spec : {M : Type 1} → statement M
-is-letter-spec = tie.close (tie.spec (λ c. omega (arith, and-le-r (c .args .b) 223)) returns)
+is-letter-spec = tie.close (tie.spec (λ c κs. search needs) returns)

@@ -31,7 +31,7 @@ decide-requires c κs =
     let x = c .before .before .before .before .before .before .before .before .before .check-reference in
     let ok = checked-accepted 16384 (a .letters .now) k (a .e) (x .result) (x .ensures .0) (c .before .before .before .before .before .before .known .given .0 .0) (c .before .before .before .before .before .before .known .given .1) in
     let g = c .before .before .before .before .before .before .known .given .0 .0 in
-    (is-sound (a .letters .now) k (a .e) g (ok .0) (ok .1), (omega arith, (c .before .before .before .before .plain-sets .ensures, code-held (a .letters .now) k (a .e) g (ok .0) (ok .1) _ (c .before .before .before .residues-of .ensures))))
+    (is-sound (a .letters .now) k (a .e) g (ok .0) (ok .1), (omega arith, (c .before .before .before .before .folded-sets .ensures, code-held (a .letters .now) k (a .e) g (ok .0) (ok .1) _ (c .before .before .before .residues-of .ensures))))
 
 write-alone-requires : tie.Need-write-alone-requires
 write-alone-requires c κs =

@@ -7,7 +7,7 @@ use Rattle.positions.proofs.refusals.fit_bases.Tie as tie
 
 returns : tie.Need-returns
 unfolding fitBases
-returns c = rw (c .before .enum-told .given .1) (c .are-bases .ensures)
+returns c = rw (c .before .enum-told .given .1) (c .are-new-bases .ensures)
 
 returns-2 : tie.Need-returns-2
 unfolding fitBases
@@ -15,11 +15,11 @@ returns-2 c = rw (c .enum-told2 .given .1) (none-given (c .before .before .befor
 
 returns-3 : tie.Need-returns-3
 unfolding fitBases
-returns-3 c = rw (c .before .enum-told3 .given .1) (c .are-bases2 .ensures)
+returns-3 c = rw (c .before .enum-told3 .given .1) (c .are-new-bases2 .ensures)
 
 returns-4 : tie.Need-returns-4
 unfolding fitBases
-returns-4 c = rw (c .before .enum-told4 .given .1) (c .are-bases3 .ensures)
+returns-4 c = rw (c .before .enum-told4 .given .1) (c .are-new-bases3 .ensures)
 
 returns-5 : tie.Need-returns-5
 unfolding fitBases

@@ -22,8 +22,8 @@ shared-slice-read-letter-set-3 c =
     let a = c .before .before .before .before .before .before .before .args in
     omega (arith, within (a .letters .now) (a .c) (a .e) (c .before .before .before .before .before .before .before .pre))
 
-plain-codon-requires : tie.Need-plain-codon-requires
-plain-codon-requires c κs =
+read-codon-requires : tie.Need-plain-codon-requires
+read-codon-requires c κs =
     let a = c .before .before .before .before .before .before .before .before .args in
     let within = within (a .letters .now) (a .c) (a .e) (c .before .before .before .before .before .before .before .before .pre) in
     let some = some-set (a .letters .now) (a .c) (a .e) (c .before .before .before .before .before .before .before .before .pre) in (
@@ -45,8 +45,8 @@ excepted-of-requires c κs =
 returns : tie.Need-returns
 returns c =
     let a = c .before .before .before .before .before .before .before .before .before .before .before .before .args in
-    last-residue (a .letters .now) (a .c) (a .e) (c .before .before .before .before .before .before .before .before .before .before .before .before .pre) _ (c .before .before .before .plain-codon .result) (c .excepted-of .result) (residues-are (a .letters .now) (a .c) (a .e) (c .before .before .before .before .before .before .before .before .before .before .before .before .pre))
-    (c .before .before .before .before .before .before .before .before .letter-set .result) (c .before .before .before .before .before .before .letter-set2 .result) (c .before .before .before .before .letter-set3 .result) (c .before .before .before .before .before .before .before .before .letter-set .ensures .0) (c .before .before .before .before .before .before .letter-set2 .ensures .0) (c .before .before .before .before .letter-set3 .ensures .0) (c .before .before .before .plain-codon .ensures) (c .excepted-of .ensures)
+    last-residue (a .letters .now) (a .c) (a .e) (c .before .before .before .before .before .before .before .before .before .before .before .before .pre) _ (c .before .before .before .read-codon .result) (c .excepted-of .result) (residues-are (a .letters .now) (a .c) (a .e) (c .before .before .before .before .before .before .before .before .before .before .before .before .pre))
+    (c .before .before .before .before .before .before .before .before .letter-set .result) (c .before .before .before .before .before .before .letter-set2 .result) (c .before .before .before .before .letter-set3 .result) (c .before .before .before .before .before .before .before .before .letter-set .ensures .0) (c .before .before .before .before .before .before .letter-set2 .ensures .0) (c .before .before .before .before .letter-set3 .ensures .0) (c .before .before .before .read-codon .ensures) (c .excepted-of .ensures)
 
 pub ends-in-stop-spec : {M : Type 1} → statement M
 ends-in-stop-spec =
@@ -61,7 +61,7 @@ ends-in-stop-spec =
     (λ c. search needs)
     shared-slice-read-letter-set-3
     (λ c κs. search needs)
-    plain-codon-requires
+    read-codon-requires
     (λ c. search needs)
     (λ c. search needs)
     excepted-of-requires

@@ -36,11 +36,11 @@ slice-aggregate-edit-lines-2 c =
 edit-lines-requires : tie.Need-edit-lines-requires
 edit-lines-requires c κs =
     let pre = c .before .before .before .before .before .before .before .before .before .before .before .before .before .before .before .before .before .before .before .before .before .pre in
-    let plain-sets = c .before .before .before .before .before .before .before .before .before .before .before .before .before .before .plain-sets in
+    let folded-sets = c .before .before .before .before .before .before .before .before .before .before .before .before .before .before .folded-sets in
     let residues-of = c .before .before .before .before .before .before .before .before .before .before .before .before .before .residues-of in
     let plain-code = c .before .before .before .before .before .before .before .before .before .before .before .before .plain-code in
     let complements = c .before .before .before .before .before .before .before .before .before .before .before .complements in
-    ((pre .0 .for-line, pre .1 .0), (pre .1 .1 .2, (plain-sets .ensures, (residues-of .ensures, (plain-code .ensures, (complements .ensures, search needs))))))
+    ((pre .0 .for-line, pre .1 .0), (pre .1 .1 .2, (folded-sets .ensures, (residues-of .ensures, (plain-code .ensures, (complements .ensures, search needs))))))
 
 returns : tie.Need-returns
 returns c =

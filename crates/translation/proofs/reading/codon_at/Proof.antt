@@ -12,7 +12,7 @@ residue-in-requires c κs =
     let s = c .before .before .before .before .before .before .before .args .seq .now in
     let i = c .before .before .before .before .before .before .before .args .i in
     let letters = c .before .before .before .before .before .before .before .pre .1 .1 .0 in
-    (c .before .before .before .before .before .before .before .pre .1 .0, (set-there s (i * 3) letters (omega arith) (c .before .before .before .before .plain-set .ensures), (set-there s (i * 3 + 1) letters (omega arith) (c .before .before .plain-set2 .ensures), set-there s (i * 3 + 2) letters (omega arith) (c .plain-set3 .ensures))))
+    (c .before .before .before .before .before .before .before .pre .1 .0, (set-there s (i * 3) letters (omega arith) (c .before .before .before .before .folded-set .ensures), (set-there s (i * 3 + 1) letters (omega arith) (c .before .before .folded-set2 .ensures), set-there s (i * 3 + 2) letters (omega arith) (c .folded-set3 .ensures))))
 
 returns : tie.Need-returns
 returns c =

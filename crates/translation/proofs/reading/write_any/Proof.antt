@@ -7,7 +7,7 @@ use native.Mathlib.Omega.{arith}
 use borrow.Author.Needs.{needs}
 use lib.ListN.{length, length-set}
 use Rattle.rules.specs.Bytes.{over}
-use Rattle.rules.specs.Translation.{residueCount, plainTranslated}
+use Rattle.rules.specs.Translation.{residueCount, foldedTranslated}
 use Rattle.rules.proofs.Over.{overFrom, from-start}
 use Rattle.translation.proofs.Residues.{leftFrom, left-all, codon-turn, last-turn, no-rest, with-rest}
 use Rattle.translation.proofs.reading.write_any.Statement.{statement}
@@ -18,14 +18,14 @@ Inv-loop seq table sets lut out₀ whole i₀ out i =
     (i ≤ whole)
     × (whole ≡ length seq / 3)
     × (length out ≡ length out₀)
-    × (overFrom i (leftFrom table [] seq i) out ≡ over (plainTranslated table [] seq) out₀)
+    × (overFrom i (leftFrom table [] seq i) out ≡ over (foldedTranslated table [] seq) out₀)
 
 abbrev μ-loop : tie.MeasureT-loop
 μ-loop seq table sets lut out₀ whole i₀ out i = whole - i
 
 loop-holds : tie.Need-loop-holds Inv-loop μ-loop
 loop-holds c =
-    (search needs, refl, refl, ap (λ l. overFrom 0 l (c .before .before .args .out .now)) (left-all (c .before .before .args .table) [] (c .before .before .args .seq .now)) ∙ from-start (plainTranslated (c .before .before .args .table) [] (c .before .before .args .seq .now)) (c .before .before .args .out .now))
+    (search needs, refl, refl, ap (λ l. overFrom 0 l (c .before .before .args .out .now)) (left-all (c .before .before .args .table) [] (c .before .before .args .seq .now)) ∙ from-start (foldedTranslated (c .before .before .args .table) [] (c .before .before .args .seq .now)) (c .before .before .args .out .now))
 
 loop-again : tie.Need-loop-again Inv-loop μ-loop
 unfolding residueCount

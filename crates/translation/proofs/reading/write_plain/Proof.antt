@@ -7,8 +7,8 @@ use native.Mathlib.Omega.{arith}
 use borrow.Author.Needs.{needs}
 use lib.ListN.{length, getD, set, length-set}
 use Rattle.rules.specs.Bytes.{over}
-use Rattle.rules.specs.Letters.{plainLetter}
-use Rattle.rules.specs.Translation.{residueCount, plainTranslated}
+use Rattle.rules.specs.Letters.{folded}
+use Rattle.rules.specs.Translation.{residueCount, foldedTranslated}
 use Rattle.rules.proofs.Over.{overFrom, from-start}
 use Rattle.translation.specs.Residues.{placeAt}
 use Rattle.translation.proofs.Residues.{leftFrom, left-all, codon-turn, last-turn, no-rest, with-rest}
@@ -20,7 +20,7 @@ abbrev Inv-loop : tie.InvT-loop
 Inv-loop seq table code out₀ whole i₀ out i =
     (i ≤ length seq / 3)
     × (length out ≡ length out₀)
-    × (overFrom i (leftFrom table [] seq i) out ≡ over (plainTranslated table [] seq) out₀)
+    × (overFrom i (leftFrom table [] seq i) out ≡ over (foldedTranslated table [] seq) out₀)
 
 abbrev μ-loop : tie.MeasureT-loop
 μ-loop seq table code out₀ whole i₀ out i = length seq / 3 - i
@@ -36,7 +36,7 @@ abbrev μ-loop2 : tie.MeasureT-loop2
 
 loop-holds : tie.Need-loop-holds Inv-loop μ-loop Inv-loop2 μ-loop2
 loop-holds c =
-    (search needs, refl, ap (λ l. overFrom 0 l (c .before .before .args .out .now)) (left-all (c .before .before .args .table) [] (c .before .before .args .seq .now)) ∙ from-start (plainTranslated (c .before .before .args .table) [] (c .before .before .args .seq .now)) (c .before .before .args .out .now))
+    (search needs, refl, ap (λ l. overFrom 0 l (c .before .before .args .out .now)) (left-all (c .before .before .args .table) [] (c .before .before .args .seq .now)) ∙ from-start (foldedTranslated (c .before .before .args .table) [] (c .before .before .args .seq .now)) (c .before .before .args .out .now))
 
 slice-write-out-2 : tie.Need-slice-write-out-2 Inv-loop μ-loop Inv-loop2 μ-loop2
 unfolding residueCount

@@ -6,7 +6,7 @@ use Prim.Native.Nat.{_+_, _-_, _/_, _≤_, _<_}
 use native.Mathlib.Omega.{arith}
 use borrow.Author.Needs.{needs}
 use lib.ListN.{length}
-use Rattle.rules.specs.Translation.{exceptionList, beforeStop, wholeCodons, plainTranslated}
+use Rattle.rules.specs.Translation.{exceptionList, beforeStop, wholeCodons, foldedTranslated}
 use Rattle.translation.proofs.Excepted.{Clear, next-clear}
 use Rattle.translation.proofs.Walks.{residueAt, at-exception, at-no-exception, stopsFrom, stops-all, stops-later, stops-here, stops-none}
 use Rattle.translation.proofs.stops.first_stop.Statement.{statement}
@@ -16,7 +16,7 @@ abbrev Inv-loop : tie.InvT-loop
 Inv-loop seq table sets lut e whole next₀ i₀ next i =
     (i ≤ whole)
     × Clear (exceptionList e) i next
-    × (stopsFrom table (exceptionList e) seq i ≡ beforeStop (plainTranslated table (exceptionList e) (wholeCodons seq)))
+    × (stopsFrom table (exceptionList e) seq i ≡ beforeStop (foldedTranslated table (exceptionList e) (wholeCodons seq)))
 
 abbrev μ-loop : tie.MeasureT-loop
 μ-loop seq table sets lut e whole next₀ i₀ next i = whole - i

@@ -6,14 +6,14 @@ use Prim.Native.Nat.{ℕ, _-_, _≤_}
 use native.Mathlib.Omega.{arith}
 use borrow.Author.Needs.{needs}
 use lib.ListN.{length, getD, length-set}
-use Rattle.rules.specs.Translation.{excepted, residueCount, plainTranslated, throughStop}
+use Rattle.rules.specs.Translation.{excepted, residueCount, foldedTranslated, throughStop}
 use Rattle.translation.proofs.Places.{place-small, place-residue}
 use Rattle.translation.proofs.Walks.{residueAt, Walk, walk-start, walk-more, walk-stop, walk-end}
 use Rattle.translation.proofs.stops.write_codons_to_stop.Statement.{statement}
 use Rattle.translation.proofs.stops.write_codons_to_stop.Tie as tie
 
 abbrev Inv-loop : tie.InvT-loop
-Inv-loop seq table code out₀ whole i₀ out i = (i ≤ whole) × Walk table [] seq (throughStop (plainTranslated table [] seq)) out₀ out i
+Inv-loop seq table code out₀ whole i₀ out i = (i ≤ whole) × Walk table [] seq (throughStop (foldedTranslated table [] seq)) out₀ out i
 
 abbrev μ-loop : tie.MeasureT-loop
 μ-loop seq table code out₀ whole i₀ out i = whole - i

@@ -7,7 +7,7 @@ use native.Mathlib.Omega.{arith}
 use borrow.Author.Needs.{needs}
 use borrow.Rule.Slice.PartMut.{same-len-mid}
 use lib.ListN.{length, getD, length-set}
-use Rattle.rules.specs.Translation.{excepted, residueCount, plainTranslated, throughStop}
+use Rattle.rules.specs.Translation.{excepted, residueCount, foldedTranslated, throughStop}
 use Rattle.rules.proofs.Over.{tail-is}
 use Rattle.translation.proofs.Residues.{bases-part}
 use Rattle.translation.proofs.Places.{place-residue}
@@ -16,7 +16,7 @@ use Rattle.translation.proofs.stops.write_plain_to_stop.Statement.{stat
 use Rattle.translation.proofs.stops.write_plain_to_stop.Tie as tie
 
 abbrev Inv-loop : tie.InvT-loop
-Inv-loop seq table code out₀ i₀ out i = (i ≤ length seq / 3) × Walk table [] seq (throughStop (plainTranslated table [] seq)) out₀ out i
+Inv-loop seq table code out₀ i₀ out i = (i ≤ length seq / 3) × Walk table [] seq (throughStop (foldedTranslated table [] seq)) out₀ out i
 
 abbrev μ-loop : tie.MeasureT-loop
 μ-loop seq table code out₀ i₀ out i = length seq / 3 - i

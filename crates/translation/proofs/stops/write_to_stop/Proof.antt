@@ -6,7 +6,7 @@ use Prim.Native.Nat.{_+_, _-_, _/_, _≤_, _<_}
 use native.Mathlib.Omega.{arith}
 use borrow.Author.Needs.{needs}
 use lib.ListN.{length, length-set}
-use Rattle.rules.specs.Translation.{exceptionList, residueCount, plainTranslated, throughStop}
+use Rattle.rules.specs.Translation.{exceptionList, residueCount, foldedTranslated, throughStop}
 use Rattle.translation.proofs.Excepted.{Clear, next-clear}
 use Rattle.translation.proofs.Walks.{residueAt, at-exception, at-no-exception, Walk, walk-start, walk-more, walk-stop, walk-end}
 use Rattle.translation.proofs.stops.write_to_stop.Statement.{statement}
@@ -16,7 +16,7 @@ abbrev Inv-loop : tie.InvT-loop
 Inv-loop seq table sets lut e out₀ whole next₀ i₀ out next i =
     (i ≤ whole)
     × Clear (exceptionList e) i next
-    × Walk table (exceptionList e) seq (throughStop (plainTranslated table (exceptionList e) seq)) out₀ out i
+    × Walk table (exceptionList e) seq (throughStop (foldedTranslated table (exceptionList e) seq)) out₀ out i
 
 abbrev μ-loop : tie.MeasureT-loop
 μ-loop seq table sets lut e out₀ whole next₀ i₀ out next i = whole - i

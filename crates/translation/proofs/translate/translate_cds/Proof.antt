@@ -7,11 +7,11 @@ use native.Mathlib.Omega.{arith}
 use borrow.Author.Needs.{needs}
 use lib.ListN.{length}
 use lib.Seq.{length-take-le}
-use Rattle.rules.specs.Translation.{wholeCodons, areLetters, residueCount, plainTranslated, translation}
+use Rattle.rules.specs.Translation.{wholeCodons, foldToLetters, residueCount, foldedTranslated, translation}
 use Rattle.rules.proofs.Fills.{refuses, gives}
-use Rattle.translation.specs.Residues.{areBases}
+use Rattle.translation.specs.Residues.{foldToBases}
 use Rattle.translation.proofs.Residues.{length-plain}
-use Rattle.translation.proofs.Answers.{no-table, not-full, no-room, no-letter, all-letters, bases-letters, none-taken}
+use Rattle.translation.proofs.Answers.{no-table, not-full, no-room, no-letter, all-fold-to-letters, bases-letters, none-taken}
 use Rattle.translation.proofs.translate.translate_cds.Statement.{statement}
 use Rattle.translation.proofs.translate.translate_cds.Tie as tie
 
@@ -36,17 +36,17 @@ slice-aggregate-all-bases c =
     sym (length-take-le (length (args .seq .now) - length (args .seq .now) % 3) (args .seq .now) (omega arith))
 
 write-plain-requires : tie.Need-write-plain-requires
-unfolding wholeCodons areBases residueCount
+unfolding wholeCodons foldToBases residueCount
 write-plain-requires c κs =
-    (search needs, (sym (c .before .before .before .before .all-bases .ensures) ∙ c .before .before .before .if4 .taken, search needs))
+    (search needs, (sym (c .before .before .before .before .all-fold-to-bases .ensures) ∙ c .before .before .before .if4 .taken, search needs))
 
 returns-4 : tie.Need-returns-4
-unfolding wholeCodons areBases
+unfolding wholeCodons foldToBases
 returns-4 c =
     let args = c .before .before .before .before .before .before .before .before .before .before .before .before .before .before .args in
-    let bases : areBases (args .seq .now) ≡ true = sym (c .before .before .before .before .before .before .before .all-bases .ensures) ∙ c .before .before .before .before .before .before .if4 .taken in
-    gives (translation (args .table) [] (args .full) (args .seq .now) (length (args .out .now))) (plainTranslated (args .table) [] (args .seq .now)) _ _ (args .out .now)
-    (all-letters (args .table) [] (args .full) (args .seq .now) (length (args .out .now)) (c .before .before .before .before .before .before .before .before .before .before .before .if1 .left) none-taken (c .before .before .before .before .before .before .before .before .before .before .if2 .left) (c .before .before .before .before .before .before .before .before .before .if3 .left) (bases-letters (args .seq .now) bases))
+    let bases : foldToBases (args .seq .now) ≡ true = sym (c .before .before .before .before .before .before .before .all-fold-to-bases .ensures) ∙ c .before .before .before .before .before .before .if4 .taken in
+    gives (translation (args .table) [] (args .full) (args .seq .now) (length (args .out .now))) (foldedTranslated (args .table) [] (args .seq .now)) _ _ (args .out .now)
+    (all-fold-to-letters (args .table) [] (args .full) (args .seq .now) (length (args .out .now)) (c .before .before .before .before .before .before .before .before .before .before .before .if1 .left) none-taken (c .before .before .before .before .before .before .before .before .before .before .if2 .left) (c .before .before .before .before .before .before .before .before .before .if3 .left) (bases-letters (args .seq .now) bases))
     (sym (length-plain (args .table) [] (args .seq .now)))
     (c .before .before .write-plain .ensures)
 
@@ -56,25 +56,25 @@ slice-aggregate-all-letters c =
     sym (length-take-le (length (args .seq .now) - length (args .seq .now) % 3) (args .seq .now) (omega arith))
 
 write-any-requires : tie.Need-write-any-requires
-unfolding wholeCodons areLetters residueCount
+unfolding wholeCodons foldToLetters residueCount
 write-any-requires c κs =
-    (search needs, (search needs, (sym (c .before .before .before .before .before .before .all-letters .ensures) ∙ c .before .before .before .before .before .if5 .taken, search needs)))
+    (search needs, (search needs, (sym (c .before .before .before .before .before .before .all-fold-to-letters .ensures) ∙ c .before .before .before .before .before .if5 .taken, search needs)))
 
 returns-5 : tie.Need-returns-5
-unfolding wholeCodons areLetters
+unfolding wholeCodons foldToLetters
 returns-5 c =
     let args = c .before .before .before .before .before .before .before .before .before .before .before .before .before .before .before .before .before .before .before .args in
-    let letters : areLetters (args .seq .now) ≡ true = sym (c .before .before .before .before .before .before .before .before .before .all-letters .ensures) ∙ c .before .before .before .before .before .before .before .before .if5 .taken in
-    gives (translation (args .table) [] (args .full) (args .seq .now) (length (args .out .now))) (plainTranslated (args .table) [] (args .seq .now)) _ _ (args .out .now)
-    (all-letters (args .table) [] (args .full) (args .seq .now) (length (args .out .now)) (c .before .before .before .before .before .before .before .before .before .before .before .before .before .before .before .before .if1 .left) none-taken (c .before .before .before .before .before .before .before .before .before .before .before .before .before .before .before .if2 .left) (c .before .before .before .before .before .before .before .before .before .before .before .before .before .before .if3 .left) letters)
+    let letters : foldToLetters (args .seq .now) ≡ true = sym (c .before .before .before .before .before .before .before .before .before .all-fold-to-letters .ensures) ∙ c .before .before .before .before .before .before .before .before .if5 .taken in
+    gives (translation (args .table) [] (args .full) (args .seq .now) (length (args .out .now))) (foldedTranslated (args .table) [] (args .seq .now)) _ _ (args .out .now)
+    (all-fold-to-letters (args .table) [] (args .full) (args .seq .now) (length (args .out .now)) (c .before .before .before .before .before .before .before .before .before .before .before .before .before .before .before .before .if1 .left) none-taken (c .before .before .before .before .before .before .before .before .before .before .before .before .before .before .before .if2 .left) (c .before .before .before .before .before .before .before .before .before .before .before .before .before .before .if3 .left) letters)
     (sym (length-plain (args .table) [] (args .seq .now)))
     (c .before .before .write-any .ensures)
 
 returns-6 : tie.Need-returns-6
-unfolding wholeCodons areLetters
+unfolding wholeCodons foldToLetters
 returns-6 c =
     let args = c .before .before .before .before .before .before .before .before .before .before .before .args in
-    let letters = sym (c .before .all-letters .ensures) ∙ c .if5 .left in
+    let letters = sym (c .before .all-fold-to-letters .ensures) ∙ c .if5 .left in
     refuses (translation (args .table) [] (args .full) (args .seq .now) (length (args .out .now))) 2 (args .out .now) (no-letter (args .table) [] (args .full) (args .seq .now) (length (args .out .now)) (c .before .before .before .before .before .before .before .before .if1 .left) none-taken (c .before .before .before .before .before .before .before .if2 .left) (c .before .before .before .before .before .before .if3 .left) letters)
 
 pub translate-cds-spec : {M : Type 1} → statement M

@@ -1,8 +1,8 @@
--- `codons::letters::plain_set` meets its contract: the table has the byte's set. Assumes nothing.
+-- `codons::letters::folded_set` meets its contract: the table has the byte's set. Assumes nothing.
 use native.Mathlib.Omega.{arith}
 use borrow.Author.Needs.{needs}
-use Rattle.codons.proofs.letters.plain_set.Statement.{statement}
-use Rattle.codons.proofs.letters.plain_set.Tie as tie
+use Rattle.codons.proofs.letters.folded_set.Statement.{statement}
+use Rattle.codons.proofs.letters.folded_set.Tie as tie
 
 cast-result : tie.Need-cast-result
 cast-result c =
@@ -14,5 +14,5 @@ returns c =
     let at-start = c .before in
     (at-start .pre .entry (at-start .args .b) (search needs), at-start .pre .small (at-start .args .b) (search needs))
 
-pub plain-set-spec : {M : Type 1} → statement M
-plain-set-spec = tie.close (tie.spec (λ c. search needs) cast-result returns)
+pub folded-set-spec : {M : Type 1} → statement M
+folded-set-spec = tie.close (tie.spec (λ c. search needs) cast-result returns)

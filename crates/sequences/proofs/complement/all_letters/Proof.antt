@@ -1,4 +1,4 @@
--- `sequences::complement::all_strict` meets its contract. The invariant: what is found and what is left tell of the whole.
+-- `sequences::complement::all_letters` meets its contract. The invariant: what is found and what is left tell of the whole.
 -- Assumes nothing.
 use mathlib.Core.Path.{_≡_, refl, sym, _∙_}
 use mathlib.Core.Bool.{_&&_}
@@ -8,8 +8,8 @@ use lib.ListN.{length, drop}
 use Rattle.rules.specs.Bytes.{all}
 use Rattle.rules.specs.Letters.{isLetter}
 use Rattle.rules.proofs.Lists.{all-and, all-and-end}
-use Rattle.sequences.proofs.complement.all_strict.Statement.{statement}
-use Rattle.sequences.proofs.complement.all_strict.Tie as tie
+use Rattle.sequences.proofs.complement.all_letters.Statement.{statement}
+use Rattle.sequences.proofs.complement.all_letters.Tie as tie
 
 abbrev Inv-loop : tie.InvT-loop
 Inv-loop seq good₀ i₀ good i = (i ≤ length seq) × ((good && all isLetter (drop i seq)) ≡ all isLetter seq)
@@ -18,13 +18,13 @@ abbrev μ-loop : tie.MeasureT-loop
 μ-loop seq good₀ i₀ good i = length seq - i
 
 loop-again : tie.Need-loop-again Inv-loop μ-loop
-loop-again c = (search needs, all-and isLetter (c .before .before .before .before .before .args .seq .now) _ (c .before .before .before .loop .good) _ (c .before .before .loop-test .taken) (c .is-strict .ensures) ∙ c .before .before .before .loop .inv .1)
+loop-again c = (search needs, all-and isLetter (c .before .before .before .before .before .args .seq .now) _ (c .before .before .before .loop .good) _ (c .before .before .loop-test .taken) (c .is-letter .ensures) ∙ c .before .before .before .loop .inv .1)
 
 returns : tie.Need-returns Inv-loop μ-loop
 returns c = sym (all-and-end isLetter (c .before .before .before .args .seq .now) _ (c .before .loop .good) (c .loop-test .left)) ∙ c .before .loop .inv .1
 
-pub all-strict-spec : {M : Type 1} → statement M
-all-strict-spec =
+pub all-letters-spec : {M : Type 1} → statement M
+all-letters-spec =
     tie.close
     (tie.spec
     Inv-loop
