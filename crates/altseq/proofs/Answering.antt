@@ -22,14 +22,15 @@ use Rattle.rules.proofs.Reference.{accepted, protein-read}
 use Rattle.rules.proofs.Refusal.{refused-reference, refused-edit}
 use Rattle.rules.proofs.Altered.{longestAltered, altered-length}
 use Rattle.rules.proofs.Answers.{refused-by, unknown-by, room-by, all-by}
-use Rattle.positions.specs.declared.Cds.{Cds}
-use Rattle.positions.specs.Views.{bare, Sound}
+use Rattle.rules.specs.declared.Cds.{Cds}
+use Rattle.rules.specs.Views.{bare, referenceOf, roomOf}
+use Rattle.positions.specs.Views.{Sound}
 use Rattle.edits.specs.Plans.{planOf, roomBy}
 use Rattle.edits.specs.declared.swaps.Plan.{Plan}
 use Rattle.altseq.specs.declared.reference.Known.{Known}
 use Rattle.altseq.specs.declared.decision.Decision.{Decision}
 use Rattle.altseq.specs.declared.decision.Decision.the-variants as decision
-use Rattle.altseq.specs.Known.{referenceOf, roomOf, knownOf, Knows}
+use Rattle.altseq.specs.Known.{knownOf, Knows}
 use Rattle.altseq.specs.Decisions.{decisionOf, Clear}
 use Rattle.edits.proofs.Plans.{bare-plan}
 use Rattle.altseq.proofs.Deciding.{decided-refusal, decided-unknown, decided-plan}

@@ -25,9 +25,8 @@ use Rattle.rules.specs.Answer.{Outcome, writesNothing, unknownReport, fullRepor
 use Rattle.rules.proofs.Over.{read-back}
 use Rattle.rules.proofs.Demand.{Tells, Least, demand}
 use Rattle.rules.proofs.Answers.{Alike, single}
-use Rattle.positions.specs.declared.Cds.{Cds}
-use Rattle.positions.specs.Views.{asked}
-use Rattle.altseq.specs.Known.{referenceOf, roomOf}
+use Rattle.rules.specs.declared.Cds.{Cds}
+use Rattle.rules.specs.Views.{asked, referenceOf, roomOf}
 
 -- R and A stand at the start of their buffers, as long as reported. The change tells of these bytes what demand 3 says: where its deleted part
 -- gives way to its inserted part, R becomes A, and by the swap A becomes R; without the flag no other parts do it with fewer residues.

@@ -25,8 +25,9 @@ use Rattle.rules.proofs.Translation.{length-exceptions, first-exceptions}
 use Rattle.rules.proofs.Reference.{Bounds, bounds-of, length-cds, length-protein, protein-read}
 use Rattle.rules.proofs.Altered.{longestAltered}
 use Rattle.codons.specs.Tables.{foldsToBase}
-use Rattle.positions.specs.declared.Cds.{Cds}
-use Rattle.positions.specs.Views.{bare, Sound}
+use Rattle.rules.specs.declared.Cds.{Cds}
+use Rattle.rules.specs.Views.{bare, referenceOf}
+use Rattle.positions.specs.Views.{Sound}
 use Rattle.altseq.specs.declared.reference.Known.{Known}
 use Rattle.altseq.specs.declared.reference.Early.{Early}
 use Rattle.altseq.specs.declared.reference.Early.the-variants as early
@@ -34,7 +35,7 @@ use Rattle.altseq.specs.declared.reference.Checked.{Checked}
 use Rattle.altseq.specs.declared.reference.Checked.the-variants as checked
 use Rattle.translation.specs.Residues.{foldToBases}
 use Rattle.translation.proofs.Strict.{strict-letters, strict-translated, whole-bases}
-use Rattle.altseq.specs.Known.{referenceOf, isException, earlyRefusal, earlyBy, earlyOf, proteinUnless, knownOf, checkedBy, readOf, checkedOf, Readable, Knows}
+use Rattle.altseq.specs.Known.{isException, earlyRefusal, earlyBy, earlyOf, proteinUnless, knownOf, checkedBy, readOf, checkedOf, Readable, Knows}
 
 -- one test by the other
 above-is : (a b : ℕ) → leb a b ≡ not (ltb b a)

@@ -1,35 +1,26 @@
--- The code's parameters as the definitions' reference and room, and what the check of a reference answers and leaves.
+-- What the check of a reference answers and leaves.
 use Prim.Native.Nat.{ℕ, zero, suc, _+_, _<_, max}
 use mathlib.Core.Path.{_≡_}
 use mathlib.Core.List.{List, []}
 use mathlib.Core.Bool.{Bool, true, _&&_}
 use lib.Dec.{leb, ltb}
-use lib.ListN.{length, take}
+use lib.ListN.{take}
 use Rattle.rules.specs.declared.Exception.{Exception}
 use Rattle.rules.specs.declared.Exceptions.{Exceptions}
 use Rattle.rules.specs.declared.Limits.{Limits}
 use Rattle.rules.specs.Bytes.{byte, if_then_else_, all, count, firstOf}
-use Rattle.rules.specs.Translation.{exceptionList, isResidue}
+use Rattle.rules.specs.Translation.{isResidue}
 use Rattle.rules.specs.Reference.{Reference, codons, fitExceptions, referenceProtein, endsInStop, referenceTests}
-use Rattle.rules.specs.Refusal.{referenceRefusal, Room}
+use Rattle.rules.specs.Refusal.{referenceRefusal}
+use Rattle.rules.specs.Views.{referenceOf}
 use Rattle.codons.specs.Tables.{foldsToBase}
-use Rattle.positions.specs.declared.Cds.{Cds}
+use Rattle.rules.specs.declared.Cds.{Cds}
 use Rattle.positions.specs.Views.{Sound}
 use Rattle.altseq.specs.declared.reference.Known.{Known}
 use Rattle.altseq.specs.declared.reference.Early.{Early}
 use Rattle.altseq.specs.declared.reference.Early.the-variants as early
 use Rattle.altseq.specs.declared.reference.Checked.{Checked}
 use Rattle.altseq.specs.declared.reference.Checked.the-variants as checked
-
-abbrev pub cdsOf : ℕ → ℕ → ℕ → Cds
-cdsOf cs ce table = record { cs = cs; ce = ce; table = table }
-
-abbrev pub referenceOf : List ℕ → Cds → Exceptions → Reference
-referenceOf s c e = record { letters = s; cs = c .cs; ce = c .ce; table = c .table; exceptions = exceptionList e }
-
--- the three buffers lent
-abbrev pub roomOf : List ℕ → List ℕ → List ℕ → Room
-roomOf t p a = record { transcript = length t; reference = length p; altered = length a }
 
 -- an exception in its order: a codon number above `last` and at most `most`, and a residue A to Z or `*`
 abbrev pub isException : ℕ → ℕ → Exception → Bool

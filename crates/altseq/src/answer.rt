@@ -15,9 +15,9 @@ use edits::swaps::Plan;
 use edits::swaps::room_refusal;
 use edits::swaps::silent_number;
 use exceptions::alt_translation_exceptions;
-use positions::Cds;
 use record::record_from;
 use rules::Answer;
+use rules::Cds;
 use rules::Edit;
 use rules::Exceptions;
 use rules::Limits;
@@ -30,9 +30,9 @@ ghost use Rattle.rules.specs.Reference.{referenceProtein};
 ghost use Rattle.rules.specs.Refusal.{limits};
 ghost use Rattle.rules.specs.Answer.{unknownReport, writesAll, outcome, Answers};
 ghost use Rattle.codons.specs.Tables.{foldedSet, HoldsSets, HoldsCode, HoldsPlain, HoldsComplements};
-ghost use Rattle.positions.specs.Views.{asked};
+ghost use Rattle.rules.specs.Views.{asked, cdsOf, referenceOf, roomOf};
 ghost use Rattle.edits.specs.Plans.{planOf};
-ghost use Rattle.altseq.specs.Known.{cdsOf, referenceOf, roomOf, knownOf, Knows};
+ghost use Rattle.altseq.specs.Known.{knownOf, Knows};
 ghost use Rattle.altseq.specs.Decisions.{Clear};
 
 // Zero lengths and no flag.

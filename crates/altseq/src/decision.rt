@@ -1,14 +1,15 @@
 // What is decided of an edit of a checked reference: 7 to 10, Unknown, or what the edit does. Nothing is written here.
 use edits::swaps::Plan;
 use edits::swaps::plan_of;
-use positions::Cds;
 use positions::refusals::edit_refusal;
 use positions::refusals::ends_after_transcript;
+use rules::Cds;
 use rules::Edit;
 ghost use mathlib.Core.Path.{_≡_};
 ghost use Prim.Native.Nat.{_<_};
 ghost use Rattle.codons.specs.Tables.{foldedSet, HoldsSets, HoldsCode};
-ghost use Rattle.positions.specs.Views.{bare, asked, Sound};
+ghost use Rattle.rules.specs.Views.{bare, asked};
+ghost use Rattle.positions.specs.Views.{Sound};
 ghost use Rattle.altseq.specs.Decisions.{decisionOf};
 
 pub enum Decision {

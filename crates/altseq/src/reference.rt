@@ -2,8 +2,8 @@
 use codons::letters::folded_sets;
 use codons::tables::plain_code;
 use codons::tables::residues_of;
-use positions::Cds;
 use positions::places::least;
+use rules::Cds;
 use rules::Exception;
 use rules::Exceptions;
 use sequences::all_letters;
@@ -20,8 +20,8 @@ ghost use Rattle.rules.specs.Letters.{isLetter};
 ghost use Rattle.rules.specs.Translation.{exceptionList, residueCount};
 ghost use Rattle.rules.specs.Reference.{areBounds, codons, areRising, referenceProtein};
 ghost use Rattle.codons.specs.Tables.{foldedSet, foldsToBase, isBase, HoldsSets, HoldsCode, HoldsPlain};
-ghost use Rattle.positions.specs.Views.{bare};
-ghost use Rattle.altseq.specs.Known.{cdsOf, referenceOf, isException, earlyRefusal, earlyOf, proteinUnless, readOf, checkedOf, Readable};
+ghost use Rattle.rules.specs.Views.{bare, cdsOf, referenceOf};
+ghost use Rattle.altseq.specs.Known.{isException, earlyRefusal, earlyOf, proteinUnless, readOf, checkedOf, Readable};
 
 // What is known of a reference that isn't refused; its letters, its exceptions and R are lent beside it. `residues` is R's length. The letters
 // are plain if each is one base. `several` is whether R has more than one stop.

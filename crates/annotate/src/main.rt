@@ -3,9 +3,9 @@
 // account of document 01 in another language (tests/account).
 use libc::STDIN_FILENO;
 use libc::STDOUT_FILENO;
+use rules::Written;
 use text_lines::Phase;
 use text_lines::State;
-use rules::Written;
 ghost use mathlib.Core.Path.{_≡_};
 ghost use lib.ListN.{length};
 ghost use Rattle.text_lines.specs.Memory.{Holds};

@@ -1,7 +1,7 @@
 // The two readings of letters: plain translation takes either case, and U as T; transcripts and edits take the fifteen upper-case letters alone.
 ghost use mathlib.Core.Path.{_≡_};
 ghost use Prim.Native.Nat.{_<_};
-ghost use Rattle.rules.specs.Letters.{letterSet, isLetter, upper, folded};
+ghost use Rattle.rules.specs.Letters.{letterSet, isLetter, folded};
 ghost use Rattle.codons.specs.Tables.{HoldsSets, foldedSet, foldsToBase, isBase};
 
 // The set of an upper-case letter, and 0 of any other byte.
@@ -27,34 +27,6 @@ pub fn letter_set(b: u8) -> usize
         b'N' => 15,
         _ => 0,
     }
-}
-
-// A byte a to z in upper case, and any other byte itself.
-pub fn upper(b: u8) -> u8
-    ensures { λ r. ⌜ r ≡ upper b ⌝ }
-{
-    match b {
-        b'a'..=b'z' => b - 32,
-        _ => b,
-    }
-}
-
-// The letter that plain translation takes a byte for.
-pub fn plain_letter(b: u8) -> u8
-    ensures { λ r. ⌜ r ≡ folded b ⌝ }
-{
-    match upper(b) {
-        b'U' => b'T',
-        u => u,
-    }
-}
-
-// The set of a byte in plain translation, and 0 of a byte that it refuses.
-pub fn plain_set_of(b: u8) -> usize
-    ensures { λ r. ⌜ r ≡ foldedSet b ⌝ }
-    ensures small { λ r. ⌜ r < 16 ⌝ }
-{
-    letter_set(plain_letter(b))
 }
 
 // The tests below have no table and no branch, so that a loop of one goes many bytes at a time.
@@ -96,14 +68,7 @@ pub fn is_base(b: u8) -> bool
 pub fn folded_sets() -> [u8; 256]
     ensures { λ r. ⌜ HoldsSets foldedSet r ⌝ }
 {
-    PLAIN
-}
-
-// The sets of all bytes in transcripts and edits.
-pub fn strict_sets() -> [u8; 256]
-    ensures { λ r. ⌜ HoldsSets letterSet r ⌝ }
-{
-    STRICT
+    FOLDED
 }
 
 // The set of a byte in plain translation, from the sets of all.
@@ -117,19 +82,8 @@ pub fn folded_set(sets: &[u8; 256], b: u8) -> usize
     x as usize
 }
 
-// The set of a byte in transcripts and edits, from the sets of all.
-pub fn strict_set(sets: &[u8; 256], b: u8) -> usize
-    requires { ⌜ HoldsSets letterSet (now sets) ⌝ }
-    ensures { λ r. ⌜ r ≡ letterSet b ⌝ }
-    ensures small { λ r. ⌜ r < 16 ⌝ }
-{
-    let i = b as usize;
-    let x = sets[i];
-    x as usize
-}
-
-// The set of each byte, sixteen bytes a line: in plain translation, then in transcripts and edits.
-const PLAIN: [u8; 256] = *b"\
+// The set of each byte in plain translation, sixteen bytes a line.
+const FOLDED: [u8; 256] = *b"\
     \x00\x00\x00\x00\x00\x00\x00\x00\x00\x00\x00\x00\x00\x00\x00\x00\
     \x00\x00\x00\x00\x00\x00\x00\x00\x00\x00\x00\x00\x00\x00\x00\x00\
     \x00\x00\x00\x00\x00\x00\x00\x00\x00\x00\x00\x00\x00\x00\x00\x00\
@@ -138,24 +92,6 @@ const PLAIN: [u8; 256] = *b"\
     \x00\x00\x05\x06\x08\x08\x07\x09\x00\x0a\x00\x00\x00\x00\x00\x00\
     \x00\x01\x0e\x02\x0d\x00\x00\x04\x0b\x00\x00\x0c\x00\x03\x0f\x00\
     \x00\x00\x05\x06\x08\x08\x07\x09\x00\x0a\x00\x00\x00\x00\x00\x00\
-    \x00\x00\x00\x00\x00\x00\x00\x00\x00\x00\x00\x00\x00\x00\x00\x00\
-    \x00\x00\x00\x00\x00\x00\x00\x00\x00\x00\x00\x00\x00\x00\x00\x00\
-    \x00\x00\x00\x00\x00\x00\x00\x00\x00\x00\x00\x00\x00\x00\x00\x00\
-    \x00\x00\x00\x00\x00\x00\x00\x00\x00\x00\x00\x00\x00\x00\x00\x00\
-    \x00\x00\x00\x00\x00\x00\x00\x00\x00\x00\x00\x00\x00\x00\x00\x00\
-    \x00\x00\x00\x00\x00\x00\x00\x00\x00\x00\x00\x00\x00\x00\x00\x00\
-    \x00\x00\x00\x00\x00\x00\x00\x00\x00\x00\x00\x00\x00\x00\x00\x00\
-    \x00\x00\x00\x00\x00\x00\x00\x00\x00\x00\x00\x00\x00\x00\x00\x00";
-
-const STRICT: [u8; 256] = *b"\
-    \x00\x00\x00\x00\x00\x00\x00\x00\x00\x00\x00\x00\x00\x00\x00\x00\
-    \x00\x00\x00\x00\x00\x00\x00\x00\x00\x00\x00\x00\x00\x00\x00\x00\
-    \x00\x00\x00\x00\x00\x00\x00\x00\x00\x00\x00\x00\x00\x00\x00\x00\
-    \x00\x00\x00\x00\x00\x00\x00\x00\x00\x00\x00\x00\x00\x00\x00\x00\
-    \x00\x01\x0e\x02\x0d\x00\x00\x04\x0b\x00\x00\x0c\x00\x03\x0f\x00\
-    \x00\x00\x05\x06\x08\x00\x07\x09\x00\x0a\x00\x00\x00\x00\x00\x00\
-    \x00\x00\x00\x00\x00\x00\x00\x00\x00\x00\x00\x00\x00\x00\x00\x00\
-    \x00\x00\x00\x00\x00\x00\x00\x00\x00\x00\x00\x00\x00\x00\x00\x00\
     \x00\x00\x00\x00\x00\x00\x00\x00\x00\x00\x00\x00\x00\x00\x00\x00\
     \x00\x00\x00\x00\x00\x00\x00\x00\x00\x00\x00\x00\x00\x00\x00\x00\
     \x00\x00\x00\x00\x00\x00\x00\x00\x00\x00\x00\x00\x00\x00\x00\x00\

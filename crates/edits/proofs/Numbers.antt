@@ -17,8 +17,8 @@ use Rattle.rules.specs.Edit.{Asked, is}
 use Rattle.rules.specs.Altered.{alteredLength}
 use Rattle.rules.specs.Record.{within, silentNumber}
 use Rattle.rules.specs.Refusal.{Room, roomTests, roomRefusal}
-use Rattle.positions.specs.declared.Cds.{Cds}
-use Rattle.positions.specs.Views.{bare}
+use Rattle.rules.specs.declared.Cds.{Cds}
+use Rattle.rules.specs.Views.{bare}
 use Rattle.edits.specs.Plans.{silentWithin, roomBy}
 
 -- the definitions' silent number, of R's residues

@@ -29,8 +29,9 @@ use Rattle.edits.specs.declared.swaps.Range.{Range}
 use Rattle.edits.specs.declared.swaps.Source.{Source}
 use Rattle.edits.specs.declared.swaps.Source.the-variants.{New, Copy, Turned}
 use Rattle.edits.specs.declared.swaps.Plan.{Plan}
-use Rattle.positions.specs.declared.Cds.{Cds}
-use Rattle.positions.specs.Views.{bare, asked, Sound}
+use Rattle.rules.specs.declared.Cds.{Cds}
+use Rattle.rules.specs.Views.{bare, asked}
+use Rattle.positions.specs.Views.{Sound}
 use Rattle.edits.specs.Cuts.{framedBy, cutOf}
 use Rattle.edits.specs.Plans.{sourceOf, planOf, sourceBytes, goesIn, Planned, isReplacing, isInserting, Ranges, Replaces, Inserts, Keeps, shiftBy}
 use Rattle.edits.proofs.Cuts.{cut-le}

@@ -18,7 +18,7 @@ use Rattle.rules.specs.Edit.{Asked, is, kindOf, startIndex, endIndex}
 use Rattle.rules.specs.Altered.{part, Swap, swap, kept, alteredLength, frameshift}
 use Rattle.rules.specs.Record.{within}
 use Rattle.rules.specs.Refusal.{Room}
-use Rattle.positions.specs.declared.Cds.{Cds}
+use Rattle.rules.specs.declared.Cds.{Cds}
 use Rattle.edits.specs.declared.swaps.Range.{Range}
 use Rattle.edits.specs.declared.swaps.Source.{Source}
 use Rattle.edits.specs.declared.swaps.Source.the-variants.{New, Copy, Turned}

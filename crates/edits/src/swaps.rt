@@ -1,10 +1,10 @@
 // "Positions and edits": what an accepted edit does, in numbers; the number of a silent record, and refusals 11 and 12.
 use crate::stops::insert_stop_seq_end;
-use positions::Cds;
 use positions::places::counted_of;
 use positions::places::index_of;
 use positions::places::least;
 use positions::refusals::is_duplication;
+use rules::Cds;
 use rules::Edit;
 use rules::Kind;
 use sequences::equals;
@@ -18,8 +18,9 @@ ghost use Rattle.rules.specs.Position.{isOutside, index};
 ghost use Rattle.rules.specs.Edit.{Asked};
 ghost use Rattle.rules.specs.Record.{within};
 ghost use Rattle.codons.specs.Tables.{foldedSet, HoldsSets, HoldsCode};
-ghost use Rattle.positions.specs.declared.Cds.{Cds};
-ghost use Rattle.positions.specs.Views.{bare, asked, Bounded, Sound};
+ghost use Rattle.rules.specs.declared.Cds.{Cds};
+ghost use Rattle.rules.specs.Views.{bare, asked};
+ghost use Rattle.positions.specs.Views.{Bounded, Sound};
 ghost use Rattle.edits.specs.Plans.{planOf, Planned, Replaces, Inserts, Keeps, shiftBy, silentWithin, roomBy};
 
 // Where what goes in comes from: the new bases, a copy of start..end, or its reverse complement.

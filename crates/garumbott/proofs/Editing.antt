@@ -18,14 +18,15 @@ use Rattle.rules.specs.Record.{isUnknown}
 use Rattle.rules.specs.Refusal.{limits, referenceRefusal, refusal}
 use Rattle.rules.proofs.Refusal.{refused-reference}
 use Rattle.codons.specs.Tables.{HoldsCode}
-use Rattle.positions.specs.declared.Cds.{Cds}
+use Rattle.rules.specs.declared.Cds.{Cds}
 use Rattle.edits.specs.declared.swaps.Plan.{Plan}
-use Rattle.positions.specs.Views.{bare, Sound}
+use Rattle.rules.specs.Views.{bare, referenceOf}
+use Rattle.positions.specs.Views.{Sound}
 use Rattle.edits.specs.Plans.{planOf}
 use Rattle.altseq.specs.declared.reference.Known.{Known}
 use Rattle.altseq.specs.declared.decision.Decision.{Decision}
 use Rattle.altseq.specs.declared.decision.Decision.the-variants as decision
-use Rattle.altseq.specs.Known.{referenceOf, knownOf, Knows}
+use Rattle.altseq.specs.Known.{knownOf, Knows}
 use Rattle.altseq.specs.Decisions.{decisionOf}
 use Rattle.altseq.specs.Transcript.{carriedBy, Fits}
 use Rattle.altseq.proofs.References.{cds-known}

@@ -24,7 +24,7 @@ use Rattle.rules.specs.Stored.{exceptionsIn}
 use Rattle.rules.proofs.Answers.{refused-by}
 use Rattle.fields.specs.Held.{exceptionsOf}
 use Rattle.fields.proofs.Held.{list-few, list-length, list-uneven}
-use Rattle.positions.specs.declared.Cds.{Cds}
+use Rattle.rules.specs.declared.Cds.{Cds}
 use Rattle.garumbott.specs.Host.{exceptionsAt}
 use Rattle.garumbott.specs.Edited.{edited}
 use Rattle.garumbott.proofs.Editing.{edited-refused}

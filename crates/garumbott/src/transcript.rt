@@ -18,8 +18,7 @@ ghost use mathlib.Core.Path.{_≡_};
 ghost use lib.ListN.{length};
 ghost use Rattle.rules.specs.Bytes.{over};
 ghost use Rattle.rules.specs.Refusal.{limits};
-ghost use Rattle.positions.specs.Views.{asked};
-ghost use Rattle.altseq.specs.Known.{cdsOf, referenceOf};
+ghost use Rattle.rules.specs.Views.{asked, cdsOf, referenceOf};
 ghost use Rattle.altseq.specs.Transcript.{Fits};
 ghost use Rattle.garumbott.specs.Edited.{edited, madeBy};
 

@@ -10,7 +10,7 @@ ghost use lib.ListN.{length};
 ghost use Rattle.rules.specs.Bytes.{over};
 ghost use Rattle.rules.specs.Refusal.{limits};
 ghost use Rattle.rules.specs.Answer.{outcome};
-ghost use Rattle.altseq.specs.Known.{roomOf};
+ghost use Rattle.rules.specs.Views.{roomOf};
 ghost use Rattle.garumbott.specs.Host.{referenceAt, askedAt, Tells};
 ghost use Rattle.garumbott.specs.Edited.{edited};
 

@@ -24,8 +24,9 @@ use Rattle.rules.proofs.Tests.{and-left, and-right, or-left, or-right}
 use Rattle.rules.proofs.Reference.{Bounds}
 use Rattle.rules.proofs.Refusal.{Allowed, allowed}
 use Rattle.rules.proofs.Span.{within, Indexes, indexes-of}
-use Rattle.positions.specs.declared.Cds.{Cds}
-use Rattle.positions.specs.Views.{bare, asked, Bounded, Sound}
+use Rattle.rules.specs.declared.Cds.{Cds}
+use Rattle.rules.specs.Views.{bare, asked}
+use Rattle.positions.specs.Views.{Bounded, Sound}
 
 -- the number of a position that isn't outside
 module _ (cs ce : ℕ) (p : Position) (n : ℕ) where

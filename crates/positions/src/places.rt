@@ -1,5 +1,5 @@
 // "Positions and edits": a position's place, and its index in editing.
-use crate::Cds;
+use rules::Cds;
 use rules::Position;
 ghost use mathlib.Core.Path.{_≡_};
 ghost use mathlib.Core.Bool.{false};

@@ -1,9 +1,9 @@
 // "Refusal numbers": 7 to 10, over both positions.
-use crate::Cds;
 use crate::places::is_before;
 use crate::places::is_behind;
 use crate::places::is_outside;
 use crate::places::place_of;
+use rules::Cds;
 use rules::Edit;
 use rules::Kind;
 use sequences::all_letters;
@@ -15,7 +15,8 @@ ghost use Rattle.rules.specs.Bytes.{firstOf};
 ghost use Rattle.rules.specs.Position.{isOutside};
 ghost use Rattle.rules.specs.Edit.{kindNumber, is, endsPast, isMisplaced, isDisordered, isOutOfCds, areNewBases, fitBases, editTests};
 ghost use Rattle.rules.specs.declared.Kind.the-variants.{Substitution, Insertion, Duplication};
-ghost use Rattle.positions.specs.Views.{bare, asked, Bounded, Sound};
+ghost use Rattle.rules.specs.Views.{bare, asked};
+ghost use Rattle.positions.specs.Views.{Bounded, Sound};
 
 // The number that a host gives a kind.
 fn kind_number(kind: Kind) -> usize

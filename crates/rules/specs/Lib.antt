@@ -1,5 +1,5 @@
 -- The definitions of document 01, a file for each of its parts and in its order, each over those above it. Bytes has the words that all
--- share, Values the numbers that a host reads, Opened what a worked example computes with.
+-- share, Views the plain types as the sections' own, Values the numbers that a host reads, Opened what a worked example computes with.
 pub mod Bytes
 pub mod Letters
 pub mod Codons
@@ -15,6 +15,7 @@ pub mod Exceptions
 pub mod Protein
 pub mod Record
 pub mod Refusal
+pub mod Views
 pub mod Answer
 pub mod Values
 pub mod Stored

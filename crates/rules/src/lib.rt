@@ -38,6 +38,13 @@ pub struct Exceptions {
     pub count: usize,
 }
 
+// The bounds and the table of a reference; its letters and its exceptions are lent beside them.
+pub struct Cds {
+    pub cs: usize,
+    pub ce: usize,
+    pub table: usize,
+}
+
 // The longest transcript, and the most new bases.
 pub struct Limits {
     pub longest: usize,

@@ -22,7 +22,7 @@ use Rattle.fields.specs.declared.reference.Stored.the-variants.{At}
 use Rattle.fields.specs.Places.{bytesAt}
 use Rattle.fields.specs.Held.{exceptionsOf}
 use Rattle.fields.specs.Reading.{referenceAt, Reads, assembledIn}
-use Rattle.altseq.specs.Known.{cdsOf, referenceOf}
+use Rattle.rules.specs.Views.{cdsOf, referenceOf}
 use Rattle.altseq.proofs.Answering.{writes-nothing}
 use Rattle.stored.specs.Outcomes.{outcomeOf}
 use Rattle.stored.proofs.Judged.{takenAt, taken-refusal, taken-same, refused-at, given-at}

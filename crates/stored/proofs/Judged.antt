@@ -25,8 +25,9 @@ use Rattle.fields.specs.Reading.{referenceAt, referenceIn, Placed, Reads, assem
 use Rattle.fields.proofs.Contents.{length-bytes}
 use Rattle.fields.proofs.Held.{list-few, list-length}
 use Rattle.fields.proofs.Reading.{stored-is}
-use Rattle.positions.specs.declared.Cds.{Cds}
-use Rattle.altseq.specs.Known.{cdsOf, referenceOf, earlyRefusal, knownOf, readOf}
+use Rattle.rules.specs.declared.Cds.{Cds}
+use Rattle.rules.specs.Views.{cdsOf, referenceOf}
+use Rattle.altseq.specs.Known.{earlyRefusal, knownOf, readOf}
 use Rattle.altseq.proofs.References.{read-refused, read-accepted}
 
 -- 6, where none of 1 to 5 applies

@@ -20,8 +20,9 @@ use Rattle.rules.proofs.Translation.{length-translated}
 use Rattle.rules.proofs.Reading.{residues-more, translated-append}
 use Rattle.rules.proofs.Reference.{Bounds, length-cds}
 use Rattle.codons.proofs.Sets.{letter-some}
-use Rattle.positions.specs.declared.Cds.{Cds}
-use Rattle.altseq.specs.Known.{referenceOf, Readable}
+use Rattle.rules.specs.declared.Cds.{Cds}
+use Rattle.rules.specs.Views.{referenceOf}
+use Rattle.altseq.specs.Known.{Readable}
 
 -- exceptions one at a time: those behind the first i are still to be applied
 module _ (n count : ℕ) (all : List Exception) (i found : ℕ) where

@@ -9,8 +9,7 @@ use rules::Edit;
 ghost use Rattle.rules.specs.Refusal.{limits};
 ghost use Rattle.rules.specs.Stored.{storedReference};
 ghost use Rattle.rules.specs.Answer.{Answers};
-ghost use Rattle.positions.specs.Views.{asked};
-ghost use Rattle.altseq.specs.Known.{roomOf};
+ghost use Rattle.rules.specs.Views.{asked, roomOf};
 ghost use Rattle.stored.specs.Outcomes.{outcomeOf};
 
 // The answer to an edit of the reference that the bytes store: its refusal, 20 to 23 and then 1 to 6, else as `build_altseq` answers, which

@@ -7,14 +7,14 @@ use fields::StoredAt;
 use fields::bytes_at;
 use fields::exceptions_in;
 use fields::find_stored;
-use positions::Cds;
+use rules::Cds;
 use rules::Exceptions;
 ghost use mathlib.Core.Path.{_≡_};
 ghost use Prim.Native.Nat.{_<_};
 ghost use Rattle.rules.specs.Refusal.{referenceRefusal};
 ghost use Rattle.rules.specs.Stored.{storedReference};
 ghost use Rattle.fields.specs.Reading.{referenceAt, Placed, Reads};
-ghost use Rattle.altseq.specs.Known.{referenceOf};
+ghost use Rattle.rules.specs.Views.{referenceOf};
 
 // The lowest of 1 to 6 that applies, or 0.
 fn reference_refusal(letters: &[u8], c: Cds, e: Exceptions, longest: usize) -> usize

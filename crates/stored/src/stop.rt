@@ -1,7 +1,7 @@
 // Refusal 6, by the last CDS codon alone: the reference protein isn't read.
 use codons::letters::letter_set;
 use codons::reader::read_codon;
-use positions::Cds;
+use rules::Cds;
 use rules::Exception;
 use rules::Exceptions;
 ghost use mathlib.Core.Path.{_≡_};
@@ -10,7 +10,8 @@ ghost use lib.Dec.{eqb};
 ghost use Rattle.rules.specs.Bytes.{if_then_else_};
 ghost use Rattle.rules.specs.Translation.{exceptionList, excepted};
 ghost use Rattle.rules.specs.Reference.{endsInStop};
-ghost use Rattle.altseq.specs.Known.{referenceOf, Readable};
+ghost use Rattle.rules.specs.Views.{referenceOf};
+ghost use Rattle.altseq.specs.Known.{Readable};
 
 // The residue of codon n: an exception's, if it is for that codon.
 fn excepted_by(x: Exception, n: usize, residue: u8) -> u8

@@ -27,9 +27,9 @@ use Rattle.rules.proofs.Over.{fits-over, read-back}
 use Rattle.rules.proofs.Records.{record-unknown}
 use Rattle.rules.proofs.Reference.{accepted, protein-read}
 use Rattle.rules.proofs.Answers.{refused-by, unknown-by, all-by, enough}
-use Rattle.positions.specs.Views.{bare, asked}
+use Rattle.rules.specs.Views.{bare, asked, referenceOf, roomOf}
 use Rattle.altseq.specs.declared.reference.Known.{Known}
-use Rattle.altseq.specs.Known.{referenceOf, roomOf, Knows}
+use Rattle.altseq.specs.Known.{Knows}
 use Rattle.text_forms.specs.declared.line.EditLine.{EditLine}
 use Rattle.text_forms.specs.declared.line.EditLine.the-variants as edit-line
 use Rattle.text_forms.specs.Views.{askedIn}

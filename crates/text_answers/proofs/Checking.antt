@@ -16,12 +16,12 @@ use Rattle.rules.specs.Line.{referenceLine, fitsLine}
 use Rattle.rules.specs.Run.{refusedLine, answersFrom, answersOf, lineFeed, unlines}
 use Rattle.rules.proofs.Over.{copied, fits-over, read-back}
 use Rattle.rules.proofs.Reference.{accepted as passed}
-use Rattle.positions.specs.declared.Cds.{Cds}
-use Rattle.positions.specs.Views.{bare}
+use Rattle.rules.specs.declared.Cds.{Cds}
+use Rattle.rules.specs.Views.{bare, cdsOf, referenceOf}
 use Rattle.altseq.specs.declared.reference.Known.{Known}
 use Rattle.altseq.specs.declared.reference.Checked.{Checked}
 use Rattle.altseq.specs.declared.reference.Checked.the-variants as checked
-use Rattle.altseq.specs.Known.{cdsOf, referenceOf, earlyRefusal, proteinUnless, checkedOf, knownOf, Knows}
+use Rattle.altseq.specs.Known.{earlyRefusal, proteinUnless, checkedOf, knownOf, Knows}
 use Rattle.altseq.proofs.References.{checked-refused, checked-accepted, protein-held, cds-known, residues-within, knows}
 use Rattle.text_forms.specs.declared.line.ReferenceLine.{ReferenceLine}
 use Rattle.text_forms.specs.declared.line.ReferenceLine.the-variants as reference-line

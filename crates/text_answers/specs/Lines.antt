@@ -9,7 +9,7 @@ use Rattle.rules.specs.Translation.{noException}
 use Rattle.rules.specs.Reference.{Reference}
 use Rattle.rules.specs.Refusal.{limits, referenceRefusal}
 use Rattle.rules.specs.Run.{answersOf, lineFeed, unlines}
-use Rattle.positions.specs.Views.{bare}
+use Rattle.rules.specs.Views.{bare}
 use Rattle.altseq.specs.Known.{Knows}
 use Rattle.text_answers.specs.declared.Follows.{Follows}
 use Rattle.text_answers.specs.declared.Follows.the-variants.{Edits, Nothing}

@@ -12,7 +12,7 @@ use Rattle.bytes.specs.Bytes.{slice, indexOf}
 use Rattle.rules.specs.Reference.{Reference}
 use Rattle.rules.specs.Line.{referenceLine, fitsLine}
 use Rattle.rules.specs.Run.{answers, lineFeed}
-use Rattle.positions.specs.Views.{bare}
+use Rattle.rules.specs.Views.{bare}
 use Rattle.text_answers.specs.declared.Follows.{Follows}
 use Rattle.text_answers.specs.declared.Follows.the-variants.{Edits, Nothing}
 use Rattle.text_answers.specs.Lines.{accepted, keptIn, Opens}

@@ -21,7 +21,7 @@ use Rattle.rules.proofs.Reference.{accepted, protein-read}
 use Rattle.rules.proofs.Refusal.{reference-accepted}
 use Rattle.rules.proofs.Altered.{altered-fits}
 use Rattle.rules.proofs.Protein.{altered-room}
-use Rattle.positions.specs.Views.{bare}
+use Rattle.rules.specs.Views.{bare}
 use Rattle.text_answers.specs.declared.Follows.the-variants.{Edits, Nothing}
 use Rattle.text_lines.specs.declared.Phase.{Phase}
 use Rattle.text_lines.specs.declared.Phase.the-variants.{Opening, Behind}

@@ -5,7 +5,7 @@ use mathlib.Core.List.{List}
 use Prim.Native.Nat.{ℕ}
 use native.Mathlib.Omega.{arith}
 use lib.ListN.{length, take}
-use Rattle.positions.specs.Views.{bare}
+use Rattle.rules.specs.Views.{bare}
 use Rattle.altseq.specs.declared.reference.Known.{Known}
 use Rattle.text_answers.specs.declared.Follows.{Follows}
 use Rattle.text_answers.specs.declared.Follows.the-variants.{Edits, Nothing}

@@ -4,7 +4,7 @@ use mathlib.Core.Path.{_≡_}
 use mathlib.Core.Bool.{Bool, true, false}
 use mathlib.Core.List.{List}
 use lib.ListN.{length, take}
-use Rattle.positions.specs.Views.{bare}
+use Rattle.rules.specs.Views.{bare}
 use Rattle.text_answers.specs.declared.Follows.{Follows}
 use Rattle.text_answers.specs.declared.Follows.the-variants.{Edits, Nothing}
 use Rattle.text_answers.specs.Lines.{KnownIn}

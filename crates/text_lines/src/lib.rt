@@ -4,10 +4,10 @@ mod edit;
 mod gather;
 mod open;
 
-use text_answers::Follows;
 use edit::edit_some;
 use open::open_some;
 use rules::Written;
+use text_answers::Follows;
 ghost use mathlib.Core.Path.{_≡_};
 ghost use Prim.Native.Nat.{_≤_};
 ghost use lib.ListN.{length, take};

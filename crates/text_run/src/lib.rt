@@ -1,9 +1,9 @@
 // The text program over memory.
+use rules::Written;
 use text_lines::Phase;
 use text_lines::State;
 use text_lines::finish;
 use text_lines::step;
-use rules::Written;
 ghost use mathlib.Core.Path.{_≡_};
 ghost use Prim.Native.Nat.{_≤_};
 ghost use lib.ListN.{length};

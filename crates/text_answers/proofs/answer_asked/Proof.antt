@@ -4,7 +4,7 @@ use native.Mathlib.Omega.{arith}
 use lib.ListN.{take}
 use lib.Seq.{length-take-le}
 use Rattle.rules.specs.Run.{refusedLine, recordLine}
-use Rattle.positions.specs.Views.{asked}
+use Rattle.rules.specs.Views.{asked}
 use Rattle.text_prints.proofs.Sizes.{refused-size}
 use Rattle.text_answers.proofs.Asking.{line-of, knows-none, asked-refused, asked-reported, altered-held, record-room}
 use borrow.Author.Needs.{needs}

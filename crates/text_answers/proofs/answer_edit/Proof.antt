@@ -8,7 +8,7 @@ use borrow.Author.Tests.{not-true, not-false}
 use lib.ListN.{length, take, drop}
 use Rattle.rules.specs.Run.{refusedLine, editAnswer}
 use Rattle.rules.proofs.Over.{tail-is}
-use Rattle.positions.specs.Views.{bare, asked}
+use Rattle.rules.specs.Views.{bare, asked}
 use Rattle.text_forms.specs.Views.{askedAt}
 use Rattle.text_prints.proofs.Sizes.{refused-size}
 use Rattle.text_answers.proofs.Asking.{line-of, line-as, edit-long, edit-formless, edit-asked}

@@ -7,8 +7,7 @@ use native.Mathlib.Omega.{arith}
 use borrow.Author.Tests.{not-true, not-false}
 use lib.ListN.{length, take, drop}
 use Rattle.rules.proofs.Over.{tail-is}
-use Rattle.positions.specs.Views.{bare}
-use Rattle.altseq.specs.Known.{cdsOf}
+use Rattle.rules.specs.Views.{bare, cdsOf}
 use Rattle.text_forms.specs.Views.{referenceAt}
 use Rattle.text_prints.proofs.Sizes.{refused-size}
 use Rattle.text_answers.proofs.Checking.{opens-none, opens-as, first-long, first-formless, first-given}

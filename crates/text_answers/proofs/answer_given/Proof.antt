@@ -4,7 +4,7 @@ use native.Mathlib.Omega.{arith}
 use lib.ListN.{length}
 use lib.Seq.{length-take-le}
 use Rattle.rules.specs.Translation.{residueCount}
-use Rattle.altseq.specs.Known.{cdsOf}
+use Rattle.rules.specs.Views.{cdsOf}
 use Rattle.text_prints.proofs.Sizes.{refused-size}
 use Rattle.text_answers.proofs.Checking.{opens-refused, letters-fit, protein-fits, reference-room, opens-known}
 use borrow.Author.Needs.{needs}

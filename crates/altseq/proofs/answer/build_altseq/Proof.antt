@@ -8,9 +8,8 @@ use lib.Seq.{length-take-le}
 use Rattle.rules.specs.Refusal.{limits}
 use Rattle.rules.specs.Translation.{residueCount}
 use Rattle.codons.specs.Tables.{HoldsCode, HoldsPlain}
-use Rattle.positions.specs.declared.Cds.{Cds}
-use Rattle.positions.specs.Views.{asked}
-use Rattle.altseq.specs.Known.{cdsOf, referenceOf, roomOf}
+use Rattle.rules.specs.declared.Cds.{Cds}
+use Rattle.rules.specs.Views.{asked, cdsOf, referenceOf, roomOf}
 use Rattle.altseq.proofs.References.{readable, protein-room, was-refused, was-clear, refused-early, read-refused, read-accepted, cds-known, residues-within, knows}
 use Rattle.altseq.proofs.Answering.{reference-refused, answers-cds}
 use Rattle.altseq.proofs.answer.build_altseq.Statement.{statement}

@@ -1,7 +1,7 @@
 -- `altseq::answer::build_altseq_in` meets its contract. Assumes nothing.
 use mathlib.Core.Path.{_≡_, sym, _∙_}
 use borrow.Author.Needs.{needs}
-use Rattle.positions.specs.Views.{asked}
+use Rattle.rules.specs.Views.{asked}
 use Rattle.positions.proofs.Tests.{bounded}
 use Rattle.altseq.proofs.Answering.{sound, few-bases, refused-answer, unknown-answer, plan-is, plan-front, room-answer, clear, whole-answer}
 use Rattle.altseq.proofs.answer.build_altseq_in.Statement.{statement}

@@ -6,10 +6,10 @@ use borrow.Author.Needs.{needs}
 use lib.ListN.{length}
 use lib.Seq.{length-take-le}
 use Rattle.rules.specs.Translation.{exceptionList}
-use Rattle.positions.specs.Views.{asked}
+use Rattle.rules.specs.Views.{asked, referenceOf, roomOf}
 use Rattle.exceptions.proofs.Moving.{given-of}
 use Rattle.altseq.specs.declared.reference.Known.{Known}
-use Rattle.altseq.specs.Known.{referenceOf, roomOf, knownOf}
+use Rattle.altseq.specs.Known.{knownOf}
 use Rattle.altseq.proofs.Writing.{first-base, all-fit, plan-fits, transcript-front, transcript-fits, exceptions-move, coding-readable, coding-bases, coding-room, altered-fits, reports}
 use Rattle.altseq.proofs.answer.write.Statement.{statement}
 use Rattle.altseq.proofs.answer.write.Tie as tie

@@ -2,7 +2,7 @@
 use mathlib.Core.Path.{_≡_, sym, _∙_}
 use borrow.Author.Needs.{needs}
 use lib.ListN.{length}
-use Rattle.positions.specs.Views.{bare, asked}
+use Rattle.rules.specs.Views.{bare, asked}
 use Rattle.positions.proofs.Tests.{bounded, edit-allowed}
 use Rattle.edits.proofs.Plans.{planned}
 use Rattle.altseq.proofs.Deciding.{decides-refusal, decides-unknown, decides-plan}

@@ -3,7 +3,7 @@ use mathlib.Core.Path.{_≡_, _∙_}
 use native.Mathlib.Omega.{arith}
 use borrow.Author.Needs.{needs}
 use lib.ListN.{length}
-use Rattle.altseq.specs.Known.{cdsOf}
+use Rattle.rules.specs.Views.{cdsOf}
 use Rattle.altseq.proofs.References.{readable, protein-room, was-refused, was-clear, checked-early, nothing-read, checked-read, all-read}
 use Rattle.altseq.proofs.reference.check_reference.Statement.{statement}
 use Rattle.altseq.proofs.reference.check_reference.Tie as tie

@@ -7,8 +7,8 @@ use borrow.Author.Needs.{needs}
 use borrow.Author.Tests.{not-false, lt-ltb, le-ltb}
 use Rattle.rules.specs.Reference.{fitExceptions}
 use Rattle.rules.proofs.Reference.{bounds-of}
-use Rattle.positions.specs.Views.{bare}
-use Rattle.altseq.specs.Known.{referenceOf, earlyBy, earlyOf}
+use Rattle.rules.specs.Views.{bare, referenceOf}
+use Rattle.altseq.specs.Known.{earlyBy, earlyOf}
 use Rattle.altseq.proofs.Plain.{plain-bases}
 use Rattle.altseq.proofs.References.{early-by, fits-are}
 use Rattle.altseq.proofs.reference.early_refusal.Statement.{statement}

@@ -5,7 +5,7 @@ use mathlib.Core.Path.{ap}
 use Prim.Native.Nat.{_-_, _%_}
 use native.Mathlib.Omega.{arith}
 use Rattle.rules.specs.Reference.{size}
-use Rattle.positions.specs.Views.{bare}
+use Rattle.rules.specs.Views.{bare}
 use Rattle.edits.specs.declared.stops.Cut.{Cut}
 use Rattle.edits.proofs.Cuts.{cut-le}
 use Rattle.edits.proofs.Plans.{inserts-plan}

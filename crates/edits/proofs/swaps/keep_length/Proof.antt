@@ -2,7 +2,7 @@
 -- Assumes nothing.
 use borrow.Author.Needs.{needs}
 use Rattle.rules.specs.Reference.{size}
-use Rattle.positions.specs.Views.{bare}
+use Rattle.rules.specs.Views.{bare}
 use Rattle.edits.proofs.Plans.{keeps-plan}
 use Rattle.edits.proofs.swaps.keep_length.Statement.{statement}
 use Rattle.edits.proofs.swaps.keep_length.Tie as tie

@@ -6,7 +6,7 @@ use native.Mathlib.Omega.{arith}
 use borrow.Author.Needs.{needs}
 use lib.ListN.{length-take, drop}
 use Rattle.rules.specs.Reference.{size}
-use Rattle.positions.specs.Views.{bare, asked}
+use Rattle.rules.specs.Views.{bare, asked}
 use Rattle.edits.proofs.Plans.{Within, ranged, insertion-swap, duplication-swap, letters-copied}
 use Rattle.edits.proofs.swaps.plan_of.Statement.{statement}
 use Rattle.edits.proofs.swaps.plan_of.Tie as tie

@@ -3,7 +3,7 @@
 use borrow.Author.Needs.{needs}
 use mathlib.Core.Path.{refl}
 use Rattle.rules.specs.Reference.{size}
-use Rattle.positions.specs.Views.{bare}
+use Rattle.rules.specs.Views.{bare}
 use Rattle.edits.proofs.Plans.{replaces-plan}
 use Rattle.edits.proofs.swaps.replace.Statement.{statement}
 use Rattle.edits.proofs.swaps.replace.Tie as tie

@@ -4,8 +4,7 @@ use lib.ListN.{length}
 use native.Mathlib.Omega.{arith}
 use Rattle.rules.specs.Translation.{residueCount}
 use Rattle.rules.specs.Refusal.{limits}
-use Rattle.positions.specs.Views.{asked}
-use Rattle.altseq.specs.Known.{cdsOf, referenceOf}
+use Rattle.rules.specs.Views.{asked, cdsOf, referenceOf}
 use Rattle.altseq.proofs.References.{checked-refused, checked-accepted}
 use Rattle.garumbott.proofs.Editing.{meets-none, reference-refused, is-sound, table-is, code-held, decided-refused, decided-open, decided-goes, decided-fits}
 use Rattle.garumbott.proofs.transcript.build_transcript.Statement.{statement}

@@ -2,7 +2,7 @@
 use borrow.Author.Needs.{needs}
 use lib.ListN.{length}
 use Rattle.rules.specs.Refusal.{limits}
-use Rattle.altseq.specs.Known.{cdsOf}
+use Rattle.rules.specs.Views.{cdsOf}
 use Rattle.garumbott.specs.Host.{askedAt}
 use Rattle.garumbott.proofs.Excepted.{edited-given}
 use Rattle.garumbott.proofs.Given.{given-edit}

@@ -2,7 +2,7 @@
 use borrow.Author.Needs.{needs}
 use mathlib.Core.Path.{ap, _∙_}
 use Rattle.rules.specs.Refusal.{limits}
-use Rattle.altseq.specs.Known.{cdsOf, roomOf}
+use Rattle.rules.specs.Views.{cdsOf, roomOf}
 use Rattle.garumbott.specs.Host.{askedAt, answerOf}
 use Rattle.garumbott.proofs.Excepted.{outcome-given}
 use Rattle.garumbott.proofs.Given.{given-edit}

@@ -3,7 +3,7 @@ use mathlib.Core.Path.{sym, _∙_}
 use borrow.Author.Needs.{needs}
 use Rattle.rules.specs.Bytes.{firstOf}
 use Rattle.rules.specs.Edit.{editTests}
-use Rattle.positions.specs.Views.{bare, asked}
+use Rattle.rules.specs.Views.{bare, asked}
 use Rattle.positions.proofs.Tests.{both-inside}
 use Rattle.positions.proofs.refusals.edit_refusal.Statement.{statement}
 use Rattle.positions.proofs.refusals.edit_refusal.Tie as tie

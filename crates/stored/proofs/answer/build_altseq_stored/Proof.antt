@@ -3,8 +3,7 @@ use mathlib.Core.Path.{ap, _∙_}
 use borrow.Author.Needs.{needs}
 use Rattle.rules.specs.Refusal.{limits}
 use Rattle.fields.specs.Held.{exceptionsOf}
-use Rattle.positions.specs.Views.{asked}
-use Rattle.altseq.specs.Known.{roomOf}
+use Rattle.rules.specs.Views.{asked, roomOf}
 use Rattle.stored.proofs.Judged.{unfound}
 use Rattle.stored.proofs.Answered.{refuses, answers}
 use Rattle.stored.proofs.answer.build_altseq_stored.Statement.{statement}

@@ -4,7 +4,7 @@ use Prim.Native.Nat.{_-_}
 use native.Mathlib.Omega.{arith}
 use lib.ListN.{length, take}
 use lib.Seq.{length-take-le}
-use Rattle.positions.specs.Views.{bare}
+use Rattle.rules.specs.Views.{bare}
 use Rattle.text_lines.specs.Stages.{editing}
 use Rattle.text_lines.proofs.Editing.{Going, ample-kept, going, done, passes, held-few, all-taken, full, answer-fits, used-fits, turn}
 use borrow.Author.Needs.{needs}

@@ -30,8 +30,8 @@ returns-3 c =
     let args = c .before .before .before .before .before .args in
     refuses (translation (args .table) [] (args .full) (args .seq .now) (length (args .out .now))) 15 (args .out .now) (no-room (args .table) [] (args .full) (args .seq .now) (length (args .out .now)) (c .before .before .if1 .left) none-taken (c .before .if2 .left) (c .if3 .taken))
 
-slice-aggregate-all-bases : tie.Need-slice-aggregate-all-bases
-slice-aggregate-all-bases c =
+slice-aggregate-all-fold-to-bases : tie.Need-slice-aggregate-all-fold-to-bases
+slice-aggregate-all-fold-to-bases c =
     let args = c .before .before .before .before .before .before .args in
     sym (length-take-le (length (args .seq .now) - length (args .seq .now) % 3) (args .seq .now) (omega arith))
 
@@ -50,8 +50,8 @@ returns-4 c =
     (sym (length-plain (args .table) [] (args .seq .now)))
     (c .before .before .write-plain .ensures)
 
-slice-aggregate-all-letters : tie.Need-slice-aggregate-all-letters
-slice-aggregate-all-letters c =
+slice-aggregate-all-fold-to-letters : tie.Need-slice-aggregate-all-fold-to-letters
+slice-aggregate-all-fold-to-letters c =
     let args = c .before .before .before .before .before .before .before .before .before .args in
     sym (length-take-le (length (args .seq .now) - length (args .seq .now) % 3) (args .seq .now) (omega arith))
 
@@ -86,13 +86,13 @@ translate-cds-spec =
     (λ c. search needs)
     returns-3
     (λ c. search needs)
-    slice-aggregate-all-bases
+    slice-aggregate-all-fold-to-bases
     (λ c κs. search needs)
     (λ c κs. search needs)
     write-plain-requires
     (λ c. search needs)
     returns-4
-    slice-aggregate-all-letters
+    slice-aggregate-all-fold-to-letters
     (λ c κs. search needs)
     (λ c κs. search needs)
     (λ c κs. search needs)
