@@ -22,7 +22,7 @@ use Rattle.rules.specs.Record.{isUnknown, recordOf}
 use Rattle.rules.specs.Refusal.{limits, refusal, roomRefusal, recordUnless}
 use Rattle.rules.specs.Answer.{Outcome, writesNothing, unknownReport, fullReport, writesAll, outcome, Answers}
 use Rattle.rules.specs.Line.{editLine, fitsLine}
-use Rattle.rules.specs.Run.{refusedLine, recordLine, answerLine, editAnswer, editLineAnswer, lineFeed}
+use Rattle.rules.specs.Run.{refusedLine, recordLine, answerLine, editAnswer, editLineAnswer, lineFeed, unlines}
 use Rattle.rules.proofs.Over.{fits-over, read-back}
 use Rattle.rules.proofs.Records.{record-unknown}
 use Rattle.rules.proofs.Reference.{accepted, protein-read}
@@ -30,23 +30,34 @@ use Rattle.rules.proofs.Answers.{refused-by, unknown-by, all-by, enough}
 use Rattle.rules.specs.Views.{bare, asked, referenceOf, roomOf}
 use Rattle.altseq.specs.declared.reference.Known.{Known}
 use Rattle.altseq.specs.Known.{Knows}
+use Rattle.altseq.proofs.Answering.{sound}
 use Rattle.text_forms.specs.declared.line.EditLine.{EditLine}
 use Rattle.text_forms.specs.declared.line.EditLine.the-variants as edit-line
-use Rattle.text_forms.specs.Views.{askedIn}
+use Rattle.text_forms.specs.Views.{editLineIn}
 use Rattle.text_prints.proofs.Sizes.{record-size}
-use Rattle.text_answers.specs.Lines.{noExceptions, Ample, Line}
+use Rattle.text_answers.specs.Rooms.{alteredRoom, Ample}
+use Rattle.text_answers.specs.Lines.{noExceptions, Line}
+
+-- a line with its end
+pub one-line : (l k : List ℕ) → l ≡ k → unlines (l ∷ []) ≡ k ++ (lineFeed ∷ [])
+unfolding unlines
+one-line l k is = rw is
 
 -- a line that is written over a buffer
-pub line-of : (l k text old : List ℕ) (n : ℕ) → l ≡ k → n ≡ length (k ++ (lineFeed ∷ [])) → text ≡ over (k ++ (lineFeed ∷ [])) old → Line n text l
+pub line-of : (l k text old : List ℕ) (n : ℕ) → l ≡ k → n ≡ length (k ++ (lineFeed ∷ [])) → text ≡ over (k ++ (lineFeed ∷ [])) old → Line n text (unlines (l ∷ []))
 line-of l k text old n is e q =
     record {
       fits = fits-over (k ++ (lineFeed ∷ [])) old text n e q;
-      holds = rw is (read-back (k ++ (lineFeed ∷ [])) old text n e q);
+      holds = rw (one-line l k is) (read-back (k ++ (lineFeed ∷ [])) old text n e q);
     }
 
 -- a line, known as another
-pub line-as : (n : ℕ) (text l k : List ℕ) → l ≡ k → Line n text k → Line n text l
+pub line-as : (n : ℕ) (text l k : List ℕ) → l ≡ k → Line n text (unlines (k ∷ [])) → Line n text (unlines (l ∷ []))
 line-as n text l k is h = rw is h
+
+-- one of the three tables
+pub table-small : (s : List ℕ) (k : Known) (protein : List ℕ) → Knows limits s k noExceptions protein → k .cds .table < 3
+table-small s k protein known = sound limits s k noExceptions protein known .table
 
 -- R of a checked reference is short
 pub protein-short : (s : List ℕ) (k : Known) (protein : List ℕ) → Knows limits s k noExceptions protein → length protein ≤ 5461
@@ -57,10 +68,10 @@ protein-short s k protein known =
     omega (arith, ap length (known .read), r .whole, a .fits, a .bounds .first, a .bounds .inside)
 
 -- the program's buffers hold the longest answers, so 11 and 12 never occur
-pub roomy : (r : Reference) (e : Asked) (t p q : List ℕ) → Ample t p q → refusal limits r e ≡ 0 → roomRefusal r e (roomOf t p q) ≡ 0
+pub roomy : (r : Reference) (e : Asked) (t p q : List ℕ) → Ample t q × (length p ≡ alteredRoom) → refusal limits r e ≡ 0 → roomRefusal r e (roomOf t p q) ≡ 0
 unfolding residueCount
 roomy r e t p q ample z =
-    enough limits r e (roomOf t p q) z (omega (arith, ample .for-transcript)) (omega (arith, ample .for-reference)) (omega (arith, ample .for-altered))
+    enough limits r e (roomOf t p q) z (omega (arith, ample .0 .for-transcript)) (omega (arith, ample .1)) (omega (arith, ample .0 .for-altered))
 
 -- an edit of a reference, answered with room enough: which answer it is, and what is printed for it
 module _ (r : Reference) (e : Asked) (t p q t′ p′ q′ : List ℕ) (x : Answer) (h : Answers (outcome limits r e (roomOf t p q)) x t t′ p p′ q q′)
@@ -114,7 +125,7 @@ module _ (x₀ : Exceptions) (are : x₀ ≡ noExceptions) (s : List ℕ) (k : K
   pub knows-none : Knows limits s k x₀ protein
   knows-none = rw are known
 
-  module _ (e : Asked) (t p q t′ p′ q′ : List ℕ) (ample : Ample t p q) (x : Answer) (h : Answers (outcome limits (referenceOf s (k .cds) x₀) e (roomOf t p q)) x t t′ p p′ q q′) where
+  module _ (e : Asked) (t p q t′ p′ q′ : List ℕ) (ample : Ample t q × (length p ≡ alteredRoom)) (x : Answer) (h : Answers (outcome limits (referenceOf s (k .cds) x₀) e (roomOf t p q)) x t t′ p p′ q q′) where
     said : Answers (outcome limits (referenceOf s (k .cds) noExceptions) e (roomOf t p q)) x t t′ p p′ q q′
     said = subst (λ (x₀ : Exceptions). Answers (outcome limits (referenceOf s (k .cds) x₀) e (roomOf t p q)) x t t′ p p′ q q′) are h
 
@@ -136,7 +147,7 @@ module _ (x₀ : Exceptions) (are : x₀ ≡ noExceptions) (s : List ℕ) (k : K
       -- the line has room where the transcript had
       pub record-room : (n : ℕ) → length q′ ≡ length q → n ≡ length t → length (recordLine (u .found) protein (take (u .altered) q′)) < n
       record-room n same is =
-          omega (arith, record-size (u .found) protein (take (u .altered) q′), protein-short s k protein known, length-take-le (u .altered) q′ (reported .0), reported .0, ample .for-altered, ample .for-transcript)
+          omega (arith, record-size (u .found) protein (take (u .altered) q′), protein-short s k protein known, length-take-le (u .altered) q′ (reported .0), reported .0, ample .0 .for-altered, ample .0 .for-transcript)
 
 -- the forms of an edit line
 module _ (r : Reference) (line : List ℕ) where
@@ -144,7 +155,7 @@ module _ (r : Reference) (line : List ℕ) where
   unfolding editLineAnswer editAnswer
   edit-long h = rw h
 
-  module _ (h : fitsLine line ≡ true) (x : EditLine) (is : askedIn line x ≡ editLine line) where
+  module _ (h : fitsLine line ≡ true) (x : EditLine) (is : editLineIn line x ≡ editLine line) where
     pub edit-formless : x ≡ edit-line.Not → editLineAnswer r line ≡ refusedLine 30
     unfolding editLineAnswer editAnswer
     edit-formless q = rw (h, ← is, q)

@@ -18,7 +18,10 @@ pub enum VerbAt {
 fn is_capital(b: u8) -> bool
     ensures { λ r. ⌜ r ≡ isCapital b ⌝ }
 {
-    (b'A' <= b) & (b <= b'Z')
+    match b {
+        b'A'..=b'Z' => true,
+        _ => false,
+    }
 }
 
 fn all_capitals(s: &[u8]) -> bool

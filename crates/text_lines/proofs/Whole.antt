@@ -12,8 +12,8 @@ use Rattle.rules.specs.Reference.{Reference, referenceProtein}
 use Rattle.rules.specs.Refusal.{limits, referenceRefusal}
 use Rattle.rules.specs.Line.{referenceLine, fitsLine}
 use Rattle.rules.specs.Run.{refusedLine, editLineAnswer, answersFrom, answersOf, answers, lineFeed, linesFrom, lines, unlines, run}
-use Rattle.text_answers.specs.Lines.{acceptedBy, accepted}
-use Rattle.text_lines.specs.Stages.{Stage, opening, editing, ended, start, kept, longer, behindFirst, nextLine, answered, after, printed, printedLast}
+use Rattle.text_answers.specs.Stage.{Stage, opening, editing, ended, start, acceptedBy, accepted, behindFirst, nextLine, answered}
+use Rattle.text_lines.specs.Steps.{kept, longer, after, printed, printedLast}
 use Rattle.text_lines.proofs.Kept.{kept-front, kept-fits, kept-unfit}
 use Rattle.text_lines.proofs.Pieces.{after-append, printed-append, after-ended, printed-ended}
 

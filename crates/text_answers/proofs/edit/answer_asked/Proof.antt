@@ -1,4 +1,4 @@
--- `text_answers::answer_asked` meets its contract. Assumes nothing.
+-- `text_answers::edit::answer_asked` meets its contract. Assumes nothing.
 use mathlib.Core.Path.{sym, ap}
 use native.Mathlib.Omega.{arith}
 use lib.ListN.{take}
@@ -8,8 +8,8 @@ use Rattle.rules.specs.Views.{asked}
 use Rattle.text_prints.proofs.Sizes.{refused-size}
 use Rattle.text_answers.proofs.Asking.{line-of, knows-none, asked-refused, asked-reported, altered-held, record-room}
 use borrow.Author.Needs.{needs}
-use Rattle.text_answers.proofs.answer_asked.Statement.{statement}
-use Rattle.text_answers.proofs.answer_asked.Tie as tie
+use Rattle.text_answers.proofs.edit.answer_asked.Statement.{statement}
+use Rattle.text_answers.proofs.edit.answer_asked.Tie as tie
 
 build-altseq-in-requires : tie.Need-build-altseq-in-requires
 build-altseq-in-requires c κs =
@@ -23,7 +23,7 @@ print-refused-requires c κs =
     let pre = c .before .before .before .before .before .before .before .before .before .before .before .before .before .before .before .before .before .before .before .before .before .pre in
     let build-altseq-in = c .before .before .before .before .before .before .before .before .before .before .build-altseq-in in
     let n = c .before .before .n in
-    omega (arith, refused-size (n .given .0 .0), pre .1 .1 .1 .1 .1 .for-transcript, build-altseq-in .kept)
+    omega (arith, refused-size (n .given .0 .0), pre .1 .1 .1 .1 .1 .0 .for-transcript, build-altseq-in .kept)
 
 slice-reshare-prefix-print-record : tie.Need-slice-reshare-prefix-print-record
 slice-reshare-prefix-print-record c =
@@ -32,7 +32,7 @@ slice-reshare-prefix-print-record c =
     let no-exceptions = c .before .before .before .before .before .before .before .before .before .before .before .before .before .no-exceptions in
     let build-altseq-in = c .before .before .before .before .before .before .before .before .before .build-altseq-in in
     let report = c .before .report in
-    altered-held (no-exceptions .result) (no-exceptions .ensures) (args .letters .now) (args .known) (args .protein .now) (pre .0) (asked (args .edit) (args .new .now)) (args .tx .now) (args .rp .now) (args .ap .now) _ _ _ (pre .1 .1 .1 .1 .1) (build-altseq-in .result) (build-altseq-in .ensures) (report .given .0 .0) (report .given .1)
+    altered-held (no-exceptions .result) (no-exceptions .ensures) (args .letters .now) (args .known) (args .protein .now) (pre .0) (asked (args .edit) (args .new .now)) (args .transcript .now) (args .reference .now) (args .altered .now) _ _ _ (pre .1 .1 .1 .1 .1) (build-altseq-in .result) (build-altseq-in .ensures) (report .given .0 .0) (report .given .1)
 
 slice-aggregate-print-record : tie.Need-slice-aggregate-print-record
 slice-aggregate-print-record c =
@@ -41,7 +41,7 @@ slice-aggregate-print-record c =
     let no-exceptions = c .before .before .before .before .before .before .before .before .before .before .before .before .before .before .no-exceptions in
     let build-altseq-in = c .before .before .before .before .before .before .before .before .before .before .build-altseq-in in
     let report = c .before .before .report in
-    sym (length-take-le (report .given .0 .0 .altered) _ (altered-held (no-exceptions .result) (no-exceptions .ensures) (args .letters .now) (args .known) (args .protein .now) (pre .0) (asked (args .edit) (args .new .now)) (args .tx .now) (args .rp .now) (args .ap .now) _ _ _ (pre .1 .1 .1 .1 .1) (build-altseq-in .result) (build-altseq-in .ensures) (report .given .0 .0) (report .given .1)))
+    sym (length-take-le (report .given .0 .0 .altered) _ (altered-held (no-exceptions .result) (no-exceptions .ensures) (args .letters .now) (args .known) (args .protein .now) (pre .0) (asked (args .edit) (args .new .now)) (args .transcript .now) (args .reference .now) (args .altered .now) _ _ _ (pre .1 .1 .1 .1 .1) (build-altseq-in .result) (build-altseq-in .ensures) (report .given .0 .0) (report .given .1)))
 
 print-record-requires : tie.Need-print-record-requires
 print-record-requires c κs =
@@ -50,7 +50,7 @@ print-record-requires c κs =
     let no-exceptions = c .before .before .before .before .before .before .before .before .before .before .before .before .before .before .before .no-exceptions in
     let build-altseq-in = c .before .before .before .before .before .before .before .before .before .before .before .build-altseq-in in
     let report = c .before .before .before .report in
-    record-room (no-exceptions .result) (no-exceptions .ensures) (args .letters .now) (args .known) (args .protein .now) (pre .0) (asked (args .edit) (args .new .now)) (args .tx .now) (args .rp .now) (args .ap .now) _ _ _ (pre .1 .1 .1 .1 .1) (build-altseq-in .result) (build-altseq-in .ensures) (report .given .0 .0) (report .given .1) _ (build-altseq-in .kept .1 .1 .1 .1 .1 .1 .1 .1 .1 .1 .1 .1 .1 .0) (build-altseq-in .kept .1 .1 .1 .1 .1 .1 .1 .1 .1 .1 .1 .0)
+    record-room (no-exceptions .result) (no-exceptions .ensures) (args .letters .now) (args .known) (args .protein .now) (pre .0) (asked (args .edit) (args .new .now)) (args .transcript .now) (args .reference .now) (args .altered .now) _ _ _ (pre .1 .1 .1 .1 .1) (build-altseq-in .result) (build-altseq-in .ensures) (report .given .0 .0) (report .given .1) _ (build-altseq-in .kept .1 .1 .1 .1 .1 .1 .1 .1 .1 .1 .1 .1 .1 .0) (build-altseq-in .kept .1 .1 .1 .1 .1 .1 .1 .1 .1 .1 .1 .0)
 
 returns : tie.Need-returns
 returns c =
@@ -60,7 +60,7 @@ returns c =
     let build-altseq-in = c .before .before .before .before .before .before .before .before .before .before .before .before .before .build-altseq-in in
     let n = c .before .before .before .before .before .n in
     let print-refused = c .before .before .print-refused in
-    line-of _ (refusedLine (n .given .0 .0)) _ (build-altseq-in .last .1 .1 .1 .1 .1 .1 .1 .1 .1 .1 .1 .0) (print-refused .result) (asked-refused (no-exceptions .result) (no-exceptions .ensures) (args .letters .now) (args .known) (args .protein .now) (pre .0) (asked (args .edit) (args .new .now)) (args .tx .now) (args .rp .now) (args .ap .now) _ _ _ (pre .1 .1 .1 .1 .1) (build-altseq-in .result) (build-altseq-in .ensures) (n .given .0 .0) (n .given .1)) (print-refused .ensures .0) (print-refused .ensures .1)
+    line-of _ (refusedLine (n .given .0 .0)) _ (build-altseq-in .last .1 .1 .1 .1 .1 .1 .1 .1 .1 .1 .1 .0) (print-refused .result) (asked-refused (no-exceptions .result) (no-exceptions .ensures) (args .letters .now) (args .known) (args .protein .now) (pre .0) (asked (args .edit) (args .new .now)) (args .transcript .now) (args .reference .now) (args .altered .now) _ _ _ (pre .1 .1 .1 .1 .1) (build-altseq-in .result) (build-altseq-in .ensures) (n .given .0 .0) (n .given .1)) (print-refused .ensures .0) (print-refused .ensures .1)
 
 returns-2 : tie.Need-returns-2
 returns-2 c =
@@ -70,7 +70,7 @@ returns-2 c =
     let build-altseq-in = c .before .before .before .before .before .before .before .before .before .before .before .before .before .before .build-altseq-in in
     let report = c .before .before .before .before .before .before .report in
     let print-record = c .before .before .print-record in
-    line-of _ (recordLine (report .given .0 .0 .found) (args .protein .now) (take (report .given .0 .0 .altered) (build-altseq-in .last .1 .1 .1 .1 .1 .1 .1 .1 .1 .1 .1 .1 .1 .0))) _ (build-altseq-in .last .1 .1 .1 .1 .1 .1 .1 .1 .1 .1 .1 .0) (print-record .result) (asked-reported (no-exceptions .result) (no-exceptions .ensures) (args .letters .now) (args .known) (args .protein .now) (pre .0) (asked (args .edit) (args .new .now)) (args .tx .now) (args .rp .now) (args .ap .now) _ _ _ (pre .1 .1 .1 .1 .1) (build-altseq-in .result) (build-altseq-in .ensures) (report .given .0 .0) (report .given .1)) (print-record .ensures .0) (print-record .ensures .1)
+    line-of _ (recordLine (report .given .0 .0 .found) (args .protein .now) (take (report .given .0 .0 .altered) (build-altseq-in .last .1 .1 .1 .1 .1 .1 .1 .1 .1 .1 .1 .1 .1 .0))) _ (build-altseq-in .last .1 .1 .1 .1 .1 .1 .1 .1 .1 .1 .1 .0) (print-record .result) (asked-reported (no-exceptions .result) (no-exceptions .ensures) (args .letters .now) (args .known) (args .protein .now) (pre .0) (asked (args .edit) (args .new .now)) (args .transcript .now) (args .reference .now) (args .altered .now) _ _ _ (pre .1 .1 .1 .1 .1) (build-altseq-in .result) (build-altseq-in .ensures) (report .given .0 .0) (report .given .1)) (print-record .ensures .0) (print-record .ensures .1)
 
 pub answer-asked-spec : {M : Type 1} → statement M
 answer-asked-spec =
