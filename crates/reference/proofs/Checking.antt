@@ -127,6 +127,10 @@ module _ (m : Limits) (s : List ℕ) (k : Known) (e : Exceptions) (protein : Lis
         plain = ap (λ (k : Known). k .plain) (known .is);
       }
 
+  pub residues-is : k .residues ≡ length (referenceProtein (referenceOf s (k .cds) e))
+  unfolding knownOf
+  residues-is = ap (λ (k : Known). k .residues) (known .is) ∙ sym (protein-read (m .longest) (referenceOf s (k .cds) e) (known .accepted) .whole)
+
 pub bounded : (s : List ℕ) (c : Cds) → Sound (bare s c) → Bounded c
 unfolding size
 bounded s c x =

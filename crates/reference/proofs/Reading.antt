@@ -20,7 +20,7 @@ use Rattle.rules.proofs.Over.{length-over, read-back}
 use Rattle.rules.proofs.Translation.{length-exceptions}
 use Rattle.rules.proofs.Reference.{length-cds, length-protein}
 use Rattle.codons.specs.Tables.{isBase}
-use Rattle.translation.specs.Residues.{foldToBases}
+use Rattle.translation.specs.Residues.{foldToBases, Walks}
 use Rattle.translation.proofs.Strict.{strict-letters, strict-translated, whole-bases}
 use Rattle.reference.specs.declared.Known.{Known}
 use Rattle.reference.specs.Known.{knownOf, Readable}
@@ -54,19 +54,28 @@ module _ (s : List ℕ) (c : Cds) (e : Exceptions) (x : Readable s c e) where
   part-letters : all isLetter (take (c .ce - (c .cs - 1)) (drop (c .cs - 1) s)) ≡ true
   part-letters = all-take isLetter (c .ce - (c .cs - 1)) (drop (c .cs - 1) s) (all-drop isLetter (c .cs - 1) s (x .sound .letters))
 
-  pub part-readable : foldToLetters (take (c .ce - (c .cs - 1)) (drop (c .cs - 1) s)) ≡ true
+  part-readable : foldToLetters (take (c .ce - (c .cs - 1)) (drop (c .cs - 1) s)) ≡ true
   part-readable = strict-letters (take (c .ce - (c .cs - 1)) (drop (c .cs - 1) s)) part-letters
 
-  pub part-plain : (plain : Bool) → plain ≡ all isBase s → plain ≡ true → foldToBases (take (c .ce - (c .cs - 1)) (drop (c .cs - 1) s)) ≡ true
+  part-plain : (plain : Bool) → plain ≡ all isBase s → plain ≡ true → foldToBases (take (c .ce - (c .cs - 1)) (drop (c .cs - 1) s)) ≡ true
   part-plain plain is h =
       let part = take (c .ce - (c .cs - 1)) (drop (c .cs - 1) s) in
       whole-bases part (bases-fold part (all-take isBase (c .ce - (c .cs - 1)) (drop (c .cs - 1) s) (all-drop isBase (c .cs - 1) s (sym is ∙ h))))
 
-  pub part-room : (room : ℕ) → codons (bare s c) ≤ room → residueCount (length (take (c .ce - (c .cs - 1)) (drop (c .cs - 1) s))) ≤ room
+  part-room : (room : ℕ) → codons (bare s c) ≤ room → residueCount (length (take (c .ce - (c .cs - 1)) (drop (c .cs - 1) s))) ≤ room
   unfolding codons cdsSize residueCount
   part-room room h =
       let whole = whole-count (cdsSize (referenceOf s c e)) (x .sound .bounds .whole) in
       rw (cds-part, length-cds (referenceOf s c e) (x .sound .bounds)) (omega arith)
+
+  -- all that the translation of the part demands
+  pub part-walks : (plain : Bool) (room : List ℕ) → plain ≡ all isBase s → codons (bare s c) ≤ length room
+      → Walks (c .table) plain (take (c .ce - (c .cs - 1)) (drop (c .cs - 1) s)) e room
+  part-walks plain room is h =
+      record {
+        reads = record { code = x .sound .table; letters = part-readable; bases = part-plain plain is; few = few-exceptions };
+        room = part-room (length room) h;
+      }
 
   -- R is written
   module _ (old out : List ℕ) (written : out ≡ over (foldedTranslated (c .table) (exceptionList e) (take (c .ce - (c .cs - 1)) (drop (c .cs - 1) s))) old) where

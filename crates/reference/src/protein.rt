@@ -1,8 +1,5 @@
 // The reference protein R, and how many stops it has.
 use crate::Known;
-use codons::letters::folded_sets;
-use codons::tables::plain_code;
-use codons::tables::residues_of;
 use numbers::least;
 use numbers::wide;
 use rules::Cds;
@@ -66,10 +63,7 @@ pub(crate) fn read_reference(letters: &[u8], c: Cds, e: Exceptions, plain: bool,
     let first = c.cs - 1;
     let end = c.ce;
     let residues = (end - first) / 3;
-    let sets = folded_sets();
-    let lut = residues_of(c.table);
-    let code = plain_code(c.table);
-    write_translated(&letters[first..end], c.table, plain, &sets, &lut, &code, e, protein);
+    write_translated(&letters[first..end], c.table, plain, e, protein);
     let several = several_stops(&protein[..residues]);
     Known {
         cds: c,

@@ -1,4 +1,4 @@
--- `altseq::transcript::write_rest` meets its contract: the tail goes into the part of the buffer that is lent on behind what goes in.
+-- `transcript::write_rest` meets its contract: the tail goes into the part of the buffer that is lent on behind what goes in.
 -- Assumes nothing.
 use mathlib.Core.Path.{_≡_, sym, _∙_}
 use Prim.Native.Nat.{_-_}
@@ -8,9 +8,9 @@ use denote.Ref.{now}
 use lib.ListN.{length, take, drop}
 use Rattle.rules.proofs.Over.{copied-as, lent-on-by, tail-is}
 use Rattle.edits.specs.Plans.{goesIn}
-use Rattle.altseq.proofs.Transcripts.{length-goes-in}
-use Rattle.altseq.proofs.transcript.write_rest.Statement.{statement}
-use Rattle.altseq.proofs.transcript.write_rest.Tie as tie
+use Rattle.transcript.proofs.Transcripts.{length-goes-in}
+use Rattle.transcript.proofs.write_rest.Statement.{statement}
+use Rattle.transcript.proofs.write_rest.Tie as tie
 
 write-put-requires : tie.Need-write-put-requires
 write-put-requires c κs = (c .before .before .before .before .pre .0, (c .before .before .before .before .pre .1 .0, omega arith))

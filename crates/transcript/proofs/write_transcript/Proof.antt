@@ -1,4 +1,4 @@
--- `altseq::transcript::write_transcript` meets its contract: the rest goes into the part of the buffer that is lent on behind the kept prefix.
+-- `transcript::write_transcript` meets its contract: the rest goes into the part of the buffer that is lent on behind the kept prefix.
 -- Assumes nothing.
 use mathlib.Core.Path.{_≡_, sym, ap, _∙_}
 use mathlib.Core.List.{_++_}
@@ -11,10 +11,10 @@ use lib.Seq.{length-take-le}
 use Rattle.rules.specs.Altered.{carried}
 use Rattle.rules.proofs.Over.{copied, lent-on-by}
 use Rattle.edits.specs.Plans.{goesIn}
-use Rattle.altseq.specs.Transcript.{carriedBy}
-use Rattle.altseq.proofs.Transcripts.{length-carried-by}
-use Rattle.altseq.proofs.transcript.write_transcript.Statement.{statement}
-use Rattle.altseq.proofs.transcript.write_transcript.Tie as tie
+use Rattle.transcript.specs.Carrying.{carriedBy}
+use Rattle.transcript.proofs.Transcripts.{length-carried-by}
+use Rattle.transcript.proofs.write_transcript.Statement.{statement}
+use Rattle.transcript.proofs.write_transcript.Tie as tie
 
 slice-aggregate-copy : tie.Need-slice-aggregate-copy
 slice-aggregate-copy c = let a = c .before .before .before .before .args in sym (length-take-le (a .plan .from) (now (a .letters)) (omega arith))
@@ -35,10 +35,10 @@ returns c =
     let one = c .before .before .before .before .before .before .copy in
     let two = c .before .before .write-rest in
     let many : length front ≡ a .plan .from = length-take-le (a .plan .from) s (omega arith) in
-    let long = length-carried-by (a .plan) s (now (a .new)) (length (now (a .tx))) (c .before .before .before .before .before .before .before .before .before .before .before .before .pre .0) in (
+    let long = length-carried-by (a .plan) s (now (a .new)) (length (now (a .transcript))) (c .before .before .before .before .before .before .before .before .before .before .before .before .pre .0) in (
       ap (λ (n : ℕ). a .plan .from + n) (two .ensures .0) ∙ sym long,
-      lent-on-by front rest (now (a .tx)) (one .last .1 .0) (two .last .1 .1 .1 .1 .0) (a .plan .from) (sym many) (omega arith)
-          (one .ensures .1 ∙ copied front (now (a .tx))) (two .ensures .1),
+      lent-on-by front rest (now (a .transcript)) (one .last .1 .0) (two .last .1 .1 .1 .1 .0) (a .plan .from) (sym many) (omega arith)
+          (one .ensures .1 ∙ copied front (now (a .transcript))) (two .ensures .1),
     )
 
 pub write-transcript-spec : {M : Type 1} → statement M

@@ -1,4 +1,4 @@
--- Plain letters, and that a transcript of bases stays one where bases go in.
+-- A transcript of bases stays one where bases go in.
 -- Assumes nothing.
 use mathlib.Core.Path.{_≡_, refl, sym, ap, _∙_}
 use mathlib.Core.Bool.{Bool, true, false, _&&_, _||_, not}
@@ -17,23 +17,6 @@ use Rattle.rules.proofs.Tests.{and-left, and-right, and-both, all-take, all-dro
 use Rattle.rules.proofs.Complement.{of-letters}
 use Rattle.rules.proofs.Altered.{kept-is}
 use Rattle.codons.specs.Tables.{foldsToBase, isBase}
-
--- plain letters are of the fifteen, and of the fifteen those are plain that are one base
-pub plain-letters : (s : List ℕ) → all isBase s ≡ true → all isLetter s ≡ true
-unfolding all
-plain-letters [] h = refl
-plain-letters (x ∷ s) h =
-    and-both (isLetter x) (all isLetter s)
-    (and-left (isLetter x) (foldsToBase x) (and-left (isBase x) (all isBase s) h))
-    (plain-letters s (and-right (isBase x) (all isBase s) h))
-
-pub plain-bases : (s : List ℕ) → all isLetter s ≡ true → all isBase s ≡ all foldsToBase s
-unfolding all
-plain-bases [] l = refl
-plain-bases (x ∷ s) l = rw (and-left (isLetter x) (all isLetter s) l, plain-bases s (and-right (isLetter x) (all isLetter s) l))
-
-bases-of : (s : List ℕ) → all isBase s ≡ true → all foldsToBase s ≡ true
-bases-of s h = sym (plain-bases s (plain-letters s h)) ∙ h
 
 implied : (a b : Bool) → (not a || b) ≡ true → a ≡ true → b ≡ true
 implied true b h k = h
@@ -69,13 +52,10 @@ plain-kept r e h n =
     ap (all isBase) (kept-is r e)
     ∙ all-take isBase (length (kept r e)) (swap r e .put) (plain-put (kindOf e) (r .letters) (startIndex r e) (endIndex r e) (e .new) h n)
 
-pub bases-stay : (r : Reference) (e : Asked) → all isLetter (r .letters) ≡ true → all isLetter (e .new) ≡ true → all foldsToBase (r .letters) ≡ true → all foldsToBase (e .new) ≡ true
-    → all foldsToBase (alteredTranscript r e) ≡ true
+pub bases-stay : (r : Reference) (e : Asked) → all isBase (r .letters) ≡ true → all isBase (e .new) ≡ true → all isBase (alteredTranscript r e) ≡ true
 unfolding alteredTranscript cutSwap carried
-bases-stay r e l m b n =
+bases-stay r e b n =
     let s = r .letters in
     let w = swap r e in
-    let plain = plain-bases s l ∙ b in
-    bases-of (alteredTranscript r e)
-    (all-both isBase (take (w .from) s) (kept r e ++ drop (w .to) s) (all-take isBase (w .from) s plain)
-    (all-both isBase (kept r e) (drop (w .to) s) (plain-kept r e plain (plain-bases (e .new) m ∙ n)) (all-drop isBase (w .to) s plain)))
+    all-both isBase (take (w .from) s) (kept r e ++ drop (w .to) s) (all-take isBase (w .from) s b)
+    (all-both isBase (kept r e) (drop (w .to) s) (plain-kept r e b n) (all-drop isBase (w .to) s b))

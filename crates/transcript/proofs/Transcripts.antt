@@ -21,7 +21,7 @@ use Rattle.edits.specs.declared.swaps.Plan.{Plan}
 use Rattle.edits.specs.declared.swaps.Source.the-variants.{New, Copy, Turned}
 use Rattle.edits.specs.Plans.{planOf, sourceBytes, goesIn}
 use Rattle.edits.proofs.Plans.{kept-fits, transcript-is}
-use Rattle.altseq.specs.Transcript.{carriedBy, Sourced, Fits}
+use Rattle.transcript.specs.Carrying.{carriedBy, Sourced, Fits}
 
 module _ (p : Plan) (letters new : List ℕ) (i : Sourced p letters new) where
   pub length-goes-in : length (goesIn p letters new) ≡ p .kept
