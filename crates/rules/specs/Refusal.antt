@@ -12,7 +12,7 @@ use Rattle.rules.specs.Edit.{Asked, editTests}
 use Rattle.rules.specs.Altered.{alteredLength}
 use Rattle.rules.specs.Record.{recordOf}
 
--- transcripts of 1 to 16,384 bases, 1 to 4,096 new ones
+-- what the library takes: transcripts of 1 to 16,384 bases, 1 to 4,096 new ones
 abbrev pub limits : Limits
 limits = record { longest = 16384; most = 4096 }
 
