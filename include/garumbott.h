@@ -20,7 +20,7 @@
  *         struct garumbott_buffers buffers = { transcript, sizeof transcript, R, sizeof R, A, sizeof A };
  *         struct garumbott_answer a = garumbott_record_of(&reference, &edit, &buffers);
  *         if (a.answer != GARUMBOTT_CHANGED) {
- *             printf("answer %d, refusal %d\n", (int)a.answer, (int)a.refusal);
+ *             printf("%s: %s\n", garumbott_answer_name(a.answer), garumbott_refusal_words(a.refusal));
  *             return 1;
  *         }
  *         printf("%s %d %.*s %.*s\n", garumbott_class_name(a.change), (int)a.number, (int)a.deleted_len, (const char *)R + a.deleted_at,
