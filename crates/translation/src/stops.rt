@@ -156,24 +156,27 @@ fn write_plain_to_stop(seq: &[u8], table: usize, code: &[u8; 64], out: &mut [u8]
     ensures { λ r. ⌜ WalkedTo (throughStop (foldedTranslated table [] (now (seq .entry)))) (length (now (seq .entry))) (now (out .entry)) (now (out .exit)) r ⌝ }
 {
     let mut i = 0;
-    while i * 3 + 8 <= seq.len() {
+    let stop = loop {
+        if seq.len() < i * 3 + 8 {
+            let at = i * 3;
+            break i + write_codons_to_stop(&seq[at..], table, code, &mut out[i..]);
+        }
         let pair = pair_at(seq, i);
         let first = pair / 131072 % 64;
         let r = code[first];
         out[i] = r;
         if r == b'*' {
-            return i;
+            break i;
         }
         let second = pair / 2199023255552 % 64;
         let next = code[second];
         out[i + 1] = next;
         if next == b'*' {
-            return i + 1;
+            break i + 1;
         }
         i += 2;
-    }
-    let at = i * 3;
-    i + write_codons_to_stop(&seq[at..], table, code, &mut out[i..])
+    };
+    stop
 }
 
 // The walk to the first stop, the faster way where all letters are bases and there are no exceptions.

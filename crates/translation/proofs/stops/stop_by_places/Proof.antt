@@ -1,14 +1,14 @@
 -- `translation::stop_by_places` meets its contract. The invariant: the first stop from codon i on is the first.
 -- Assumes nothing.
-use mathlib.Core.Path.{_≡_, sym, ap, _∙_}
+use mathlib.Core.Path.{_≡_, sym, _∙_}
 use mathlib.Core.List.{[]}
-use Prim.Native.Nat.{ℕ, _-_, _≤_}
+use Prim.Native.Nat.{_-_, _≤_}
 use native.Mathlib.Omega.{arith}
 use borrow.Author.Needs.{needs}
-use lib.ListN.{length, getD}
-use Rattle.rules.specs.Translation.{excepted, beforeStop, wholeCodons, foldedTranslated}
-use Rattle.translation.proofs.Places.{place-small, place-residue}
-use Rattle.translation.proofs.Walks.{residueAt, stopsFrom, stops-all, stops-later, stops-here, stops-none}
+use Rattle.rules.specs.Translation.{beforeStop, wholeCodons, foldedTranslated}
+use Rattle.translation.proofs.Places.{place-small}
+use Rattle.translation.proofs.Walks.{stopsFrom, stops-all, stops-later, stops-here, stops-none}
+use Rattle.translation.proofs.PlainWalks.{place-reads}
 use Rattle.translation.proofs.stops.stop_by_places.Statement.{statement}
 use Rattle.translation.proofs.stops.stop_by_places.Tie as tie
 
@@ -24,17 +24,13 @@ loop-holds : tie.Need-loop-holds Inv-loop μ-loop
 loop-holds c = (search needs, stops-all (c .before .args .table) [] (c .before .args .seq .now))
 
 element-copy-out-if2 : tie.Need-element-copy-out-if2 Inv-loop μ-loop
-element-copy-out-if2 c =
-    let args = c .before .before .before .before .args in
-    rw (c .place-at .ensures) (place-small (args .seq .now) (c .before .before .loop .i))
+element-copy-out-if2 c = rw (c .place-at .ensures) (place-small (c .before .before .before .before .args .seq .now) (c .before .before .loop .i))
 
 loop-again : tie.Need-loop-again Inv-loop μ-loop
-unfolding excepted residueAt
 loop-again c =
     let args = c .before .before .before .before .before .before .args in
     let loop = c .before .before .before .before .loop in
-    let pre = c .before .before .before .before .before .before .pre in
-    let is = ap (λ (n : ℕ). getD (args .code .now) n 0) (c .before .before .place-at .ensures) ∙ place-residue (args .table) (args .code .now) (args .seq .now) (loop .i) (pre .0) (pre .1) (search needs) in
+    let is = place-reads (args .table) (args .code .now) (args .seq .now) (c .before .before .before .before .before .before .pre .0) (c .before .before .before .before .before .before .pre .1) (loop .i) _ (search needs) (c .before .before .place-at .ensures) in
     (search needs, sym (stops-later (args .table) [] (args .seq .now) (loop .i) _ (search needs) is (c .if2 .left)) ∙ loop .inv .1)
 
 returns : tie.Need-returns Inv-loop μ-loop
@@ -44,12 +40,10 @@ returns c =
     omega (arith, stops-none (args .table) [] (args .seq .now) (loop .i) (omega arith), loop .inv .1)
 
 returns-2 : tie.Need-returns-2 Inv-loop μ-loop
-unfolding excepted residueAt
 returns-2 c =
     let args = c .before .before .before .before .before .before .args in
     let loop = c .before .before .before .before .loop in
-    let pre = c .before .before .before .before .before .before .pre in
-    let is = ap (λ (n : ℕ). getD (args .code .now) n 0) (c .before .before .place-at .ensures) ∙ place-residue (args .table) (args .code .now) (args .seq .now) (loop .i) (pre .0) (pre .1) (search needs) in
+    let is = place-reads (args .table) (args .code .now) (args .seq .now) (c .before .before .before .before .before .before .pre .0) (c .before .before .before .before .before .before .pre .1) (loop .i) _ (search needs) (c .before .before .place-at .ensures) in
     sym (stops-here (args .table) [] (args .seq .now) (loop .i) _ (search needs) is (c .if2 .taken)) ∙ loop .inv .1
 
 pub stop-by-places-spec : {M : Type 1} → statement M
