@@ -1,11 +1,12 @@
--- `fields::tags::content_of` meets its contract. Assumes nothing.
+-- `fields::lookup::content_of` meets its contract. Assumes nothing.
+use mathlib.Core.Path.{refl}
 use Prim.Native.Nat.{_-_}
 use native.Mathlib.Omega.{arith}
 use borrow.Author.Needs.{needs}
 use lib.ListN.{length}
-use Rattle.fields.proofs.Order.{not-whole, whole-here, Looking, looking, missing, found, further}
-use Rattle.fields.proofs.tags.content_of.Statement.{statement}
-use Rattle.fields.proofs.tags.content_of.Tie as tie
+use Rattle.fields.proofs.Places.{not-whole, holds, Looking, missing, found, further}
+use Rattle.fields.proofs.lookup.content_of.Statement.{statement}
+use Rattle.fields.proofs.lookup.content_of.Tie as tie
 
 abbrev Inv-loop : tie.InvT-loop
 Inv-loop s tag at₀ at = Looking tag s at
@@ -14,7 +15,7 @@ abbrev μ-loop : tie.MeasureT-loop
 μ-loop s tag at₀ at = length s - at
 
 loop-holds : tie.Need-loop-holds Inv-loop μ-loop
-loop-holds c = looking (c .before .args .tag) (c .before .args .s .now) (c .before .pre)
+loop-holds c = refl
 
 returns : tie.Need-returns Inv-loop μ-loop
 returns c =
@@ -29,13 +30,13 @@ returns-2 c =
 add-at : tie.Need-add-at Inv-loop μ-loop
 add-at c =
     let a = c .before .before .before .before .before .before .before .before .args in
-    let w = whole-here (a .s .now) (c .before .before .before .before .before .before .loop .at) 0 (c .before .before .before .before .before .next-field .result) (c .before .before .before .before .before .next-field .ensures) _ _ (c .before .before .before .f .given .1) in
+    let w = holds (a .s .now) (c .before .before .before .before .before .before .loop .at) (c .before .before .before .before .before .next-field .result) (c .before .before .before .before .before .next-field .ensures) _ _ (c .before .before .before .f .given .1) in
     omega (arith, w .fits, c .before .before .before .before .before .before .before .before .good .0 .0)
 
 loop-less : tie.Need-loop-less Inv-loop μ-loop
 loop-less c =
     let a = c .before .before .before .before .before .before .before .before .args in
-    let w = whole-here (a .s .now) (c .before .before .before .before .before .before .loop .at) 0 (c .before .before .before .before .before .next-field .result) (c .before .before .before .before .before .next-field .ensures) _ _ (c .before .before .before .f .given .1) in
+    let w = holds (a .s .now) (c .before .before .before .before .before .before .loop .at) (c .before .before .before .before .before .next-field .result) (c .before .before .before .before .before .next-field .ensures) _ _ (c .before .before .before .f .given .1) in
     omega (arith, w .begins, w .fits)
 
 loop-again : tie.Need-loop-again Inv-loop μ-loop
