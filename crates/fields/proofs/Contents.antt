@@ -8,12 +8,12 @@ use Prim.Native.Nat.{ℕ, zero, suc, _+_, _≤_}
 use native.Mathlib.Omega.{arith}
 use lib.Dec.{eqb}
 use lib.ListN.{length, drop}
-use borrow.Author.Tests.{eqb-true}
+use borrow.Author.Tests.{eqb-true, not-false}
 use Rattle.rules.specs.declared.Part.{Part}
 use Rattle.rules.specs.Bytes.{if_then_else_, Result, given, refused}
 use Rattle.rules.specs.Record.{partOf}
 use Rattle.rules.specs.Stored as stored
-use Rattle.rules.specs.Stored.{field, Form, isWrongTag, Tagged, withField, met, fieldsFrom, fields, contentOf}
+use Rattle.rules.specs.Stored.{field, Form, isWrongTag, isWrongContent, Tagged, withField, met, fieldsFrom, fields, contentOf}
 use Rattle.fields.specs.declared.reader.Field.{Field}
 use Rattle.fields.specs.declared.reader.Field.the-variants.{Whole, Cut, End}
 use Rattle.fields.specs.declared.lookup.Content.{Content}
@@ -88,7 +88,7 @@ module _ (form : Form) where
   AreWhole n = (last : ℕ) (s : List ℕ) (gs : List Tagged) → fieldsFrom form n last s ≡ given gs → Are form (wholeFrom n s) gs
 
   are-whole : (n : ℕ) → AreWhole n
-  unfolding fieldsFrom wholeFrom met wholeThen withField
+  unfolding fieldsFrom wholeFrom met wholeThen withField isWrongContent
   are-whole zero last s gs h = no-fields gs h
   are-whole (suc n) last s gs h = by (are-whole n) (field s) h
     where
@@ -97,16 +97,16 @@ module _ (form : Form) where
       behind more t c r fits (given hs) q h = one-more t c (wholeFrom n r) hs gs fits (more t r hs (sym q)) h
       behind more t c r fits (refused m) q h = let z : _≡_ {A = ℕ} 0 1 = cc in absurd (omega arith)
 
-      tests : AreWhole n → (t : ℕ) (c r : List ℕ) (a b : Bool) → form .fits t c ≡ b → (if a then refused 21 else if b then withField t c (fieldsFrom form n t r) else refused 23) ≡ given gs
+      tests : AreWhole n → (t : ℕ) (c r : List ℕ) (a b : Bool) → isWrongContent form t c ≡ b → (if a then refused 21 else if b then refused 23 else withField t c (fieldsFrom form n t r)) ≡ given gs
           → Are form (record { tag = t; content = c } ∷ wholeFrom n r) gs
       tests more t c r true b f h = let z : _≡_ {A = ℕ} 0 1 = cc in absurd (omega arith)
-      tests more t c r false true f h = behind more t c r f (fieldsFrom form n t r) refl h
-      tests more t c r false false f h = let z : _≡_ {A = ℕ} 0 1 = cc in absurd (omega arith)
+      tests more t c r false true f h = let z : _≡_ {A = ℕ} 0 1 = cc in absurd (omega arith)
+      tests more t c r false false f h = behind more t c r (not-false (form .fits t c) f) (fieldsFrom form n t r) refl h
 
       by : AreWhole n → (g : stored.Field) → met form last g (λ t r. fieldsFrom form n t r) ≡ given gs → Are form (wholeThen g (λ r. wholeFrom n r)) gs
       by more stored.ended h = no-fields gs h
       by more (stored.cut t) h = let z : _≡_ {A = ℕ} 0 1 = cc in absurd (omega arith)
-      by more (stored.whole t c r) h = tests more t c r (isWrongTag form last t) (form .fits t c) refl h
+      by more (stored.whole t c r) h = tests more t c r (isWrongTag form last t) (isWrongContent form t c) refl h
 
 -- a place within the bytes, whose content fits the tag
 pub record Found (form : Form) (t : ℕ) (s : List ℕ) (p : Part) : Type 0 where

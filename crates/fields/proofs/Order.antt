@@ -10,7 +10,7 @@ use Rattle.rules.specs.declared.Part.{Part}
 use Rattle.rules.specs.Bytes.{if_then_else_, Result, given, refused}
 use Rattle.rules.specs.Record.{partOf}
 use Rattle.rules.specs.Stored as stored
-use Rattle.rules.specs.Stored.{field, Form, isWrongTag, Tagged, withField, met, fieldsFrom, fields}
+use Rattle.rules.specs.Stored.{field, Form, isWrongTag, isWrongContent, Tagged, withField, met, fieldsFrom, fields}
 use Rattle.fields.specs.declared.reader.Field.{Field}
 use Rattle.fields.specs.declared.reader.Field.the-variants.{Whole, Cut, End}
 use Rattle.fields.specs.Places.{fieldAt}
@@ -70,16 +70,16 @@ module _ (form : Form) where
     unfolding fieldRefusal met refusalIn
     refused-here n e some = by f e ∙ ap refusalIn (sym first-here)
       where
-        tests : (a b : Bool) (x : Result (List Tagged)) → n ≡ (if a then 21 else if b then 0 else 23)
-            → n ≡ refusalIn (if a then refused 21 else if b then x else refused 23)
+        tests : (a b : Bool) (x : Result (List Tagged)) → n ≡ (if a then 21 else if b then 23 else 0)
+            → n ≡ refusalIn (if a then refused 21 else if b then refused 23 else x)
         tests true b x h = h
-        tests false true x h = absurd (some h)
-        tests false false x h = h
+        tests false true x h = h
+        tests false false x h = absurd (some h)
 
         by : (f : Field) → n ≡ fieldRefusal form last s f → n ≡ refusalIn (met form last (asRead s f) (λ t r. fieldsAfter form t r))
         by End h = h
         by (Cut t) h = h
-        by (Whole t p) h = tests (isWrongTag form last t) (form .fits t (partOf p s)) _ h
+        by (Whole t p) h = tests (isWrongTag form last t) (isWrongContent form t (partOf p s)) _ h
 
     -- no field is left
     pub none-here : fieldRefusal form last s f ≡ 0 → ((t : ℕ) (p : Part) → f ≡ Whole t p → ⊥) → fieldsAfter form last (drop at s) ≡ given []
@@ -100,13 +100,13 @@ module _ (form : Form) where
         → fieldsAfter form last (drop at s) ≡ withField t (partOf p s) (fieldsAfter form t (drop (p .at + p .len) s))
     unfolding fieldRefusal met
     goes-on t p h z =
-        first-here ∙ rw h (by (isWrongTag form last t) (form .fits t (partOf p s)) _ (sym (ap (fieldRefusal form last s) h) ∙ z))
+        first-here ∙ rw h (by (isWrongTag form last t) (isWrongContent form t (partOf p s)) _ (sym (ap (fieldRefusal form last s) h) ∙ z))
       where
-        by : (a b : Bool) (x : Result (List Tagged)) → _≡_ {A = ℕ} (if a then 21 else if b then 0 else 23) 0
-            → (if a then refused 21 else if b then x else refused 23) ≡ x
+        by : (a b : Bool) (x : Result (List Tagged)) → _≡_ {A = ℕ} (if a then 21 else if b then 23 else 0) 0
+            → (if a then refused 21 else if b then refused 23 else x) ≡ x
         by true b x h = absurd (omega arith)
-        by false true x h = refl
-        by false false x h = absurd (omega arith)
+        by false true x h = absurd (omega arith)
+        by false false x h = refl
 
   -- a refusal has a number
   some-number : (n last : ℕ) (s : List ℕ) (m : ℕ) → m ≡ 0 → fieldsFrom form n last s ≡ refused m → ⊥
@@ -122,15 +122,15 @@ module _ (form : Form) where
       number true h = let o : 21 ≡ m = cc in omega arith
       number false h = let o : 20 ≡ m = cc in omega arith
 
-      tests : (a b : Bool) (t : ℕ) (c : List ℕ) (x : Result (List Tagged)) → (x ≡ refused m → ⊥) → (if a then refused 21 else if b then withField t c x else refused 23) ≡ refused m → ⊥
+      tests : (a b : Bool) (t : ℕ) (c : List ℕ) (x : Result (List Tagged)) → (x ≡ refused m → ⊥) → (if a then refused 21 else if b then refused 23 else withField t c x) ≡ refused m → ⊥
       tests true b t c x k h = let o : 21 ≡ m = cc in omega arith
-      tests false true t c x k h = k (behind t c x h)
-      tests false false t c x k h = let o : 23 ≡ m = cc in omega arith
+      tests false true t c x k h = let o : 23 ≡ m = cc in omega arith
+      tests false false t c x k h = k (behind t c x h)
 
       by : (g : stored.Field) → ((t : ℕ) (r : List ℕ) → fieldsFrom form n t r ≡ refused m → ⊥) → met form last g (λ t r. fieldsFrom form n t r) ≡ refused m → ⊥
       by stored.ended k h = let o : _≡_ {A = ℕ} 0 1 = cc in omega arith
       by (stored.cut t) k h = number (isWrongTag form last t) h
-      by (stored.whole t c r) k h = tests (isWrongTag form last t) (form .fits t c) t c (fieldsFrom form n t r) (k t r) h
+      by (stored.whole t c r) k h = tests (isWrongTag form last t) (isWrongContent form t c) t c (fieldsFrom form n t r) (k t r) h
 
   -- what 20, 21 and 23 leave
   pub given-fields : (s : List ℕ) → refusalIn (fields form s) ≡ 0 → fields form s ≡ given (taggedIn (fields form s))

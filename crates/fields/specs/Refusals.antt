@@ -6,7 +6,7 @@ use lib.ListN.{length}
 use Rattle.rules.specs.declared.Part.{Part}
 use Rattle.rules.specs.Bytes.{if_then_else_, Result, given, refused}
 use Rattle.rules.specs.Record.{partOf}
-use Rattle.rules.specs.Stored.{Form, isWrongTag, Tagged}
+use Rattle.rules.specs.Stored.{Form, isWrongTag, isWrongContent, Tagged}
 use Rattle.fields.specs.declared.reader.Field.{Field}
 use Rattle.fields.specs.declared.reader.Field.the-variants.{Whole, Cut, End}
 
@@ -15,7 +15,7 @@ unfoldable pub fieldRefusal : Form → ℕ → List ℕ → Field → ℕ
 fieldRefusal form last s End = 0
 fieldRefusal form last s (Cut tag) = if isWrongTag form last tag then 21 else 20
 fieldRefusal form last s (Whole tag p) =
-    if isWrongTag form last tag then 21 else if form .fits tag (partOf p s) then 0 else 23
+    if isWrongTag form last tag then 21 else if isWrongContent form tag (partOf p s) then 23 else 0
 
 -- the content of a whole field stands within the bytes
 abbrev pub Within : List ℕ → Field → Type 0

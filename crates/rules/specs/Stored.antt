@@ -27,7 +27,7 @@ field (tag ∷ high ∷ []) = cut tag
 field (tag ∷ high ∷ low ∷ s) =
     if leb (twoBytes high low) (length s) then whole tag (take (twoBytes high low) s) (drop (twoBytes high low) s) else cut tag
 
--- a form: which tags it knows, and which content fits a tag (else 23)
+-- a form: which tags it knows, and which content fits a tag
 pub record Form : Type 0 where
   pub knows : ℕ → Bool
   pub fits : ℕ → List ℕ → Bool
@@ -35,6 +35,10 @@ pub record Form : Type 0 where
 -- 21: tag unknown, repeated or not rising; `last` is the tag before it
 unfoldable pub isWrongTag : Form → ℕ → ℕ → Bool
 isWrongTag form last tag = not (form .knows tag) || not (ltb last tag)
+
+-- 23: field length wrong for its tag, and whatever else a form asks of the content
+unfoldable pub isWrongContent : Form → ℕ → List ℕ → Bool
+isWrongContent form tag content = not (form .fits tag content)
 
 pub record Tagged : Type 0 where
   pub tag : ℕ
@@ -50,8 +54,8 @@ met form last ended more = given []
 met form last (cut tag) more = refused (if isWrongTag form last tag then 21 else 20)
 met form last (whole tag content rest) more =
     if isWrongTag form last tag then refused 21
-    else if form .fits tag content then withField tag content (more tag rest)
-    else refused 23
+    else if isWrongContent form tag content then refused 23
+    else withField tag content (more tag rest)
 
 -- 20, 21 and 23 are met in field order; `fuel` is at least the number of fields
 unfoldable pub fieldsFrom : Form → ℕ → ℕ → List ℕ → Result (List Tagged)
