@@ -13,7 +13,7 @@ use Rattle.rules.specs.declared.Exception.{Exception}
 use Rattle.rules.specs.Translation.{noException, exceptionList}
 use Rattle.rules.specs.Stored.{exceptionsIn}
 use Rattle.rules.proofs.Translation.{length-exceptions}
-use Rattle.fields.specs.Held.{exceptionAt, held, counted, exceptionsOf}
+use Rattle.stored.specs.Held.{exceptionAt, held, counted, exceptionsOf}
 
 pub length-stored : (s : List ℕ) → length (exceptionsIn s) ≡ length s / 3
 unfolding exceptionsIn

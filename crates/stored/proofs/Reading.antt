@@ -2,157 +2,125 @@
 -- Assumes nothing.
 use mathlib.Core.Path.{_≡_, refl, sym, ap, _∙_}
 use mathlib.Core.List.{List}
-use mathlib.Core.Option.{none}
-use Prim.Native.Nat.{ℕ, _+_, _%_, _≤_, _<_}
+use Prim.Native.Nat.{ℕ, _+_, _%_, _≤_}
 use native.Mathlib.Omega.{arith}
-use lib.ListN.{length, getD}
+use lib.ListN.{length}
+use Rattle.rules.specs.declared.Cds.{Cds}
+use Rattle.rules.specs.declared.Part.{Part}
 use Rattle.rules.specs.Bytes.{Result, given, refused}
+use Rattle.rules.specs.Record.{partOf}
 use Rattle.rules.specs.Reference.{Reference}
-use Rattle.rules.specs.Stored.{twoBytes, Tagged, fields, contentOf, exceptionsIn, orEmpty, assembled, checked, storedIn, storedReference}
-use Rattle.fields.specs.declared.reader.Span.{Span}
-use Rattle.fields.specs.declared.tags.Content.{Content}
-use Rattle.fields.specs.declared.tags.Content.the-variants as content
-use Rattle.fields.specs.declared.reference.Stored.{Stored}
-use Rattle.fields.specs.declared.reference.Stored.the-variants.{Refused, At}
-use Rattle.fields.specs.Places.{bytesAt, placeOf}
+use Rattle.rules.specs.Stored.{Tagged, referenceForm, fields, contentOf, exceptionsIn, orEmpty, assembled, assembledIn}
+use Rattle.fields.specs.declared.lookup.Content.{Content}
+use Rattle.fields.specs.declared.lookup.Content.the-variants as content
+use Rattle.fields.specs.Places.{contentAt, partOrEmpty}
 use Rattle.fields.specs.Refusals.{refusalIn, taggedIn}
-use Rattle.fields.specs.Reading.{referenceIn, spanOf, Reads, assembledIn}
+use Rattle.fields.proofs.Places.{length-of-part}
 use Rattle.fields.proofs.Order.{given-fields}
-use Rattle.fields.proofs.Contents.{Found, contentIn, stands, byte-of, bounds-length, table-length, exceptions-length}
+use Rattle.fields.proofs.Contents.{contentIn, has, found}
+use Rattle.stored.specs.declared.places.StoredAt.{StoredAt}
+use Rattle.stored.specs.declared.places.Stored.{Stored}
+use Rattle.stored.specs.declared.places.Stored.the-variants.{Refused, At}
+use Rattle.stored.specs.Reading.{cdsIn, toldReference, Finds, Placed, Reads}
+use Rattle.stored.proofs.Form.{bounds-length, table-length, exceptions-length}
 
 pub refuses : (s : List ℕ) (x : Result Reference) (n : ℕ) → x ≡ refused n → Reads s x (Refused n)
-unfolding referenceIn
+unfolding toldReference
 refuses s x n e = record { says = sym e; stands = λ p q. let z : _≡_ {A = ℕ} 0 1 = cc in absurd (omega arith) }
 
 -- 20, 21 or 23
-pub refused-fields : (s : List ℕ) (n : ℕ) → n ≡ refusalIn (fields s) → (n ≡ 0 → ⊥) → assembledIn (fields s) ≡ refused n
+pub refused-fields : (s : List ℕ) (n : ℕ) → n ≡ refusalIn (fields referenceForm s) → (n ≡ 0 → ⊥) → assembledIn (fields referenceForm s) ≡ refused n
 unfolding refusalIn assembledIn
-refused-fields s n e k = by (fields s) e
+refused-fields s n e k = by (fields referenceForm s) e
   where
     by : (x : Result (List Tagged)) → n ≡ refusalIn x → assembledIn x ≡ refused n
     by (given fs) h = absurd (k h)
     by (refused m) h = ap refused (sym h)
 
--- none of them
-pub unrefused : (s : List ℕ) (n : ℕ) → n ≡ refusalIn (fields s) → n ≤ 0 → refusalIn (fields s) ≡ 0
-unrefused s n e h = omega arith
-
--- the contents that are found
-module _ (s : List ℕ) (none-refused : refusalIn (fields s) ≡ 0) where
-  are-assembled : assembledIn (fields s) ≡ assembled (contentOf 1 (taggedIn (fields s))) (contentOf 2 (taggedIn (fields s))) (contentOf 3 (taggedIn (fields s))) (orEmpty (contentOf 4 (taggedIn (fields s))))
+-- none of them: by the contents that are found
+module _ (s : List ℕ) (unrefused : refusalIn (fields referenceForm s) ≡ 0) where
+  are-assembled : assembledIn (fields referenceForm s)
+      ≡ assembled (contentOf 1 (taggedIn (fields referenceForm s))) (contentOf 2 (taggedIn (fields referenceForm s))) (contentOf 3 (taggedIn (fields referenceForm s))) (orEmpty (contentOf 4 (taggedIn (fields referenceForm s))))
   unfolding assembledIn
-  are-assembled = ap assembledIn (given-fields s none-refused)
+  are-assembled = ap assembledIn (given-fields referenceForm s unrefused)
 
-  -- a content, or none, by what `content_of` answers
-  has : (t : ℕ) (c : Content) → c ≡ placeOf t 0 (taggedIn (fields s)) → contentOf t (taggedIn (fields s)) ≡ contentIn s c
-  has t c e = sym (stands t s none-refused .same) ∙ ap (contentIn s) (sym e)
-
-  found : (t : ℕ) (c : Content) (p : Span) → c ≡ placeOf t 0 (taggedIn (fields s)) → c ≡ content.At p → Found t s p
-  found t c p e h = stands t s none-refused .found p (sym e ∙ h)
+  -- a content, or none
+  content-is : (t : ℕ) (c : Content) → c ≡ contentAt t s → contentOf t (taggedIn (fields referenceForm s)) ≡ contentIn s c
+  content-is t c e = has referenceForm s unrefused t c e
 
   -- 22
-  module _ (one : Content) (is-one : one ≡ placeOf 1 0 (taggedIn (fields s))) where
-    pub no-letters : one ≡ content.Missing → assembledIn (fields s) ≡ refused 22
+  pub no-letters : content.Missing ≡ contentAt 1 s → assembledIn (fields referenceForm s) ≡ refused 22
+  unfolding assembled
+  no-letters one = are-assembled ∙ rw (content-is 1 content.Missing one)
+
+  module _ (letters : Part) (one : content.At letters ≡ contentAt 1 s) where
+    pub no-bounds : content.Missing ≡ contentAt 2 s → assembledIn (fields referenceForm s) ≡ refused 22
     unfolding assembled
-    no-letters h = are-assembled ∙ rw (has 1 one is-one, h)
+    no-bounds two = are-assembled ∙ rw (content-is 1 (content.At letters) one, content-is 2 content.Missing two)
 
-    module _ (letters : Span) (at-one : one ≡ content.At letters) (two : Content) (is-two : two ≡ placeOf 2 0 (taggedIn (fields s))) where
-      pub no-bounds : two ≡ content.Missing → assembledIn (fields s) ≡ refused 22
-      unfolding assembled
-      no-bounds h = are-assembled ∙ rw (has 1 one is-one, at-one, has 2 two is-two, h)
+    pub no-table : (bounds : Part) → content.At bounds ≡ contentAt 2 s → content.Missing ≡ contentAt 3 s → assembledIn (fields referenceForm s) ≡ refused 22
+    unfolding assembled
+    no-table bounds two three =
+        are-assembled ∙ rw (content-is 1 (content.At letters) one, content-is 2 (content.At bounds) two, content-is 3 content.Missing three)
 
-      module _ (bounds : Span) (at-two : two ≡ content.At bounds) (three : Content) (is-three : three ≡ placeOf 3 0 (taggedIn (fields s))) where
-        pub no-table : three ≡ content.Missing → assembledIn (fields s) ≡ refused 22
-        unfolding assembled
-        no-table h = are-assembled ∙ rw (has 1 one is-one, at-one, has 2 two is-two, at-two, has 3 three is-three, h)
+-- where the reference stands
+module _ (s : List ℕ) (letters bounds table : Part) (f : Finds s letters bounds table) where
+  pub bounds-fit : (bounds .at + bounds .len ≤ length s) × (length (partOf bounds s) ≡ 4)
+  bounds-fit =
+      let b = found referenceForm s (f .unrefused) 2 (content.At bounds) (f .bounds-at) bounds refl in
+      (b .within, bounds-length (partOf bounds s) (b .fits))
 
-        pub four-bytes : (bounds .len ≡ 4) × (bounds .at + 4 ≤ length s)
-        four-bytes =
-            let f = found 2 two bounds is-two at-two in
-            let n = bounds-length (bounds .len) (f .fits) in
-            (n, omega (arith, f .within))
+  pub table-fits : (table .at + table .len ≤ length s) × (length (partOf table s) ≡ 1)
+  table-fits =
+      let t = found referenceForm s (f .unrefused) 3 (content.At table) (f .table-at) table refl in
+      (t .within, table-length (partOf table s) (t .fits))
 
-        module _ (code : Span) (at-three : three ≡ content.At code) where
-          pub one-byte : (code .len ≡ 1) × (code .at < length s)
-          one-byte =
-              let f = found 3 three code is-three at-three in
-              let n = table-length (code .len) (f .fits) in
-              (n, omega (arith, f .within))
+  module _ (exceptions : Part) (four : exceptions ≡ partOrEmpty (contentAt 4 s)) where
+    stored-exceptions : exceptionsIn (orEmpty (contentOf 4 (taggedIn (fields referenceForm s)))) ≡ exceptionsIn (partOf exceptions s)
+    unfolding partOrEmpty partOf
+    stored-exceptions = rw (content-is s (f .unrefused) 4 (contentAt 4 s) refl, four) (by (contentAt 4 s))
+      where
+        by : (c : Content) → exceptionsIn (orEmpty (contentIn s c)) ≡ exceptionsIn (partOf (partOrEmpty c) s)
+        by (content.At p) = refl
+        by content.Missing = refl
 
-          module _ (four : Content) (is-four : four ≡ placeOf 4 0 (taggedIn (fields s))) (cs ce table : ℕ)
-              (is-cs : cs ≡ twoBytes (getD s (bounds .at) 0) (getD s (bounds .at + 1) 0)) (is-ce : ce ≡ twoBytes (getD s (bounds .at + 2) 0) (getD s (bounds .at + 2 + 1) 0))
-              (is-table : table ≡ getD s (code .at) 0) (exceptions : Span) (are-exceptions : exceptions ≡ spanOf four) where
-            rest : exceptionsIn (orEmpty (contentOf 4 (taggedIn (fields s)))) ≡ exceptionsIn (bytesAt s exceptions)
-            unfolding spanOf
-            rest = rw (has 4 four is-four, are-exceptions) (by four)
-              where
-                by : (c : Content) → exceptionsIn (orEmpty (contentIn s c)) ≡ exceptionsIn (bytesAt s (spanOf c))
-                by (content.At p) = refl
-                by content.Missing = refl
+    within : (exceptions .at + exceptions .len ≤ length s) × (exceptions .len % 3 ≡ 0)
+    unfolding partOrEmpty
+    within = rw four (by (contentAt 4 s) refl)
+      where
+        by : (c : Content) → c ≡ contentAt 4 s → (partOrEmpty c .at + partOrEmpty c .len ≤ length s) × (partOrEmpty c .len % 3 ≡ 0)
+        by (content.At p) e =
+            let x = found referenceForm s (f .unrefused) 4 (content.At p) e p refl in
+            (x .within, rw (length-of-part s p (x .within)) at (exceptions-length (partOf p s) (x .fits)))
+        by content.Missing e = (omega arith, refl)
 
-            within : (exceptions .at + exceptions .len ≤ length s) × (exceptions .len % 3 ≡ 0)
-            unfolding spanOf
-            within = by four is-four are-exceptions
-              where
-                by : (c : Content) → c ≡ placeOf 4 0 (taggedIn (fields s)) → exceptions ≡ spanOf c → (exceptions .at + exceptions .len ≤ length s) × (exceptions .len % 3 ≡ 0)
-                by (content.At p) q e = let f = found 4 (content.At p) p q refl in rw e (f .within, exceptions-length (p .len) (f .fits))
-                by content.Missing q e = rw e (omega arith, refl)
-
-            bound : (i : ℕ) → i < 4 → getD (bytesAt s bounds) i 0 ≡ getD s (bounds .at + i) 0
-            bound i h = byte-of s bounds i (omega (arith, four-bytes .0))
-
-            pub reads : Reads s (assembledIn (fields s)) (At (record { cs = cs; ce = ce; table = table; letters = letters; exceptions = exceptions }))
-            unfolding assembled referenceIn spanOf
-            reads =
-                let zeroth : bounds .at + 0 ≡ bounds .at = omega arith in
-                let third : bounds .at + 2 + 1 ≡ bounds .at + 3 = omega arith in
-                let nought : code .at + 0 ≡ code .at = omega arith in
-                record {
-                  says =
-                      sym (are-assembled ∙ rw (
-                        has 1 one is-one,
-                        at-one,
-                        has 2 two is-two,
-                        at-two,
-                        has 3 three is-three,
-                        at-three,
-                        bound 0 (omega arith),
-                        bound 1 (omega arith),
-                        bound 2 (omega arith),
-                        bound 3 (omega arith),
-                        byte-of s code 0 (omega (arith, one-byte .0)),
-                        zeroth,
-                        nought,
-                        rest,
-                        is-cs,
-                        is-ce,
-                        third,
-                        is-table,
-                      ));
-                  stands = λ p h.
-                      let same : record { cs = cs; ce = ce; table = table; letters = letters; exceptions = exceptions } ≡ p = cc in
-                      rw (← same)
-                      (record {
-                        letters = sym (ap spanOf (sym is-one ∙ at-one));
-                        exceptions = are-exceptions ∙ ap spanOf is-four;
-                        letters-within = found 1 one letters is-one at-one .within;
-                        exceptions-within = within .0;
-                        threes = within .1;
-                      });
-                }
-
--- then 1 to 6
-pub stored-is : (longest : ℕ) (s : List ℕ) → storedReference longest s ≡ checked longest (assembledIn (fields s))
-unfolding storedReference storedIn checked assembledIn
-stored-is longest s = by (fields s)
-  where
-    by : (x : Result (List Tagged)) → storedIn longest x ≡ checked longest (assembledIn x)
-    by (given fs) = refl
-    by (refused n) = refl
+    pub reads : (c : Cds) → c ≡ cdsIn (partOf bounds s) (partOf table s) → Reads s (assembledIn (fields referenceForm s)) (At (record { cds = c; letters = letters; exceptions = exceptions }))
+    unfolding assembled toldReference partOrEmpty
+    reads c is =
+        record {
+          says =
+              rw is
+              (sym (are-assembled s (f .unrefused) ∙ rw (
+                content-is s (f .unrefused) 1 (content.At letters) (f .letters-at),
+                content-is s (f .unrefused) 2 (content.At bounds) (f .bounds-at),
+                content-is s (f .unrefused) 3 (content.At table) (f .table-at),
+                stored-exceptions,
+              )));
+          stands = λ p h.
+              let same : record { cds = c; letters = letters; exceptions = exceptions } ≡ p = cc in
+              rw (← same)
+              (record {
+                letters = ap partOrEmpty (f .letters-at);
+                exceptions = four;
+                letters-within = found referenceForm s (f .unrefused) 1 (content.At letters) (f .letters-at) letters refl .within;
+                exceptions-within = within .0;
+                threes = within .1;
+              });
+        }
 
 -- two answers to the same bytes are the same
 pub single : (s : List ℕ) (x : Result Reference) (r q : Stored) → Reads s x r → Reads s x q → r ≡ q
-unfolding referenceIn
+unfolding toldReference
 single s x (Refused n) (Refused m) h k = let same : refused n ≡ refused m = h .says ∙ sym (k .says) in ap Refused (numbers same)
   where
     numbers : {n m : ℕ} → _≡_ {A = Result Reference} (refused n) (refused m) → n ≡ m

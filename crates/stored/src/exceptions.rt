@@ -1,11 +1,11 @@
 // The exceptions that bytes store, three bytes each, as the value that calls take.
-use crate::reader::two_bytes;
+use fields::two_bytes;
 use rules::Exception;
 use rules::Exceptions;
 ghost use mathlib.Core.Path.{_≡_};
 ghost use Prim.Native.Nat.{_+_, _*_, _≤_};
 ghost use lib.ListN.{length};
-ghost use Rattle.fields.specs.Held.{exceptionAt, exceptionsOf};
+ghost use Rattle.stored.specs.Held.{exceptionAt, exceptionsOf};
 
 // Codon, two bytes; residue.
 fn exception_at(s: &[u8], i: usize) -> Exception

@@ -1,21 +1,28 @@
 // Where a reference stands in the bytes that store it. Whether it is one that a call takes, 1 to 6, isn't judged here.
-use crate::reader::Span;
-use crate::reader::two_bytes;
-use crate::reader::wide;
-use crate::tags::Content;
-use crate::tags::content_of;
+use crate::tags::BOUNDS;
+use crate::tags::EXCEPTIONS;
+use crate::tags::LETTERS;
+use crate::tags::TABLE;
 use crate::tags::fields_refusal;
+use fields::Content;
+use fields::bytes_at;
+use fields::content_of;
+use fields::part_or_empty;
+use fields::two_bytes;
+use numbers::wide;
+use rules::Cds;
+use rules::Part;
 ghost use mathlib.Core.Path.{_≡_};
-ghost use Rattle.rules.specs.Stored.{fields};
-ghost use Rattle.fields.specs.Reading.{spanOf, assembledIn, Reads};
+ghost use lib.ListN.{length};
+ghost use Rattle.rules.specs.Stored.{referenceForm, fields, assembledIn};
+ghost use Rattle.stored.specs.declared.places.Stored.the-variants as stored;
+ghost use Rattle.stored.specs.Reading.{cdsIn, Finds, Reads};
 
 // A stored reference: its numbers, and where its letters and its exceptions stand in the caller's bytes.
 pub struct StoredAt {
-    pub cs: usize,
-    pub ce: usize,
-    pub table: usize,
-    pub letters: Span,
-    pub exceptions: Span,
+    pub cds: Cds,
+    pub letters: Part,
+    pub exceptions: Part,
 }
 
 pub enum Stored {
@@ -23,43 +30,51 @@ pub enum Stored {
     At(StoredAt),
 }
 
-// Tag 4 may be absent.
-fn span_of(c: Content) -> Span
-    ensures { λ r. ⌜ r ≡ spanOf c ⌝ }
+// The numbers that the contents of tags 2 and 3 hold.
+fn cds_in(bounds: &[u8], table: &[u8]) -> Cds
+    requires { ⌜ (length (now bounds) ≡ 4) × (length (now table) ≡ 1) ⌝ }
+    ensures { λ r. ⌜ r ≡ cdsIn (now (bounds .entry)) (now (table .entry)) ⌝ }
 {
-    match c {
-        Content::At(span) => span,
-        Content::Missing => Span { at: 0, len: 0 },
+    Cds {
+        cs: two_bytes(bounds, 0),
+        ce: two_bytes(bounds, 2),
+        table: wide(table[0]),
+    }
+}
+
+// Where it stands, by the places of the contents that there must be.
+fn stored_at(s: &[u8], letters: Part, bounds: Part, table: Part) -> StoredAt
+    requires { ⌜ Finds (now s) letters bounds table ⌝ }
+    ensures { λ r. ⌜ Reads (now (s .entry)) (assembledIn (fields referenceForm (now (s .entry)))) (stored.At r) ⌝ }
+{
+    let cds = cds_in(bytes_at(s, bounds), bytes_at(s, table));
+    let exceptions = part_or_empty(content_of(s, EXCEPTIONS));
+    StoredAt {
+        cds,
+        letters,
+        exceptions,
     }
 }
 
 // 20, 21 and 23 in field order, then 22, or where the reference stands.
 pub fn find_stored(s: &[u8]) -> Stored
-    ensures { λ r. ⌜ Reads (now (s .entry)) (assembledIn (fields (now (s .entry)))) r ⌝ }
+    ensures { λ r. ⌜ Reads (now (s .entry)) (assembledIn (fields referenceForm (now (s .entry)))) r ⌝ }
 {
     let refused = fields_refusal(s);
-    if 0 < refused {
+    if refused != 0 {
         return Stored::Refused(refused);
     }
-    let one = content_of(s, 1);
+    let one = content_of(s, LETTERS);
     let Content::At(letters) = one else {
         return Stored::Refused(22);
     };
-    let two = content_of(s, 2);
+    let two = content_of(s, BOUNDS);
     let Content::At(bounds) = two else {
         return Stored::Refused(22);
     };
-    let three = content_of(s, 3);
-    let Content::At(code) = three else {
+    let three = content_of(s, TABLE);
+    let Content::At(table) = three else {
         return Stored::Refused(22);
     };
-    let exceptions = span_of(content_of(s, 4));
-    let at = code.at;
-    Stored::At(StoredAt {
-        cs: two_bytes(s, bounds.at),
-        ce: two_bytes(s, bounds.at + 2),
-        table: wide(s[at]),
-        letters,
-        exceptions,
-    })
+    Stored::At(stored_at(s, letters, bounds, table))
 }

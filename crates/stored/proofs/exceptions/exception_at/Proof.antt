@@ -1,7 +1,7 @@
--- `fields::exceptions::exception_at` meets its contract. Assumes nothing.
+-- `stored::exceptions::exception_at` meets its contract. Assumes nothing.
 use borrow.Author.Needs.{needs}
-use Rattle.fields.proofs.exceptions.exception_at.Statement.{statement}
-use Rattle.fields.proofs.exceptions.exception_at.Tie as tie
+use Rattle.stored.proofs.exceptions.exception_at.Statement.{statement}
+use Rattle.stored.proofs.exceptions.exception_at.Tie as tie
 
 returns : tie.Need-returns
 returns c = rw (c .before .two-bytes .ensures)

@@ -1,12 +1,12 @@
--- `fields::exceptions::exceptions_in` meets its contract. Assumes nothing.
+-- `stored::exceptions::exceptions_in` meets its contract. Assumes nothing.
 use mathlib.Core.Path.{_≡_}
 use Prim.Native.Nat.{_-_, _≤_}
 use native.Mathlib.Omega.{arith}
 use borrow.Author.Needs.{needs}
-use Rattle.fields.specs.Held.{counted}
-use Rattle.fields.proofs.Held.{uneven, many, heldFirst, none-held, one-more, all-held}
-use Rattle.fields.proofs.exceptions.exceptions_in.Statement.{statement}
-use Rattle.fields.proofs.exceptions.exceptions_in.Tie as tie
+use Rattle.stored.specs.Held.{counted}
+use Rattle.stored.proofs.Held.{uneven, many, heldFirst, none-held, one-more, all-held}
+use Rattle.stored.proofs.exceptions.exceptions_in.Statement.{statement}
+use Rattle.stored.proofs.exceptions.exceptions_in.Tie as tie
 
 abbrev Inv-loop : tie.InvT-loop
 Inv-loop s all₀ count i₀ all i = (i ≤ count) × (all ≡ heldFirst s i)

@@ -22,7 +22,7 @@ shared-slice-read-letter-set-3 c =
     let a = c .before .before .before .before .before .before .before .args in
     omega (arith, within (a .letters .now) (a .c) (a .e) (c .before .before .before .before .before .before .before .pre))
 
-read-codon-requires : tie.Need-plain-codon-requires
+read-codon-requires : tie.Need-read-codon-requires
 read-codon-requires c κs =
     let a = c .before .before .before .before .before .before .before .before .args in
     let within = within (a .letters .now) (a .c) (a .e) (c .before .before .before .before .before .before .before .before .pre) in

@@ -1,10 +1,13 @@
--- `fields::tags::is_wrong_tag` meets its contract. Assumes nothing.
-use Rattle.fields.proofs.Cases.{tag-test}
-use Rattle.fields.proofs.tags.is_wrong_tag.Statement.{statement}
-use Rattle.fields.proofs.tags.is_wrong_tag.Tie as tie
+-- `stored::tags::is_wrong_tag` meets its contract. Assumes nothing.
+use borrow.Author.Needs.{needs}
+use Rattle.rules.specs.Stored.{isWrongTag}
+use Rattle.stored.proofs.Form.{not-rising}
+use Rattle.stored.proofs.tags.is_wrong_tag.Statement.{statement}
+use Rattle.stored.proofs.tags.is_wrong_tag.Tie as tie
 
 returns : tie.Need-returns
-returns c = tag-test (c .args .last) (c .args .tag)
+unfolding isWrongTag
+returns c = rw (c .is-tag .ensures, not-rising (c .before .args .last) (c .before .args .tag))
 
 pub is-wrong-tag-spec : {M : Type 1} → statement M
-is-wrong-tag-spec = tie.close (tie.spec returns)
+is-wrong-tag-spec = tie.close (tie.spec (λ c κs. search needs) returns)
