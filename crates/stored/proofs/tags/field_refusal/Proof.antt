@@ -2,6 +2,7 @@
 use mathlib.Core.Path.{_∙_}
 use borrow.Author.Needs.{needs}
 use Rattle.fields.specs.Refusals.{fieldRefusal}
+use Rattle.stored.proofs.Form.{cut-refusal, whole-refusal}
 use Rattle.stored.proofs.tags.field_refusal.Statement.{statement}
 use Rattle.stored.proofs.tags.field_refusal.Tie as tie
 
@@ -13,20 +14,18 @@ unfolding fieldRefusal
 returns c = rw (c .enum-told .given .1)
 
 returns-2 : tie.Need-returns-2
-unfolding fieldRefusal
-returns-2 c = c .refused-if .ensures ∙ rw (c .before .before .before .f .given .1, c .before .is-wrong-tag .ensures)
+returns-2 c =
+    let test = c .before .is-wrong-tag in
+    let a = c .before .before .before .before .before .before .args in
+    rw (c .before .before .before .f .given .1) (cut-refusal (a .last) _ (a .s .now) (test .result) (test .ensures) (c .refused-if .result) (c .refused-if .ensures))
 
 returns-3 : tie.Need-returns-3
-unfolding fieldRefusal
 returns-3 c =
-    c .refused-if3 .ensures
-    ∙ rw (
-      c .before .before .before .before .before .before .f2 .given .1,
-      c .before .before .before .before .is-wrong-tag2 .ensures,
-      c .before .refused-if2 .ensures,
-      c .before .before .is-wrong-content .ensures,
-      c .before .before .before .bytes-at .ensures,
-    )
+    let content = c .before .before in
+    let tag = content .before .before in
+    let a = tag .before .before .before .before .before .args in
+    rw (tag .before .before .f2 .given .1)
+    (whole-refusal (a .last) _ (a .s .now) (tag .is-wrong-tag2 .result) (tag .is-wrong-tag2 .ensures) (c .refused-if3 .result) _ (content .is-wrong-content .result) (c .before .refused-if2 .result) (content .is-wrong-content .ensures ∙ rw (content .before .bytes-at .ensures)) (c .before .refused-if2 .ensures) (c .refused-if3 .ensures))
 
 pub field-refusal-spec : {M : Type 1} → statement M
 field-refusal-spec =
