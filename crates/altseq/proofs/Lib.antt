@@ -4,3 +4,4 @@ pub mod Carrying
 pub mod Answering
 pub mod Transcribing
 pub mod Promised
+pub mod Agreeing

@@ -74,7 +74,7 @@ pub enum Class {
     Delins,
 }
 
-// `len` residues of a protein, behind the first `at`.
+// `len` bytes or residues, behind the first `at`.
 pub struct Part {
     pub at: usize,
     pub len: usize,

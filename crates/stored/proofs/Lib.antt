@@ -1,4 +1,7 @@
 -- Laws of stored references.
+pub mod Form
+pub mod Held
+pub mod Reading
 pub mod Last
 pub mod Judged
 pub mod Answered

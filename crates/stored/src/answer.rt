@@ -1,9 +1,9 @@
 // An edit of a stored reference.
+use crate::exceptions::exceptions_in;
+use crate::places::Stored;
+use crate::places::find_stored;
 use altseq::build_altseq;
-use fields::Stored;
 use fields::bytes_at;
-use fields::exceptions_in;
-use fields::find_stored;
 use rules::Answer;
 use rules::Edit;
 ghost use Rattle.rules.specs.Refusal.{limits};
@@ -32,9 +32,9 @@ pub fn build_altseq_stored(
             let e = exceptions_in(bytes_at(s, p.exceptions));
             build_altseq(
                 bytes_at(s, p.letters),
-                p.cs,
-                p.ce,
-                p.table,
+                p.cds.cs,
+                p.cds.ce,
+                p.cds.table,
                 e,
                 edit,
                 new,

@@ -1,20 +1,20 @@
 // Refusals 20 to 23, then 1 to 6, of a stored reference.
+use crate::exceptions::exceptions_in;
+use crate::places::Stored;
+use crate::places::StoredAt;
+use crate::places::find_stored;
 use crate::stop::ends_in_stop;
 use altseq::reference::Early;
 use altseq::reference::early_refusal;
-use fields::Stored;
-use fields::StoredAt;
 use fields::bytes_at;
-use fields::exceptions_in;
-use fields::find_stored;
 use rules::Cds;
 use rules::Exceptions;
 ghost use mathlib.Core.Path.{_≡_};
 ghost use Prim.Native.Nat.{_<_};
 ghost use Rattle.rules.specs.Refusal.{referenceRefusal};
 ghost use Rattle.rules.specs.Stored.{storedReference};
-ghost use Rattle.fields.specs.Reading.{referenceAt, Placed, Reads};
 ghost use Rattle.rules.specs.Views.{referenceOf};
+ghost use Rattle.stored.specs.Reading.{placedReference, Placed, Reads};
 
 // The lowest of 1 to 6 that applies, or 0.
 fn reference_refusal(letters: &[u8], c: Cds, e: Exceptions, longest: usize) -> usize
@@ -36,15 +36,10 @@ fn reference_refusal(letters: &[u8], c: Cds, e: Exceptions, longest: usize) -> u
 fn refusal_at(s: &[u8], p: StoredAt, longest: usize) -> usize
     requires { ⌜ longest < 4294967296 ⌝ }
     requires { ⌜ Placed (now s) p ⌝ }
-    ensures { λ r. ⌜ r ≡ referenceRefusal longest (referenceAt (now (s .entry)) p) ⌝ }
+    ensures { λ r. ⌜ r ≡ referenceRefusal longest (placedReference (now (s .entry)) p) ⌝ }
 {
-    let c = Cds {
-        cs: p.cs,
-        ce: p.ce,
-        table: p.table,
-    };
     let e = exceptions_in(bytes_at(s, p.exceptions));
-    reference_refusal(bytes_at(s, p.letters), c, e, longest)
+    reference_refusal(bytes_at(s, p.letters), p.cds, e, longest)
 }
 
 // Where the reference that the bytes store stands in them, or its one refusal: 20, 21 and 23 in field order, then 22, then 1 to 6. No byte is

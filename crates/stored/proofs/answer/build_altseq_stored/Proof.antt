@@ -2,7 +2,7 @@
 use mathlib.Core.Path.{ap, _∙_}
 use borrow.Author.Needs.{needs}
 use Rattle.rules.specs.Refusal.{limits}
-use Rattle.fields.specs.Held.{exceptionsOf}
+use Rattle.stored.specs.Held.{exceptionsOf}
 use Rattle.rules.specs.Views.{asked, roomOf}
 use Rattle.stored.proofs.Judged.{unfound}
 use Rattle.stored.proofs.Answered.{refuses, answers}

@@ -2,7 +2,7 @@
 use mathlib.Core.Path.{sym, _∙_}
 use native.Mathlib.Omega.{arith}
 use borrow.Author.Needs.{needs}
-use Rattle.fields.proofs.Reading.{refuses}
+use Rattle.stored.proofs.Reading.{refuses}
 use Rattle.stored.proofs.Judged.{unfound, refused-at, reads-at}
 use Rattle.stored.proofs.reference.read_stored.Statement.{statement}
 use Rattle.stored.proofs.reference.read_stored.Tie as tie
