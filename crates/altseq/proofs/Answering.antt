@@ -33,7 +33,7 @@ use Rattle.edits.specs.declared.decision.Decision.{Decision}
 use Rattle.edits.specs.declared.decision.Decision.the-variants as decision
 use Rattle.edits.specs.Plans.{planOf}
 use Rattle.edits.specs.Decisions.{decisionOf}
-use Rattle.edits.proofs.Plans.{bare-plan}
+use Rattle.edits.proofs.Planning.{bare-plan}
 use Rattle.edits.proofs.Deciding.{decided-refusal, decided-unknown, decided-plan}
 use Rattle.transcript.proofs.Transcripts.{carried-by-is}
 use Rattle.altseq.specs.Carried.{proteinBy, reportBy, Carries}
