@@ -127,6 +127,7 @@ module _ (m : Limits) (s : List ℕ) (k : Known) (e : Exceptions) (protein : Lis
       refused : (n : ℕ) → refusal m (referenceOf s (k .cds) e) a ≡ n → 1 ≤ n → outcome m (referenceOf s (k .cds) e) a room ≡ writesNothing (answer.Refused n)
       refused zero h some = absurd (omega arith)
       refused (suc n) h some = refused-by m (referenceOf s (k .cds) e) a room n h
+
       by : (d : Decision) → decisionOf (m .most) (k .several) (bare s (k .cds)) a ≡ d
           → outcome m (referenceOf s (k .cds) e) a room ≡ decidedOutcome (referenceOf s (k .cds) e) (withRoom (k .cds) room d) (a .new)
       by (decision.Refused n) h =
@@ -149,11 +150,10 @@ module _ (c : Cds) (room : Room) (d : Decision) where
 
   module _ (p : Plan) (h : d ≡ decision.Goes p) (n : ℕ) (is : n ≡ roomBy c (p .length) room) where
     pub room-refused : (n ≡ 0 → ⊥) → decision.Refused n ≡ withRoom c room d
-    unfolding withRoom
+    unfolding withRoom goesBy
     room-refused some = rw (h, ← is) (by n some)
       where
         by : (n : ℕ) → (n ≡ 0 → ⊥) → decision.Refused n ≡ goesBy n p
-        unfolding goesBy
         by zero some = absurd (some refl)
         by (suc n) some = refl
 

@@ -2,6 +2,7 @@
 pub mod Coding
 pub mod Carrying
 pub mod Answering
+pub mod Whole
 pub mod Transcribing
 pub mod Promised
 pub mod Agreeing

@@ -8,18 +8,22 @@ use native.Mathlib.Omega.{arith}
 use lib.Dec.{ltb}
 use lib.ListN.{length}
 use borrow.Author.Tests.{lt-ltb, le-ltb}
+use Rattle.rules.specs.declared.Cds.{Cds}
 use Rattle.rules.specs.declared.Exceptions.{Exceptions}
 use Rattle.rules.specs.declared.Limits.{Limits}
 use Rattle.rules.specs.Bytes.{if_then_else_, over}
-use Rattle.rules.specs.Reference.{Reference}
+use Rattle.rules.specs.Reference.{Reference, referenceProtein}
 use Rattle.rules.specs.Edit.{Asked}
 use Rattle.rules.specs.Altered.{alteredTranscript, alteredLength, frameshift}
 use Rattle.rules.specs.Record.{isUnknown}
-use Rattle.rules.specs.Refusal.{referenceRefusal, refusal}
+use Rattle.rules.specs.Refusal.{limits, referenceRefusal, refusal}
 use Rattle.rules.specs.Views.{bare, referenceOf}
 use Rattle.rules.proofs.Refusal.{refused-reference}
 use Rattle.reference.specs.declared.Known.{Known}
-use Rattle.reference.specs.Known.{Knows}
+use Rattle.reference.specs.declared.Checked.{Checked}
+use Rattle.reference.specs.declared.Checked.the-variants as checked
+use Rattle.reference.specs.Known.{knownOf, checkedOf, Knows}
+use Rattle.reference.proofs.Checking.{checked-accepted, cds-known}
 use Rattle.edits.specs.declared.plans.Plan.{Plan}
 use Rattle.edits.specs.declared.decision.Decision.{Decision}
 use Rattle.edits.specs.declared.decision.Decision.the-variants as decision
@@ -76,6 +80,27 @@ module _ (m : Limits) (r : Reference) (a : Asked) (room : ℕ) where
   pub reference-refused : (n : ℕ) → referenceRefusal (m .longest) r ≡ n → (n ≡ 0 → ⊥) → edited m r a room ≡ unwritten (Refused n)
   reference-refused zero h some = absurd (some refl)
   reference-refused (suc n) h some = edited-refused (suc n) (refused-reference m r a n h) some
+
+-- what is known of a reference that the check accepts
+module _ (s : List ℕ) (c : Cds) (e : Exceptions) (x : Checked) (is : x ≡ checkedOf (limits .longest) s c e) (k : Known) (h : x ≡ checked.Known k) where
+  pub cds-at : k .cds ≡ c
+  cds-at =
+      let ok = checked-accepted (limits .longest) s c e x is k h in
+      cds-known limits s c e k (ok .0) (ok .1)
+
+  pub known-at : Knows limits s k e (referenceProtein (referenceOf s (k .cds) e))
+  known-at =
+      let ok = checked-accepted (limits .longest) s c e x is k h in
+      record {
+        accepted = rw cds-at (ok .0);
+        is = ok .1 ∙ ap (λ (c : Cds). knownOf s c e) (sym cds-at);
+        read = refl;
+        small = omega arith;
+      }
+
+-- the answer for a CDS that is known as another
+pub edited-cds : (s : List ℕ) (c d : Cds) (e : Exceptions) (a : Asked) (room : ℕ) → c ≡ d → edited limits (referenceOf s c e) a room ≡ edited limits (referenceOf s d e) a room
+edited-cds s c d e a room is = ap (λ (c : Cds). edited limits (referenceOf s c e) a room) is
 
 planned : (r : Reference) (a : Asked) → alteredLength r a ≤ planOf r a .length
 unfolding planOf

@@ -1,9 +1,12 @@
 -- What is answered and written by what was decided of an edit.
-use Prim.Native.Nat.{ℕ, zero, suc, _+_, _-_}
+use Prim.Native.Nat.{ℕ, zero, suc, _+_, _-_, _≤_}
+use mathlib.Core.Path.{_≡_}
 use mathlib.Core.Bool.{Bool}
 use mathlib.Core.List.{List, []}
-use lib.ListN.{take}
+use lib.ListN.{length, take}
 use Rattle.rules.specs.declared.Cds.{Cds}
+use Rattle.rules.specs.declared.Exceptions.{Exceptions}
+use Rattle.rules.specs.declared.Report.{Report}
 use Rattle.rules.specs.declared.Answer.{Answer}
 use Rattle.rules.specs.declared.Answer.the-variants as answer
 use Rattle.rules.specs.Bytes.{firstOf}
@@ -12,6 +15,8 @@ use Rattle.rules.specs.Edit.{Asked}
 use Rattle.rules.specs.Refusal.{limits, Room, roomTests}
 use Rattle.rules.specs.Views.{cdsOf}
 use Rattle.rules.specs.Answer.{Outcome, writesNothing, unknownReport}
+use Rattle.reference.specs.declared.Known.{Known}
+use Rattle.reference.specs.Known.{Knows}
 use Rattle.edits.specs.declared.plans.Plan.{Plan}
 use Rattle.edits.specs.declared.decision.Decision.{Decision}
 use Rattle.edits.specs.declared.decision.Decision.the-variants as decision
@@ -48,7 +53,18 @@ decidedOutcome r (decision.Goes p) new =
       altered = proteinBy r p new;
     }
 
+-- a reference that was checked at the library's limits
+pub record Accepts (s : List ℕ) (k : Known) : Type 0 where
+  pub exceptions : Exceptions
+  pub protein : List ℕ
+  pub known : Knows limits s k exceptions protein
+
 -- as much of R as an answer reports
 unfoldable pub referenceIn : Answer → List ℕ → List ℕ
 referenceIn (answer.Refused n) protein = []
 referenceIn (answer.Reported p) protein = take (p .reference) protein
+
+-- so much is there, and has room
+pub record Copies (a : Answer) (protein reference : List ℕ) : Type 0 where
+  pub there : (p : Report) → a ≡ answer.Reported p → p .reference ≤ length protein
+  pub room : (p : Report) → a ≡ answer.Reported p → p .reference ≤ length reference

@@ -22,10 +22,9 @@ ghost use Rattle.rules.specs.Bytes.{over};
 ghost use Rattle.rules.specs.Refusal.{limits};
 ghost use Rattle.rules.specs.Answer.{unknownReport, outcome, Answers};
 ghost use Rattle.rules.specs.Views.{bare, asked, referenceOf, roomOf};
-ghost use Rattle.reference.specs.Known.{Checks};
 ghost use Rattle.edits.specs.declared.plans.Plan.{Plan};
 ghost use Rattle.altseq.specs.Carried.{Carries};
-ghost use Rattle.altseq.specs.Decided.{decidedIn, decidedOutcome, referenceIn};
+ghost use Rattle.altseq.specs.Decided.{decidedIn, decidedOutcome, Accepts, referenceIn, Copies};
 
 // Zero lengths and no flag.
 fn unknown_report() -> Report
@@ -60,14 +59,21 @@ fn answer_decided(
         Decision::Refused(n) => Answer::Refused(n),
         Decision::Unknown => Answer::Reported(unknown_report()),
         Decision::Goes(plan) => Answer::Reported(carry_out(
-            letters, known, e, protein, plan, new, transcript, altered,
+            letters,
+            known,
+            e,
+            protein,
+            plan,
+            new,
+            transcript,
+            altered,
         )),
     }
 }
 
 // Copies as much of R as an answer reports.
 fn copy_reference(answer: Answer, protein: &[u8], reference: &mut [u8])
-    requires { ⌜ length (referenceIn answer (now protein)) ≤ length (now reference) ⌝ }
+    requires { ⌜ Copies answer (now protein) (now reference) ⌝ }
     ensures { λ _. ⌜ now (reference .exit) ≡ over (referenceIn answer (now (protein .entry))) (now (reference .entry)) ⌝ }
 {
     match answer {
@@ -89,7 +95,7 @@ fn decide_in(
     reference: usize,
     altered: usize,
 ) -> Decision
-    requires { ⌜ Checks (now letters) known ⌝ }
+    requires { ⌜ Accepts (now letters) known ⌝ }
     ensures { λ r. ⌜ r ≡ decidedIn (known .several) (bare (now (letters .entry)) (known .cds)) (asked edit (now (new .entry))) (record { transcript = transcript; reference = reference; altered = altered }) ⌝ }
 {
     let decided = decide(letters, known, MOST, edit, new);
@@ -116,8 +122,25 @@ pub fn build_altseq(
         Checked::Refused(n) => Answer::Refused(n),
         Checked::Known(known) => {
             let residues = known.residues;
-            let decision = decide_in(letters, known, edit, new, transcript.len(), reference.len(), altered.len());
-            let answer = answer_decided(letters, known, e, &protein[..residues], decision, new, transcript, altered);
+            let decision = decide_in(
+                letters,
+                known,
+                edit,
+                new,
+                transcript.len(),
+                reference.len(),
+                altered.len(),
+            );
+            let answer = answer_decided(
+                letters,
+                known,
+                e,
+                &protein[..residues],
+                decision,
+                new,
+                transcript,
+                altered,
+            );
             copy_reference(answer, &protein[..residues], reference);
             answer
         }

@@ -59,11 +59,11 @@ returns c =
     let wrote = c .before .before .before .before .before .before .before .before .before .write-transcript in
     let read = c .before .before .before .before .write-protein in (
       reports (a .letters .now) (a .known) (a .e) (a .protein .now) (a .plan) (a .new .now) (a .transcript .now) (a .altered .now) (c .before .before .before .before .before .before .before .before .before .before .before .before .before .before .before .before .pre) (wrote .result) _ (wrote .ensures .0) (wrote .ensures .1)
-      (read .result) _ (read .ensures .0) (read .ensures .1) (c .record-from .result) (c .record-from .ensures),
+          (read .result) _ (read .ensures .0) (read .ensures .1) (c .record-from .result) (c .record-from .ensures),
       (
         wrote .ensures .1,
         holds-altered (a .letters .now) (a .known) (a .e) (a .protein .now) (a .plan) (a .new .now) (a .transcript .now) (a .altered .now) (c .before .before .before .before .before .before .before .before .before .before .before .before .before .before .before .before .pre) (wrote .result) _ (wrote .ensures .0) (wrote .ensures .1)
-        (read .result) _ (read .ensures .0) (read .ensures .1),
+            (read .result) _ (read .ensures .0) (read .ensures .1),
       ),
     )
 
