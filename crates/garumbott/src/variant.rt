@@ -6,7 +6,7 @@ use crate::numbers::edit_at;
 use crate::numbers::transcribed_of;
 use altseq::build_altseq;
 use altseq::build_transcript;
-use fields::exceptions_in;
+use stored::exceptions_in;
 ghost use mathlib.Core.Path.{_≡_};
 ghost use lib.ListN.{length};
 ghost use Rattle.rules.specs.Bytes.{over};
@@ -64,7 +64,5 @@ pub extern "C" fn garumbott_record(
     let cds = cds_at(cs, ce, table);
     let e = exceptions_in(exceptions);
     let edit = edit_at(kind, start_star, start, end_star, end);
-    answer_of(build_altseq(
-        letters, cds, e, edit, bases, transcript, reference, altered,
-    ))
+    answer_of(build_altseq(letters, cds, e, edit, bases, transcript, reference, altered))
 }

@@ -30,7 +30,16 @@ fn answer_at(
         r (now (transcript .entry)) (now (transcript .exit)) (now (reference .entry)) (now (reference .exit)) (now (altered .entry)) (now (altered .exit)) ⌝ }
 {
     let e = exceptions_in(bytes_at(s, p.exceptions));
-    build_altseq(bytes_at(s, p.letters), p.cds, e, edit, new, transcript, reference, altered)
+    build_altseq(
+        bytes_at(s, p.letters),
+        p.cds,
+        e,
+        edit,
+        new,
+        transcript,
+        reference,
+        altered,
+    )
 }
 
 // The answer to an edit of the reference that the bytes store: its refusal, 20 to 23 and then 1 to 6, else as `build_altseq` answers, which

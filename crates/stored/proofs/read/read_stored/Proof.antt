@@ -1,29 +1,32 @@
--- `stored::reference::read_stored` meets its contract. Assumes nothing.
+-- `stored::read::read_stored` meets its contract. Assumes nothing.
 use mathlib.Core.Path.{sym, _∙_}
-use native.Mathlib.Omega.{arith}
 use borrow.Author.Needs.{needs}
+use Rattle.rules.specs.Refusal.{limits}
 use Rattle.stored.proofs.Reading.{refuses}
 use Rattle.stored.proofs.Judged.{unfound, refused-at, reads-at}
-use Rattle.stored.proofs.reference.read_stored.Statement.{statement}
-use Rattle.stored.proofs.reference.read_stored.Tie as tie
+use Rattle.stored.proofs.read.read_stored.Statement.{statement}
+use Rattle.stored.proofs.read.read_stored.Tie as tie
 
 refusal-at-requires : tie.Need-refusal-at-requires
-refusal-at-requires c κs = (omega arith, c .before .before .before .find-stored .ensures .stands _ (c .before .p .given .1))
+refusal-at-requires c κs = c .before .before .before .find-stored .ensures .stands _ (c .before .p .given .1)
 
 returns : tie.Need-returns
 returns c =
-    let s = c .before .before .before .before .before .before .before .args .s .now in
-    refuses s _ _ (refused-at 16384 s (c .before .before .before .before .before .find-stored .result) (c .before .before .before .before .before .find-stored .ensures) _ (c .before .before .before .p .given .1) (c .before .refusal-at .result) (c .before .refusal-at .ensures) (c .if1 .taken))
+    let found = c .before .before .before .before .before in
+    let s = found .before .before .args .s .now in
+    refuses s _ _ (refused-at (limits .longest) s (found .find-stored .result) (found .find-stored .ensures) _ (c .before .before .before .p .given .1) (c .before .refusal-at .result) (c .before .refusal-at .ensures) (c .if1 .taken))
 
 returns-2 : tie.Need-returns-2
 returns-2 c =
-    let s = c .before .before .before .before .before .args .s .now in
-    refuses s _ _ (unfound 16384 s (c .before .before .before .find-stored .result) (c .before .before .before .find-stored .ensures) _ (c .before .n .given .1))
+    let found = c .before .before .before in
+    let s = found .before .before .args .s .now in
+    refuses s _ _ (unfound (limits .longest) s (found .find-stored .result) (found .find-stored .ensures) _ (c .before .n .given .1))
 
 returns-3 : tie.Need-returns-3
 returns-3 c =
-    let s = c .before .before .before .before .before .before .before .args .s .now in
-    reads-at 16384 s (c .before .before .before .before .before .find-stored .result) (c .before .before .before .before .before .find-stored .ensures) _ (c .before .before .before .p .given .1) (sym (c .if1 .left) ∙ c .before .refusal-at .ensures)
+    let found = c .before .before .before .before .before in
+    let s = found .before .before .args .s .now in
+    reads-at (limits .longest) s (found .find-stored .result) (found .find-stored .ensures) _ (c .before .before .before .p .given .1) (sym (c .if1 .left) ∙ c .before .refusal-at .ensures)
 
 pub read-stored-spec : {M : Type 1} → statement M
 read-stored-spec =
