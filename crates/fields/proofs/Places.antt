@@ -19,8 +19,7 @@ use Rattle.rules.specs.Stored.{twoBytes, field, Tagged}
 use Rattle.fields.specs.declared.reader.Field.{Field}
 use Rattle.fields.specs.declared.reader.Field.the-variants.{Whole, Cut, End}
 use Rattle.fields.specs.declared.lookup.Content.the-variants.{At, Missing}
-use Rattle.fields.specs.Places.{placed, fieldAt, wholeThen, wholeFrom, wholeFields, placeOf, contentAt}
-use Rattle.fields.specs.Refusals.{Within}
+use Rattle.fields.specs.Places.{placed, fieldAt, Within, wholeThen, wholeFrom, wholeFields, placeOf, contentAt}
 use Rattle.fields.proofs.reader.Field.{the-type}
 
 pub length-of-part : (s : List ℕ) (p : Part) → p .at + p .len ≤ length s → length (partOf p s) ≡ p .len
