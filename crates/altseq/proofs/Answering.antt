@@ -33,7 +33,7 @@ use Rattle.edits.specs.declared.decision.Decision.{Decision}
 use Rattle.edits.specs.declared.decision.Decision.the-variants as decision
 use Rattle.edits.specs.Plans.{planOf}
 use Rattle.edits.specs.Decisions.{decisionOf}
-use Rattle.edits.proofs.Plans.{bare-plan}
+use Rattle.edits.proofs.Planning.{bare-plan}
 use Rattle.edits.proofs.Deciding.{decided-refusal, decided-unknown, decided-plan}
 use Rattle.transcript.proofs.Transcripts.{carried-by-is}
 use Rattle.altseq.specs.Carried.{proteinBy, reportBy, Carries}
@@ -138,8 +138,32 @@ module _ (m : Limits) (s : List ℕ) (k : Known) (e : Exceptions) (protein : Lis
           unknown-by m (referenceOf s (k .cds) e) a room (allowed-is ∙ both .0) (unknown-is ∙ both .1)
       by (decision.Goes p) h = room-goes p h room
 
+-- the ways out of `with_room`
+module _ (c : Cds) (room : Room) (d : Decision) where
+  pub stays-refused : (n : ℕ) → d ≡ decision.Refused n → decision.Refused n ≡ withRoom c room d
+  unfolding withRoom
+  stays-refused n h = rw h
+
+  pub stays-unknown : d ≡ decision.Unknown → decision.Unknown ≡ withRoom c room d
+  unfolding withRoom
+  stays-unknown h = rw h
+
+  module _ (p : Plan) (h : d ≡ decision.Goes p) (n : ℕ) (is : n ≡ roomBy c (p .length) room) where
+    pub room-refused : (n ≡ 0 → ⊥) → decision.Refused n ≡ withRoom c room d
+    unfolding withRoom
+    room-refused some = rw (h, ← is) (by n some)
+      where
+        by : (n : ℕ) → (n ≡ 0 → ⊥) → decision.Refused n ≡ goesBy n p
+        unfolding goesBy
+        by zero some = absurd (some refl)
+        by (suc n) some = refl
+
+    pub room-enough : n ≡ 0 → decision.Goes p ≡ withRoom c room d
+    unfolding withRoom goesBy
+    room-enough z = rw (h, ← is, z)
+
 -- only a plan with room goes
-room-left : (c : Cds) (room : Room) (d : Decision) (p : Plan) → withRoom c room d ≡ decision.Goes p → (d ≡ decision.Goes p) × (roomBy c (p .length) room ≡ 0)
+pub room-left : (c : Cds) (room : Room) (d : Decision) (p : Plan) → withRoom c room d ≡ decision.Goes p → (d ≡ decision.Goes p) × (roomBy c (p .length) room ≡ 0)
 unfolding withRoom goesBy
 room-left c room (decision.Refused n) p h = let z : _≡_ {A = ℕ} 0 1 = cc in absurd (omega arith)
 room-left c room decision.Unknown p h = let z : _≡_ {A = ℕ} 0 1 = cc in absurd (omega arith)

@@ -17,7 +17,7 @@ use Rattle.rules.specs.Reference.{Reference, referenceProtein}
 use Rattle.rules.specs.Edit.{Asked, kindOf}
 use Rattle.rules.specs.Altered.{alteredTranscript, alteredLength}
 use Rattle.rules.specs.Protein.{proteinOf}
-use Rattle.rules.specs.Record.{within, recordFrom, silentNumber}
+use Rattle.rules.specs.Record.{within, recordFrom, silentWithin, silentNumber}
 use Rattle.rules.specs.Views.{asked, referenceOf}
 use Rattle.rules.proofs.Over.{fits-over, read-back}
 use Rattle.rules.proofs.Altered.{AlteredLength, altered-length, altered-letters}
@@ -56,7 +56,7 @@ module _ (s : List ℕ) (k : Known) (e : Exceptions) (protein : List ℕ) (p : P
   plan-fits = rw (x .is) (fits-of (x .limits) r a (x .allowed) (length tx) (omega (arith, length-is, x .for-transcript)))
 
   pub silent-some : 1 ≤ p .number
-  unfolding planOf silentNumber within
+  unfolding planOf silentNumber silentWithin within
   silent-some = omega (arith, ap (λ (p : Plan). p .number) (x .is))
 
   -- the transcript is written

@@ -20,12 +20,15 @@ pub(crate) fn with_room(
     requires { ⌜ ((p : Plan) → decided ≡ Decision.Goes p → c .cs - 1 ≤ p .length) ⌝ }
     ensures { λ r. ⌜ r ≡ withRoom c (record { transcript = transcript; reference = reference; altered = altered }) decided ⌝ }
 {
-    let Decision::Goes(plan) = decided else {
-        return decided;
-    };
-    let refused = room_refusal(c, plan.length, transcript, reference, altered);
-    if refused != 0 {
-        return Decision::Refused(refused);
+    match decided {
+        Decision::Refused(n) => Decision::Refused(n),
+        Decision::Unknown => Decision::Unknown,
+        Decision::Goes(plan) => {
+            let refused = room_refusal(c, plan.length, transcript, reference, altered);
+            if refused != 0 {
+                return Decision::Refused(refused);
+            }
+            Decision::Goes(plan)
+        }
     }
-    decided
 }

@@ -9,7 +9,6 @@ use Rattle.rules.specs.Reference.{Reference}
 use Rattle.rules.specs.Edit.{Asked, endsPast, editTests}
 use Rattle.edits.specs.Plans.{planOf}
 use Rattle.edits.specs.declared.plans.Plan.{Plan}
-use Rattle.edits.specs.declared.decision.Decision.{Decision}
 use Rattle.edits.specs.declared.decision.Decision.the-variants.{Refused, Unknown, Goes}
 use Rattle.edits.specs.Decisions.{decisionBy, decisionOf}
 

@@ -3,8 +3,7 @@
 use mathlib.Core.Path.{_≡_, refl, sym, ap, _∙_}
 use mathlib.Core.Bool.{Bool, true, false, _&&_, _||_, not, and-true, or-false}
 use mathlib.Core.List.{List, [], _∷_, _++_}
-use Prim.Native.Nat.{ℕ, _+_, _-_, _*_, _%_, _≤_, _<_, min}
-use native.Mathlib.Nat.{le-refl}
+use Prim.Native.Nat.{ℕ, _+_, _-_, _%_, _≤_, _<_, min}
 use native.Mathlib.Omega.{arith}
 use borrow.Author.Tests.{eq-eqb}
 use lib.Dec.{eqb, ltb}
@@ -13,14 +12,12 @@ use lib.Seq.{length-take-le}
 use Rattle.rules.specs.declared.Kind.{Kind}
 use Rattle.rules.specs.declared.Kind.the-variants.{Substitution, Deletion, Delins, Insertion, Duplication, Inversion, Identity, Other}
 use Rattle.rules.specs.declared.Edit.{Edit}
-use Rattle.rules.specs.Bytes.{if_then_else_, same, all, firstOf}
+use Rattle.rules.specs.Bytes.{same, all, firstOf}
 use Rattle.rules.specs.Letters.{isLetter}
-use Rattle.rules.specs.Translation.{beforeStop}
-use Rattle.rules.specs.Complement.{reverseComplement}
 use Rattle.rules.specs.Reference.{Reference, size, cdsSize, cds, referenceProtein}
 use Rattle.rules.specs.Position.{index}
 use Rattle.rules.specs.Edit.{Asked, is, kindOf, startIndex, endIndex, editTests}
-use Rattle.rules.specs.Altered.{part, Swap, carried, isReplacing, isInserting, swapBy, swap, frame, hasStop, cutAtStop, findsStop, kept, cutSwap, alteredTranscript, deleted, inserted, cutOff, alteredLength, isUneven, leavesCds, putsBack, frameshift}
+use Rattle.rules.specs.Altered.{part, Swap, carried, isReplacing, isInserting, swapBy, swap, frame, findsStop, kept, cutSwap, alteredTranscript, deleted, inserted, cutOff, alteredLength, isUneven, leavesCds, putsBack, frameshift}
 use Rattle.rules.specs.Record.{silentWithin, silentNumber}
 use Rattle.rules.proofs.Tests.{or-left, or-right}
 use Rattle.rules.proofs.Translation.{length-translated}
@@ -30,7 +27,7 @@ use Rattle.rules.proofs.Altered.{kept-is, length-kept}
 use Rattle.edits.specs.declared.cut.Cut.{Cut}
 use Rattle.edits.specs.declared.plans.Range.{Range}
 use Rattle.edits.specs.declared.plans.Source.{Source}
-use Rattle.edits.specs.declared.plans.Source.the-variants.{New, Copy, Turned}
+use Rattle.edits.specs.declared.plans.Source.the-variants.{New}
 use Rattle.edits.specs.declared.plans.Plan.{Plan}
 use Rattle.rules.specs.declared.Cds.{Cds}
 use Rattle.rules.specs.Views.{bare, asked}

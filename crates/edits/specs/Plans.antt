@@ -12,7 +12,7 @@ use Rattle.rules.specs.Complement.{reverseComplement}
 use Rattle.rules.specs.Reference.{Reference, size}
 use Rattle.rules.specs.Position.{isOutside}
 use Rattle.rules.specs.Edit.{Asked, kindOf, startIndex, endIndex}
-use Rattle.rules.specs.Altered.{part, Swap, isReplacing, isInserting, swap, findsStop, kept, alteredLength, frameshift}
+use Rattle.rules.specs.Altered.{part, isReplacing, isInserting, swap, findsStop, kept, alteredLength, frameshift}
 use Rattle.rules.specs.Record.{silentNumber}
 use Rattle.edits.specs.declared.plans.Range.{Range}
 use Rattle.edits.specs.declared.plans.Source.{Source}

@@ -1,7 +1,7 @@
 -- Laws of positions that aren't outside, and of what an edit that isn't refused leaves.
 -- Assumes nothing.
 use mathlib.Core.Path.{_≡_, refl}
-use mathlib.Core.Bool.{Bool, true, false, _&&_, _||_}
+use mathlib.Core.Bool.{true, false, _&&_, _||_}
 use mathlib.Core.List.{List, [], _∷_}
 use Prim.Native.Nat.{ℕ, _+_, _-_, _≤_, max, zero-le}
 use native.Mathlib.Omega.{arith}

@@ -17,10 +17,10 @@ use Rattle.rules.proofs.Parts.{length-part, take-part, take-complement}
 use Rattle.rules.proofs.Refusal.{reference-accepted}
 use Rattle.rules.proofs.Span.{indexes, span}
 use Rattle.rules.proofs.Altered.{length-carried, altered-length}
-use Rattle.edits.specs.declared.swaps.Plan.{Plan}
-use Rattle.edits.specs.declared.swaps.Source.the-variants.{New, Copy, Turned}
+use Rattle.edits.specs.declared.plans.Plan.{Plan}
+use Rattle.edits.specs.declared.plans.Source.the-variants.{New, Copy, Turned}
 use Rattle.edits.specs.Plans.{planOf, sourceBytes, goesIn}
-use Rattle.edits.proofs.Plans.{kept-fits, transcript-is}
+use Rattle.edits.proofs.Planning.{kept-fits, transcript-is}
 use Rattle.transcript.specs.Carrying.{carriedBy, Sourced, Fits}
 
 module _ (p : Plan) (letters new : List ℕ) (i : Sourced p letters new) where

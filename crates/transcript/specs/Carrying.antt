@@ -7,7 +7,7 @@ use lib.ListN.{length}
 use Rattle.rules.specs.Bytes.{all}
 use Rattle.rules.specs.Letters.{isLetter}
 use Rattle.rules.specs.Altered.{carried}
-use Rattle.edits.specs.declared.swaps.Plan.{Plan}
+use Rattle.edits.specs.declared.plans.Plan.{Plan}
 use Rattle.edits.specs.Plans.{sourceBytes, goesIn}
 
 -- the bases from..to give way to what goes in

@@ -1,7 +1,7 @@
 // "Port order and changed forms": the altered transcript is built into a second buffer, which the caller lends.
 use codons::complement::complements;
-use edits::swaps::Plan;
-use edits::swaps::Source;
+use edits::plans::Plan;
+use edits::plans::Source;
 use sequences::write_revcomp;
 ghost use mathlib.Core.Path.{_≡_};
 ghost use mathlib.Core.List.{_++_};

@@ -13,7 +13,7 @@ use Rattle.transcript.proofs.write_rest.Statement.{statement}
 use Rattle.transcript.proofs.write_rest.Tie as tie
 
 write-put-requires : tie.Need-write-put-requires
-write-put-requires c κs = (c .before .before .before .before .pre .0, (c .before .before .before .before .pre .1 .0, omega arith))
+write-put-requires c κs = (c .before .before .before .before .pre .0, omega arith)
 
 returns : tie.Need-returns
 returns c =
@@ -26,7 +26,7 @@ returns c =
     let is = tail-is (a .plan .to) s in
     let many = length-goes-in (a .plan) s (now (a .new)) (c .before .before .before .before .before .before .before .before .before .before .before .before .pre .0) in
     let place : one .result ≡ length put = one .ensures .0 ∙ sym many in
-    let whole = one .last .1 .1 .1 .1 .0 in (
+    let whole = one .last .1 .1 .1 .0 in (
       search needs,
       lent-on-by put tail (now (a .rest)) whole (two .last .1 .0) (one .result) place (omega arith) (one .ensures .1)
           (copied-as (take (length s - a .plan .to) (drop (a .plan .to) s)) tail (take (length whole - one .result) (drop (one .result) whole)) (two .last .1 .0) is (two .ensures .1)),

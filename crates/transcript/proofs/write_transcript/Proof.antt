@@ -23,7 +23,7 @@ copy-requires : tie.Need-copy-requires
 copy-requires c κs = let a = c .before .before .before .before .before .args in rw (length-take-le (a .plan .from) (now (a .letters)) (omega arith)) (omega arith)
 
 write-rest-requires : tie.Need-write-rest-requires
-write-rest-requires c κs = (c .before .before .before .before .before .before .before .before .before .pre .0 .source, (c .before .before .before .before .before .before .before .before .before .pre .1, (omega arith, search needs)))
+write-rest-requires c κs = (c .before .before .before .before .before .before .before .before .before .pre .source, (omega arith, search needs))
 
 returns : tie.Need-returns
 unfolding carriedBy carried
@@ -35,9 +35,9 @@ returns c =
     let one = c .before .before .before .before .before .before .copy in
     let two = c .before .before .write-rest in
     let many : length front ≡ a .plan .from = length-take-le (a .plan .from) s (omega arith) in
-    let long = length-carried-by (a .plan) s (now (a .new)) (length (now (a .transcript))) (c .before .before .before .before .before .before .before .before .before .before .before .before .pre .0) in (
+    let long = length-carried-by (a .plan) s (now (a .new)) (length (now (a .transcript))) (c .before .before .before .before .before .before .before .before .before .before .before .before .pre) in (
       ap (λ (n : ℕ). a .plan .from + n) (two .ensures .0) ∙ sym long,
-      lent-on-by front rest (now (a .transcript)) (one .last .1 .0) (two .last .1 .1 .1 .1 .0) (a .plan .from) (sym many) (omega arith)
+      lent-on-by front rest (now (a .transcript)) (one .last .1 .0) (two .last .1 .1 .1 .0) (a .plan .from) (sym many) (omega arith)
           (one .ensures .1 ∙ copied front (now (a .transcript))) (two .ensures .1),
     )
 
