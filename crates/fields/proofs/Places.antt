@@ -6,8 +6,8 @@ use mathlib.Core.List.{List, [], _∷_}
 use Prim.Native.Nat.{ℕ, zero, suc, _+_, _≤_, _<_}
 use native.Mathlib.Omega.{arith}
 use lib.Dec.{leb}
-use lib.ListN.{length, take, drop, getD, length-drop}
-use lib.Seq.{length-take-le, drop-drop, getD-take, getD-drop}
+use lib.ListN.{length, take, drop, length-drop}
+use lib.Seq.{length-take-le, drop-drop}
 use denote.Enum.Declared.{tagOf}
 use types.Run.{OneOf, miss}
 use borrow.Author.Tests.{leb-true, eq-eqb, ne-eqb}
@@ -19,17 +19,12 @@ use Rattle.rules.specs.Stored.{twoBytes, field, Tagged}
 use Rattle.fields.specs.declared.reader.Field.{Field}
 use Rattle.fields.specs.declared.reader.Field.the-variants.{Whole, Cut, End}
 use Rattle.fields.specs.declared.lookup.Content.the-variants.{At, Missing}
-use Rattle.fields.specs.Places.{placed, fieldAt, wholeThen, wholeFrom, wholeFields, placeOf, contentAt}
-use Rattle.fields.specs.Refusals.{Within}
+use Rattle.fields.specs.Places.{placed, fieldAt, Within, wholeThen, wholeFrom, wholeFields, placeOf, contentAt}
 use Rattle.fields.proofs.reader.Field.{the-type}
 
 pub length-of-part : (s : List ℕ) (p : Part) → p .at + p .len ≤ length s → length (partOf p s) ≡ p .len
 unfolding partOf
 length-of-part s p h = length-take-le (p .len) (drop (p .at) s) (omega (arith, length-drop (p .at) s))
-
-pub byte-of-part : (s : List ℕ) (p : Part) (i : ℕ) → i < p .len → getD (partOf p s) i 0 ≡ getD s (p .at + i) 0
-unfolding partOf
-byte-of-part s p i h = getD-take (p .len) (drop (p .at) s) i 0 h ∙ getD-drop (p .at) s i 0
 
 -- a field that is cut off, or none
 pub not-whole : (f : Field) → OneOf (1 ∷ 2 ∷ []) (tagOf the-type f) → (t : ℕ) (p : Part) → f ≡ Whole t p → ⊥

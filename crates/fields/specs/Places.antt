@@ -1,5 +1,6 @@
 -- Fields and contents by their places in the caller's bytes.
-use Prim.Native.Nat.{ℕ, zero, suc, _+_}
+use Prim.Native.Nat.{ℕ, zero, suc, _+_, _≤_}
+use mathlib.Core.Path.{_≡_}
 use mathlib.Core.List.{List, [], _∷_}
 use lib.Dec.{eqb}
 use lib.ListN.{length, drop}
@@ -22,12 +23,17 @@ placed at (stored.whole tag content rest) = Whole tag (record { at = at + 3; len
 abbrev pub fieldAt : List ℕ → ℕ → Field
 fieldAt s at = placed at (stored.field (drop at s))
 
--- the whole fields that bytes begin with, whatever their tags; `fuel` is at least their number
+-- the content of a whole field stands within the bytes
+abbrev pub Within : List ℕ → Field → Type 0
+Within s f = (tag : ℕ) (p : Part) → f ≡ Whole tag p → p .at + p .len ≤ length s
+
+-- a whole field, and those that the bytes behind it give
 unfoldable pub wholeThen : stored.Field → (List ℕ → List Tagged) → List Tagged
 wholeThen stored.ended more = []
 wholeThen (stored.cut tag) more = []
 wholeThen (stored.whole tag content rest) more = record { tag = tag; content = content } ∷ more rest
 
+-- the whole fields that bytes begin with, whatever their tags; `fuel` is at least their number
 unfoldable pub wholeFrom : ℕ → List ℕ → List Tagged
 wholeFrom zero s = []
 wholeFrom (suc fuel) s = wholeThen (stored.field s) (λ rest. wholeFrom fuel rest)

@@ -1,9 +1,6 @@
 -- What one field is refused with, and what a reading of all fields tells: its number, or its fields.
-use Prim.Native.Nat.{ℕ, _+_, _≤_}
-use mathlib.Core.Path.{_≡_}
+use Prim.Native.Nat.{ℕ}
 use mathlib.Core.List.{List, []}
-use lib.ListN.{length}
-use Rattle.rules.specs.declared.Part.{Part}
 use Rattle.rules.specs.Bytes.{if_then_else_, Result, given, refused}
 use Rattle.rules.specs.Record.{partOf}
 use Rattle.rules.specs.Stored.{Form, isWrongTag, isWrongContent, Tagged}
@@ -16,10 +13,6 @@ fieldRefusal form last s End = 0
 fieldRefusal form last s (Cut tag) = if isWrongTag form last tag then 21 else 20
 fieldRefusal form last s (Whole tag p) =
     if isWrongTag form last tag then 21 else if isWrongContent form tag (partOf p s) then 23 else 0
-
--- the content of a whole field stands within the bytes
-abbrev pub Within : List ℕ → Field → Type 0
-Within s f = (tag : ℕ) (p : Part) → f ≡ Whole tag p → p .at + p .len ≤ length s
 
 -- the refusal's number, and 0 where there is none
 unfoldable pub refusalIn : Result (List Tagged) → ℕ

@@ -2,7 +2,6 @@
 pub mod Form
 pub mod Held
 pub mod Reading
-pub mod Last
 pub mod Judged
 pub mod Answered
 pub mod Promised

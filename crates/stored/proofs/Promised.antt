@@ -33,16 +33,5 @@ module _ (longest : ℕ) (s : List ℕ) (r : Stored) (h : Reads s (storedReferen
       by (Refused n) q = let z : _≡_ {A = ℕ} 0 1 = cc in absurd (omega arith)
       by (At p) q = record { place = p; is = refl; tells = cc }
 
-  pub same-refusal : (n : ℕ) → storedReference longest s ≡ refused n → r ≡ Refused n
-  unfolding toldReference
-  same-refusal n e = by r (h .says ∙ e)
-    where
-      by : (r : Stored) → toldReference s r ≡ refused n → r ≡ Refused n
-      by (Refused m) q = ap Refused (numbers q)
-        where
-          numbers : {a b : ℕ} → _≡_ {A = Result Reference} (refused a) (refused b) → a ≡ b
-          numbers h = cc
-      by (At p) q = let z : _≡_ {A = ℕ} 0 1 = cc in absurd (omega arith)
-
 pub single-answer : (longest : ℕ) (s : List ℕ) (r q : Stored) → Reads s (storedReference longest s) r → Reads s (storedReference longest s) q → r ≡ q
 single-answer longest s r q h k = single s (storedReference longest s) r q h k

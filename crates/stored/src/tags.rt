@@ -3,10 +3,10 @@ use fields::Field;
 use fields::bytes_at;
 use fields::next_field;
 ghost use mathlib.Core.Path.{_≡_};
-ghost use mathlib.Core.Bool.{not};
 ghost use Rattle.rules.specs.Bytes.{if_then_else_};
 ghost use Rattle.rules.specs.Stored.{isWrongTag, isWrongContent, referenceForm, fields};
-ghost use Rattle.fields.specs.Refusals.{fieldRefusal, Within, refusalIn};
+ghost use Rattle.fields.specs.Places.{Within};
+ghost use Rattle.fields.specs.Refusals.{fieldRefusal, refusalIn};
 
 pub(crate) const LETTERS: u8 = 1;
 // cs and ce, two bytes each.
