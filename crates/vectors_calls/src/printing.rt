@@ -1,11 +1,21 @@
 // What is answered, behind a colon: the record or the refusal, the flag, and what each of the three buffers holds.
+use numbers::wide;
 use rules::Answer;
 use rules::Change;
 use rules::Class;
 use rules::Part;
 use rules::Record;
 use rules::Report;
-ghost use Prim.Native.Nat.{_<_};
+ghost use mathlib.Core.Path.{_≡_};
+ghost use lib.ListN.{drop};
+ghost use Rattle.vectors_calls.specs.Printed.{checkValue, areMarkers};
+
+// One more than any answer takes.
+pub const TRANSCRIPT_ROOM: usize = 32769;
+
+pub const REFERENCE_ROOM: usize = 5462;
+
+pub const ALTERED_ROOM: usize = 10924;
 
 pub fn print(s: &[u8]) {
     io::write_all(1, s);
@@ -16,7 +26,7 @@ fn print_number(n: usize) {
 }
 
 // The number behind a space.
-fn print_next(n: usize) {
+pub fn print_next(n: usize) {
     print(b" ");
     print_number(n);
 }
@@ -52,7 +62,7 @@ fn print_change(change: Change) {
     print_next(change.first);
 }
 
-fn print_record(found: Record) {
+pub fn print_record(found: Record) {
     match found {
         Record::Unknown => print(b" unknown"),
         Record::NoProtein => print(b" no-protein"),
@@ -67,14 +77,10 @@ fn print_record(found: Record) {
     }
 }
 
-fn wide(b: u8) -> usize
-    ensures { λ r. ⌜ r < 256 ⌝ }
-{
-    b as usize
-}
-
 // A check value of bytes in their order.
-fn value_of(s: &[u8]) -> usize {
+fn value_of(s: &[u8]) -> usize
+    ensures { λ r. ⌜ r ≡ checkValue (now (s .entry)) ⌝ }
+{
     let mut x = 0;
     let mut i = 0;
     while i < s.len() {
@@ -85,7 +91,9 @@ fn value_of(s: &[u8]) -> usize {
 }
 
 // Whether the bytes from a place on are the marker's.
-fn keeps(s: &[u8], from: usize) -> bool {
+fn keeps(s: &[u8], from: usize) -> bool
+    ensures { λ r. ⌜ r ≡ areMarkers (drop from (now (s .entry))) ⌝ }
+{
     let mut i = from;
     while i < s.len() {
         if s[i] != b'.' {
@@ -118,29 +126,44 @@ fn print_buffer(s: &[u8], n: usize) {
     }
 }
 
-fn print_buffers(tx: &[u8], rp: &[u8], ap: &[u8], t: usize, r: usize, a: usize) {
-    print_buffer(tx, t);
-    print_buffer(rp, r);
-    print_buffer(ap, a);
+// How many bytes were written to each buffer.
+struct Lengths {
+    transcript: usize,
+    reference: usize,
+    altered: usize,
 }
 
-pub fn print_answer(answer: Answer, tx: &[u8; 32769], rp: &[u8; 5462], ap: &[u8; 10924]) {
+fn print_buffers(transcript: &[u8], reference: &[u8], altered: &[u8], n: Lengths) {
+    print_buffer(transcript, n.transcript);
+    print_buffer(reference, n.reference);
+    print_buffer(altered, n.altered);
+}
+
+pub fn print_answer(
+    answer: Answer,
+    transcript: &[u8; TRANSCRIPT_ROOM],
+    reference: &[u8; REFERENCE_ROOM],
+    altered: &[u8; ALTERED_ROOM],
+) {
     match answer {
         Answer::Refused(n) => {
             print(b" refused");
             print_next(n);
-            print_buffers(tx, rp, ap, 0, 0, 0);
+            let none = Lengths {
+                transcript: 0,
+                reference: 0,
+                altered: 0,
+            };
+            print_buffers(transcript, reference, altered, none);
         }
         Answer::Reported(report) => {
             print_report(report);
-            print_buffers(
-                tx,
-                rp,
-                ap,
-                report.transcript,
-                report.reference,
-                report.altered,
-            );
+            let written = Lengths {
+                transcript: report.transcript,
+                reference: report.reference,
+                altered: report.altered,
+            };
+            print_buffers(transcript, reference, altered, written);
         }
     }
 }

@@ -1,6 +1,7 @@
 -- A line ends no earlier than it begins. Assumes nothing.
 use Prim.Native.Nat.{_+_, _≤_, _-_}
 use lib.ListN.{length}
+use native.Mathlib.Omega.{arith}
 use borrow.Author.Needs.{needs}
 use Rattle.vectors_calls.proofs.answer_lines.Statement.{statement}
 use Rattle.vectors_calls.proofs.answer_lines.Tie as tie

@@ -3,7 +3,7 @@ use borrow.Author.Needs.{needs}
 use lib.ListN.{length}
 use Rattle.rules.specs.Refusal.{limits}
 use Rattle.rules.specs.Views.{cdsOf}
-use Rattle.garumbott.specs.Host.{askedAt}
+use Rattle.garumbott.specs.Host.{hostAsked}
 use Rattle.garumbott.proofs.Excepted.{edited-given}
 use Rattle.garumbott.proofs.Given.{given-edit}
 use Rattle.garumbott.proofs.variant.garumbott_edit.Statement.{statement}
@@ -14,7 +14,7 @@ returns c =
     let a = c .before .before .before .before .before .before .before .before .before .before .args in
     let x = c .before .before .build-transcript .ensures in
     let edit = given-edit (a .kind) (a .start-star) (a .start) (a .end-star) (a .end) (c .before .before .before .before .before .before .before .before .before .before .fits .start) (c .before .before .before .before .before .before .before .before .before .before .fits .end) (c .before .before .before .before .edit-at .result) (c .before .before .before .before .edit-at .ensures) in
-    let same = edited-given limits (a .letters .now) (cdsOf (a .cs) (a .ce) (a .table)) (askedAt (a .kind) (a .start-star) (a .start) (a .end-star) (a .end) (a .bases .now)) (length (a .transcript .now)) (a .exceptions .now) in
+    let same = edited-given limits (a .letters .now) (cdsOf (a .cs) (a .ce) (a .table)) (hostAsked (a .kind) (a .start-star) (a .start) (a .end-star) (a .end) (a .bases .now)) (length (a .transcript .now)) (a .exceptions .now) in
     (rw (← same, ← edit, ← c .before .before .before .before .before .exceptions-in .ensures) (x .0), rw (← same, ← edit, ← c .before .before .before .before .before .exceptions-in .ensures) (x .1))
 
 pub garumbott-edit-spec : {M : Type 1} → statement M

@@ -1,0 +1,3 @@
+-- Laws of the definitions that the functions go by.
+pub mod Lines
+pub mod Rows
