@@ -11,18 +11,18 @@ use Rattle.rules.specs.declared.Exceptions.{Exceptions}
 use Rattle.rules.specs.Bytes.{if_then_else_, bytes, over}
 use Rattle.rules.specs.Translation.{exceptionList}
 use Rattle.rules.specs.Reference.{Reference, size, referenceProtein}
-use Rattle.rules.specs.Refusal.{limits, referenceRefusal}
-use Rattle.rules.specs.Line.{referenceLine, fitsLine}
+use Rattle.rules.specs.Refusal.{referenceRefusal}
+use Rattle.rules.specs.Line.{textLimits, referenceLine, fitsLine}
 use Rattle.rules.specs.Run.{refusedLine, answersFrom, answersOf, answers, lineFeed, unlines}
 use Rattle.rules.proofs.Over.{copied, fits-over, read-back, tail-is}
 use Rattle.rules.proofs.Reference.{accepted as passed}
 use Rattle.rules.specs.declared.Cds.{Cds}
 use Rattle.rules.specs.Views.{bare, referenceOf}
-use Rattle.altseq.specs.declared.reference.Known.{Known}
-use Rattle.altseq.specs.declared.reference.Checked.{Checked}
-use Rattle.altseq.specs.declared.reference.Checked.the-variants as checked
-use Rattle.altseq.specs.Known.{earlyRefusal, proteinUnless, checkedOf, knownOf, Knows}
-use Rattle.altseq.proofs.References.{checked-refused, checked-accepted, protein-held, cds-known, residues-within, knows}
+use Rattle.reference.specs.declared.Known.{Known}
+use Rattle.reference.specs.declared.Checked.{Checked}
+use Rattle.reference.specs.declared.Checked.the-variants as checked
+use Rattle.reference.specs.Known.{proteinUnless, checkedOf, knownOf, Knows}
+use Rattle.reference.proofs.Checking.{checked-refused, checked-accepted, nothing-read, protein-held, cds-known, residues-within, knows}
 use Rattle.text_forms.specs.declared.line.ReferenceLine.{ReferenceLine}
 use Rattle.text_forms.specs.declared.line.ReferenceLine.the-variants as reference-line
 use Rattle.text_forms.specs.Views.{referenceLineIn}
@@ -34,11 +34,11 @@ use Rattle.text_answers.specs.Lines.{noExceptions, Opens}
 use Rattle.text_answers.proofs.Asking.{protein-short}
 
 -- a refused first line: n bytes of its answer over a buffer
-pub opens-ended : (a k : List ℕ) (x : Stage) (p : Phase) (n : ℕ) (letters protein protein′ text text′ : List ℕ) → a ≡ k → x ≡ ended → p ≡ Ended → n ≡ length k → text′ ≡ over k text
+pub opens-ended : (a k : List ℕ) (x : Stage) (p : Phase) (n : ℕ) (letters protein protein′ text text′ : List ℕ) → a ≡ k → x ≡ ended → p ≡ Ended → protein′ ≡ protein → n ≡ length k → text′ ≡ over k text
     → Opens a x p n letters letters protein protein′ text text′
 unfolding over
-opens-ended a k x p n letters protein protein′ text text′ is ends done e q =
-    rw (is, ends, done) (record { counts = e; prints = q; reaches = refl; known = tt; keeps-letters = refl })
+opens-ended a k x p n letters protein protein′ text text′ is ends done same e q =
+    rw (is, ends, done, same) (record { counts = e; prints = q; reaches = refl; known = tt; keeps-letters = refl; keeps-protein = refl })
 
 refused-answers : (r : Reference) (n : ℕ) → (n ≡ 0 → ⊥) → answersFrom n r [] ≡ refusedLine n ∷ []
 unfolding answersFrom
@@ -61,13 +61,14 @@ module _ (x₀ : Exceptions) (are : x₀ ≡ noExceptions) (s : List ℕ) (c : C
   is : x ≡ checkedOf lettersRoom s c noExceptions
   is = said ∙ ap (checkedOf lettersRoom s c) are
 
-  pub opens-refused : (n : ℕ) (p : Phase) (m : ℕ) → x ≡ checked.Refused n → (letters protein protein′ text text′ : List ℕ) → p ≡ Ended → m ≡ length (refusedLine n ++ (lineFeed ∷ [])) → text′ ≡ over (refusedLine n ++ (lineFeed ∷ [])) text
+  pub opens-refused : (n : ℕ) (p : Phase) (m : ℕ) → x ≡ checked.Refused n → (letters protein protein′ text text′ : List ℕ) → protein′ ≡ over (proteinUnless (referenceRefusal lettersRoom (referenceOf s c x₀)) (referenceOf s c x₀)) protein → p ≡ Ended → m ≡ length (refusedLine n ++ (lineFeed ∷ [])) → text′ ≡ over (refusedLine n ++ (lineFeed ∷ [])) text
       → Opens given-answer given-next p m letters letters protein protein′ text text′
   unfolding exceptionList answersOf unlines accepted behindFirst
-  opens-refused n p m h letters protein protein′ text text′ done e q =
+  opens-refused n p m h letters protein protein′ text text′ read done e q =
       let refused = checked-refused lettersRoom s c noExceptions x is n h in
+      let same : protein′ ≡ protein = read ∙ ap (λ (x₀ : Exceptions). over (proteinUnless (referenceRefusal lettersRoom (referenceOf s c x₀)) (referenceOf s c x₀)) protein) are ∙ sym (nothing-read lettersRoom s c noExceptions n (refused .0) (refused .1) protein) in
       opens-ended given-answer (refusedLine n ++ (lineFeed ∷ [])) given-next p m letters protein protein′ text text′
-      (rw (refused .0, refused-answers (bare s c) n (refused .1))) (rw (refused .0, refused-ends (bare s c) n (refused .1))) done e q
+      (rw (refused .0, refused-answers (bare s c) n (refused .1))) (rw (refused .0, refused-ends (bare s c) n (refused .1))) done same e q
 
   module _ (k : Known) (h : x ≡ checked.Known k) where
     taken : (referenceRefusal lettersRoom (referenceOf s c noExceptions) ≡ 0) × (k ≡ knownOf s c noExceptions)
@@ -77,17 +78,17 @@ module _ (x₀ : Exceptions) (are : x₀ ≡ noExceptions) (s : List ℕ) (c : C
     unfolding size
     letters-fit = passed lettersRoom (referenceOf s c noExceptions) (taken .0) .fits
 
-    module _ (old protein : List ℕ) (q : protein ≡ over (proteinUnless (earlyRefusal lettersRoom (referenceOf s c x₀)) (referenceOf s c x₀)) old) where
+    module _ (old protein : List ℕ) (q : protein ≡ over (proteinUnless (referenceRefusal lettersRoom (referenceOf s c x₀)) (referenceOf s c x₀)) old) where
       held : protein ≡ over (referenceProtein (referenceOf s c noExceptions)) old
       held =
           protein-held lettersRoom s c noExceptions old protein (taken .0)
-          (q ∙ ap (λ (x₀ : Exceptions). over (proteinUnless (earlyRefusal lettersRoom (referenceOf s c x₀)) (referenceOf s c x₀)) old) are)
+          (q ∙ ap (λ (x₀ : Exceptions). over (proteinUnless (referenceRefusal lettersRoom (referenceOf s c x₀)) (referenceOf s c x₀)) old) are)
 
       pub protein-fits : k .residues ≤ length protein
-      protein-fits = residues-within limits s c noExceptions k (taken .0) (taken .1) old protein held
+      protein-fits = residues-within textLimits s c noExceptions k (taken .0) (taken .1) old protein held
 
-      known-here : Knows limits s k noExceptions (take (k .residues) protein)
-      known-here = knows limits s c noExceptions k (taken .0) (taken .1) old protein held (omega arith)
+      known-here : Knows textLimits s k noExceptions (take (k .residues) protein)
+      known-here = knows textLimits s c noExceptions k (taken .0) (taken .1) old protein held (omega arith)
 
       pub reference-room : (n : ℕ) → n ≡ firstRoom → length (bytes "reference " ++ take (k .residues) protein) < n
       reference-room n e = omega (arith, protein-short s k (take (k .residues) protein) known-here)
@@ -97,7 +98,7 @@ module _ (x₀ : Exceptions) (are : x₀ ≡ noExceptions) (s : List ℕ) (c : C
           → Opens given-answer given-next (Editing k n) m letters letters′ old protein text text′
       unfolding exceptionList answersOf answersFrom unlines accepted acceptedBy behindFirst
       opens-known n m letters letters′ text text′ e copy e₂ q₂ =
-          let cds = cds-known limits s c noExceptions k (taken .0) (taken .1) in
+          let cds = cds-known textLimits s c noExceptions k (taken .0) (taken .1) in
           let there : letters′ ≡ over s letters = copy ∙ copied s letters in
           let back : take n letters′ ≡ s = read-back s letters letters′ n e there in
           let same : take (k .residues) protein ≡ referenceProtein (bare s c) = known-here .read ∙ rw cds in
@@ -110,6 +111,7 @@ module _ (x₀ : Exceptions) (are : x₀ ≡ noExceptions) (s : List ℕ) (c : C
             reaches = rw (back, cds);
             known = rw back (fits-over s letters letters′ n e there, protein-fits, known-here);
             keeps-letters = there;
+            keeps-protein = held;
           })
 
 -- the forms of a first line

@@ -6,10 +6,13 @@ use lib.ListN.{length, take, replicate}
 use Rattle.rules.specs.declared.Exceptions.{Exceptions}
 use Rattle.rules.specs.Bytes.{over}
 use Rattle.rules.specs.Translation.{noException}
-use Rattle.rules.specs.Reference.{referenceProtein}
-use Rattle.rules.specs.Refusal.{limits}
+use Rattle.rules.specs.Reference.{Reference, referenceProtein}
+use Rattle.rules.specs.Line.{textLimits}
+use Rattle.rules.specs.Run.{recordLine}
 use Rattle.rules.specs.Views.{bare}
-use Rattle.altseq.specs.Known.{Knows}
+use Rattle.reference.specs.Known.{Knows}
+use Rattle.edits.specs.declared.plans.Plan.{Plan}
+use Rattle.altseq.specs.Carried.{proteinBy, reportBy}
 use Rattle.text_answers.specs.declared.Phase.{Phase}
 use Rattle.text_answers.specs.declared.Phase.the-variants.{Opening, Editing, Ended}
 use Rattle.text_answers.specs.Stage.{Stage, opening, editing, ended}
@@ -17,6 +20,10 @@ use Rattle.text_answers.specs.Stage.{Stage, opening, editing, ended}
 -- a line of text has no exceptions
 abbrev pub noExceptions : Exceptions
 noExceptions = record { all = replicate 16 noException; count = 0 }
+
+-- the line of a plan that is carried out
+abbrev pub planLine : Reference → List ℕ → Plan → List ℕ → List ℕ
+planLine r protein p new = recordLine (reportBy r p new .found) protein (proteinBy r p new)
 
 -- n bytes at a buffer's front are l
 pub record Line (n : ℕ) (text l : List ℕ) : Type 0 where
@@ -33,7 +40,7 @@ stageBy Ended l letters = ended
 abbrev pub KnownIn : Phase → List ℕ → List ℕ → Type 0
 KnownIn Opening letters protein = Unit
 KnownIn (Editing k size) letters protein =
-    (size ≤ length letters) × (k .residues ≤ length protein) × Knows limits (take size letters) k noExceptions (take (k .residues) protein)
+    (size ≤ length letters) × (k .residues ≤ length protein) × Knows textLimits (take size letters) k noExceptions (take (k .residues) protein)
 KnownIn Ended letters protein = Unit
 
 -- what a stage keeps of its reference: the letters, and R
@@ -54,3 +61,4 @@ pub record Opens (a : List ℕ) (x : Stage) (p : Phase) (size : ℕ) (letters le
   pub reaches : stageBy p [] letters′ ≡ x
   pub known : KnownIn p letters′ protein′
   pub keeps-letters : letters′ ≡ over (lettersOf x) letters
+  pub keeps-protein : protein′ ≡ over (proteinOf x) protein

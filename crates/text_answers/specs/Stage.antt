@@ -5,8 +5,8 @@ use mathlib.Core.Bool.{Bool, true, false}
 use mathlib.Core.Option.{Option, none, some}
 use Rattle.rules.specs.Bytes.{if_then_else_}
 use Rattle.rules.specs.Reference.{Reference}
-use Rattle.rules.specs.Refusal.{limits, referenceRefusal}
-use Rattle.rules.specs.Line.{referenceLine, fitsLine}
+use Rattle.rules.specs.Refusal.{referenceRefusal}
+use Rattle.rules.specs.Line.{textLimits, referenceLine, fitsLine}
 use Rattle.rules.specs.Run.{editLineAnswer, answers, unlines}
 
 -- the first line so far; a reference, and the edit line so far; or the run has ended
@@ -30,7 +30,7 @@ acceptedBy (suc n) r = none
 
 unfoldable pub accepted : Option Reference → Option Reference
 accepted none = none
-accepted (some r) = acceptedBy (referenceRefusal (limits .longest) r) r
+accepted (some r) = acceptedBy (referenceRefusal (textLimits .longest) r) r
 
 -- edits follow a reference that isn't refused
 unfoldable pub behindFirst : Option Reference → Stage

@@ -3,8 +3,8 @@ use crate::LETTERS;
 use crate::Phase;
 use crate::fits_line;
 use crate::no_exceptions;
-use altseq::Checked;
-use altseq::check_reference;
+use reference::Checked;
+use reference::check_reference;
 use rules::Cds;
 use text_forms::ReferenceLine;
 use text_forms::parse_reference;
@@ -52,15 +52,7 @@ fn answer_given(
     ensures { λ r. ⌜ Opens (unlines (answersOf (some (bare (now (given .entry)) cds)) [])) (behindFirst (accepted (some (bare (now (given .entry)) cds)))) (r .phase) (r .size)
         (now (letters .entry)) (now (letters .exit)) (now (protein .entry)) (now (protein .exit)) (now (text .entry)) (now (text .exit)) ⌝ }
 {
-    match check_reference(
-        given,
-        cds.cs,
-        cds.ce,
-        cds.table,
-        no_exceptions(),
-        LETTERS,
-        protein,
-    ) {
+    match check_reference(given, cds, no_exceptions(), LETTERS, protein) {
         Checked::Refused(n) => refuse(n, text),
         Checked::Known(known) => {
             let residues = known.residues;

@@ -3,7 +3,7 @@
 mod edit;
 mod first;
 
-use altseq::Known;
+use reference::Known;
 use rules::Exception;
 use rules::Exceptions;
 ghost use mathlib.Core.Path.{_≡_};

@@ -13,12 +13,12 @@ use Rattle.rules.specs.declared.Written.the-variants.{Refused, Bytes}
 use Rattle.rules.specs.Bytes.{if_then_else_, bytes, over}
 use Rattle.rules.specs.Answer.{writtenOf, bytesOf}
 use Rattle.rules.specs.Reference.{Reference, referenceProtein}
-use Rattle.rules.specs.Refusal.{limits, referenceRefusal}
-use Rattle.rules.specs.Line.{referenceLine, fitsLine}
+use Rattle.rules.specs.Refusal.{referenceRefusal}
+use Rattle.rules.specs.Line.{textLimits, referenceLine, fitsLine}
 use Rattle.rules.specs.Run.{refusedLine, answersFrom, answersOf, answers, lineFeed, unlines}
 use Rattle.rules.specs.Views.{bare}
 use Rattle.rules.proofs.Over.{fits-over, read-back}
-use Rattle.altseq.specs.declared.reference.Known.{Known}
+use Rattle.reference.specs.declared.Known.{Known}
 use Rattle.text_answers.specs.declared.Phase.{Phase}
 use Rattle.text_answers.specs.declared.Phase.the-variants.{Opening, Editing, Ended}
 use Rattle.text_answers.specs.Rooms.{lineRoom}
@@ -39,7 +39,7 @@ line-some l = omega (arith, length-append l (lineFeed ∷ []))
 answers-some : (o : Option Reference) → 1 ≤ length (unlines (answersOf o []))
 unfolding answersOf answersFrom
 answers-some none = line-some (refusedLine 30)
-answers-some (some r) = by (referenceRefusal (limits .longest) r)
+answers-some (some r) = by (referenceRefusal (textLimits .longest) r)
   where
     by : (n : ℕ) → 1 ≤ length (unlines (answersFrom n r []))
     by zero = line-some (bytes "reference " ++ referenceProtein r)

@@ -14,8 +14,8 @@ use Rattle.rules.specs.Reference.{Reference, size, cdsSize, codons, referencePr
 use Rattle.rules.specs.Edit.{Asked}
 use Rattle.rules.specs.Protein.{alteredProtein}
 use Rattle.rules.specs.Record.{recordOf}
-use Rattle.rules.specs.Refusal.{limits, referenceRefusal, refusal, recordUnless}
-use Rattle.rules.specs.Line.{editLine, fitsLine, referenceLine}
+use Rattle.rules.specs.Refusal.{referenceRefusal, refusal, recordUnless}
+use Rattle.rules.specs.Line.{textLimits, editLine, fitsLine, referenceLine}
 use Rattle.rules.specs.Run.{refusedLine, answerLine, editAnswer, editLineAnswer, answersFrom, answersOf, answers, lineFeed, unlines}
 use Rattle.rules.proofs.Reference.{accepted, protein-read}
 use Rattle.rules.proofs.Refusal.{reference-accepted}
@@ -33,25 +33,25 @@ use Rattle.text_lines.specs.Memory.{stageOf, Keeps}
 use Rattle.text_prints.proofs.Sizes.{refused-size, record-size}
 
 -- R and A are short
-protein-size : (r : Reference) → referenceRefusal (limits .longest) r ≡ 0 → length (referenceProtein r) < proteinRoom
+protein-size : (r : Reference) → referenceRefusal (textLimits .longest) r ≡ 0 → length (referenceProtein r) < proteinRoom
 unfolding codons cdsSize size
 protein-size r h =
-    let a = accepted (limits .longest) r h in
-    let p = protein-read (limits .longest) r h in
+    let a = accepted (textLimits .longest) r h in
+    let p = protein-read (textLimits .longest) r h in
     omega (arith, p .whole, a .fits, a .bounds .first, a .bounds .inside)
 
-altered-size : (r : Reference) (e : Asked) → refusal limits r e ≡ 0 → length (alteredProtein r e) ≤ alteredRoom
+altered-size : (r : Reference) (e : Asked) → refusal textLimits r e ≡ 0 → length (alteredProtein r e) ≤ alteredRoom
 unfolding residueCount
 altered-size r e h =
-    let a = reference-accepted limits r e h in
-    omega (arith, altered-room limits r e h, altered-fits limits r e h, a .bounds .first)
+    let a = reference-accepted textLimits r e h in
+    omega (arith, altered-room textLimits r e h, altered-fits textLimits r e h, a .bounds .first)
 
-answer-size : (r : Reference) → referenceRefusal (limits .longest) r ≡ 0 → (o : Option Asked) → length (editAnswer r o) < answerRoom
+answer-size : (r : Reference) → referenceRefusal (textLimits .longest) r ≡ 0 → (o : Option Asked) → length (editAnswer r o) < answerRoom
 unfolding editAnswer answerLine recordUnless unless
 answer-size r h none = omega (arith, refused-size 30)
-answer-size r h (some e) = by (refusal limits r e) refl
+answer-size r h (some e) = by (refusal textLimits r e) refl
   where
-    by : (n : ℕ) → refusal limits r e ≡ n → length (answerLine (unless n (recordOf r e)) (referenceProtein r) (alteredProtein r e)) < answerRoom
+    by : (n : ℕ) → refusal textLimits r e ≡ n → length (answerLine (unless n (recordOf r e)) (referenceProtein r) (alteredProtein r e)) < answerRoom
     by zero z = omega (arith, record-size (recordOf r e) (referenceProtein r) (alteredProtein r e), protein-size r h, altered-size r e z)
     by (suc n) z = omega (arith, refused-size (suc n))
 
@@ -63,9 +63,9 @@ one-line l h = omega (arith, length-append l (lineFeed ∷ []))
 first-size : (o : Option Reference) → length (unlines (answersOf o [])) ≤ answerRoom
 unfolding answersOf answersFrom
 first-size none = one-line (refusedLine 30) (omega (arith, refused-size 30))
-first-size (some r) = by (referenceRefusal (limits .longest) r) refl
+first-size (some r) = by (referenceRefusal (textLimits .longest) r) refl
   where
-    by : (n : ℕ) → referenceRefusal (limits .longest) r ≡ n → length (unlines (answersFrom n r [])) ≤ answerRoom
+    by : (n : ℕ) → referenceRefusal (textLimits .longest) r ≡ n → length (unlines (answersFrom n r [])) ≤ answerRoom
     by zero z = one-line (bytes "reference " ++ referenceProtein r) (omega (arith, protein-size r z))
     by (suc n) z = one-line (refusedLine (suc n)) (omega (arith, refused-size (suc n)))
 

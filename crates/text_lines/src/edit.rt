@@ -1,7 +1,7 @@
 // The edit lines of a reference.
 use crate::gather::gather;
 use crate::gather::put;
-use altseq::Known;
+use reference::Known;
 use rules::Written;
 use text_answers::ALTERED;
 use text_answers::Phase;
@@ -13,9 +13,9 @@ ghost use Prim.Native.Nat.{_≤_, _<_};
 ghost use lib.ListN.{length, take};
 ghost use Rattle.rules.specs.Bytes.{over};
 ghost use Rattle.rules.specs.Answer.{writtenOf, bytesOf};
-ghost use Rattle.rules.specs.Refusal.{limits};
+ghost use Rattle.rules.specs.Line.{textLimits};
 ghost use Rattle.rules.specs.Views.{bare};
-ghost use Rattle.altseq.specs.Known.{Knows};
+ghost use Rattle.reference.specs.Known.{Knows};
 ghost use Rattle.text_answers.specs.Rooms.{lineRoom, Ample};
 ghost use Rattle.text_answers.specs.Stage.{editing, answered};
 ghost use Rattle.text_answers.specs.Lines.{noExceptions, KnownIn};
@@ -51,7 +51,7 @@ fn answer_line(
     altered: &mut [u8],
     out: &mut [u8],
 ) -> Written
-    requires { ⌜ Knows limits (now letters) known noExceptions (now protein) ⌝ }
+    requires { ⌜ Knows textLimits (now letters) known noExceptions (now protein) ⌝ }
     requires { ⌜ Ample (now transcript) (now altered) ⌝ }
     ensures { λ r. ⌜ r ≡ writtenOf (within (answered (editing (bare (now (letters .entry)) (known .cds)) (now (line .entry)))) (length (now (out .entry)))) ⌝ }
     ensures { λ _. ⌜ now (out .exit) ≡ over (bytesOf (within (answered (editing (bare (now (letters .entry)) (known .cds)) (now (line .entry)))) (length (now (out .entry))))) (now (out .entry)) ⌝ }
@@ -72,7 +72,7 @@ fn edit_line(
     out: &mut [u8],
 ) -> Turn
     requires { ⌜ (length (now line) ≡ lineRoom) × (begun .held ≤ lineRoom) ⌝ }
-    requires { ⌜ Knows limits (now letters) (begun .known) noExceptions (now protein) ⌝ }
+    requires { ⌜ Knows textLimits (now letters) (begun .known) noExceptions (now protein) ⌝ }
     requires { ⌜ Ample (now transcript) (now altered) ⌝ }
     ensures { λ r. ⌜ r .held ≤ lineRoom ⌝ }
     ensures { λ r. ⌜ Moves (editing (bare (now (letters .entry)) (begun .known .cds)) (take (begun .held) (now (line .entry))))
@@ -130,7 +130,7 @@ fn edit_lines(
     out: &mut [u8],
 ) -> Moved
     requires { ⌜ (length (now line) ≡ lineRoom) × (begun .held ≤ lineRoom) ⌝ }
-    requires { ⌜ Knows limits (now letters) (begun .known) noExceptions (now protein) ⌝ }
+    requires { ⌜ Knows textLimits (now letters) (begun .known) noExceptions (now protein) ⌝ }
     requires { ⌜ Ample (now transcript) (now altered) ⌝ }
     ensures { λ r. ⌜ r .held ≤ lineRoom ⌝ }
     ensures { λ r. ⌜ Steps (editing (bare (now (letters .entry)) (begun .known .cds)) (take (begun .held) (now (line .entry))))

@@ -1,5 +1,5 @@
 // The line so far, gathered in a buffer that keeps no more of it than tells that it is too long; and what is put out.
-use positions::places::least;
+use numbers::least;
 use rules::Written;
 ghost use mathlib.Core.Path.{_≡_};
 ghost use mathlib.Core.List.{_++_};

@@ -1,5 +1,5 @@
 -- `text_answers::edit::answer_edit` meets its contract. Assumes nothing.
-use mathlib.Core.Path.{refl, sym, ap, _∙_}
+use mathlib.Core.Path.{sym, ap, _∙_}
 use mathlib.Core.List.{List}
 use mathlib.Core.Option.{some}
 use Prim.Native.Nat.{ℕ, _-_}
@@ -12,7 +12,7 @@ use Rattle.rules.specs.Views.{bare, asked}
 use Rattle.text_forms.specs.Views.{basesAt}
 use Rattle.text_prints.proofs.Sizes.{refused-size}
 use Rattle.text_answers.specs.Stage.{answered}
-use Rattle.text_answers.proofs.Asking.{line-of, line-as, edit-long, edit-formless, edit-asked, table-small}
+use Rattle.text_answers.proofs.Asking.{line-of, line-as, edit-long, edit-formless, edit-asked}
 use borrow.Author.Needs.{needs}
 use Rattle.text_answers.proofs.edit.answer_edit.Statement.{statement}
 use Rattle.text_answers.proofs.edit.answer_edit.Tie as tie
@@ -47,38 +47,27 @@ returns-2 c =
     let print-refused2 = c .before .before .print-refused2 in
     line-of _ (refusedLine 30) _ _ _ (edit-formless (bare (args .letters .now) (args .known .cds)) (args .line .now) (sym (fits-line .ensures) ∙ not-false (fits-line .result) (if1 .left)) (parse-edit .result) (parse-edit .ensures .0) (enum-told .given .1)) (print-refused2 .ensures .0) (print-refused2 .ensures .1)
 
-residues-of-requires : tie.Need-residues-of-requires
-residues-of-requires c κs = table-small _ _ _ (c .before .before .before .before .before .before .before .before .before .before .before .before .before .pre .0)
-
-plain-code-requires : tie.Need-plain-code-requires
-plain-code-requires c κs = table-small _ _ _ (c .before .before .before .before .before .before .before .before .before .before .before .before .before .before .pre .0)
-
 sub-answer-asked : tie.Need-sub-answer-asked
 sub-answer-asked c =
-    let parse-edit = c .before .before .before .before .before .before .before .before .parse-edit in
-    let parsed = c .before .before .before .before .before .before .parsed in
+    let parse-edit = c .before .before .before .parse-edit in
+    let parsed = c .before .parsed in
     omega (arith, ap basesAt (parsed .given .1), parse-edit .ensures .1)
 
 part-answer-asked-start : tie.Need-part-answer-asked-start
 part-answer-asked-start c =
-    let parse-edit = c .before .before .before .before .before .before .before .before .parse-edit in
-    let parsed = c .before .before .before .before .before .before .parsed in
+    let parse-edit = c .before .before .before .parse-edit in
+    let parsed = c .before .parsed in
     omega (arith, ap basesAt (parsed .given .1), parse-edit .ensures .1)
-
-answer-asked-requires : tie.Need-answer-asked-requires
-answer-asked-requires c κs =
-    let pre = c .before .before .before .before .before .before .before .before .before .before .before .before .before .before .before .before .before .before .before .before .before .before .before .before .pre in
-    (pre .0, (c .before .before .before .before .before .before .before .before .before .before .before .folded-sets .ensures, (c .before .before .before .before .before .before .before .before .before .before .residues-of .ensures, (c .before .before .before .before .before .before .before .before .before .plain-code .ensures, (c .before .before .before .before .before .before .before .before .complements .ensures, (pre .1, refl))))))
 
 returns-3 : tie.Need-returns-3
 unfolding answered
 returns-3 c =
-    let args = c .before .before .before .before .before .before .before .before .before .before .before .before .before .before .before .before .before .before .before .before .before .before .before .before .before .before .before .before .before .before .args in
-    let fits-line = c .before .before .before .before .before .before .before .before .before .before .before .before .before .before .before .before .before .before .before .before .before .before .before .before .fits-line in
-    let if1 = c .before .before .before .before .before .before .before .before .before .before .before .before .before .before .before .before .before .before .before .before .before .before .before .if1 in
-    let parse-edit = c .before .before .before .before .before .before .before .before .before .before .before .before .before .before .before .before .before .before .before .before .before .before .parse-edit in
-    let parsed = c .before .before .before .before .before .before .before .before .before .before .before .before .before .before .before .before .before .before .before .before .parsed in
-    let answer-asked = c .before .before .before .before .before .answer-asked in
+    let args = c .before .before .before .before .before .before .before .before .before .before .before .before .before .before .before .before .before .before .before .args in
+    let fits-line = c .before .before .before .before .before .before .before .before .before .before .before .before .before .fits-line in
+    let if1 = c .before .before .before .before .before .before .before .before .before .before .before .before .if1 in
+    let parse-edit = c .before .before .before .before .before .before .before .before .before .before .before .parse-edit in
+    let parsed = c .before .before .before .before .before .before .before .before .before .parsed in
+    let answer-asked = c .before .before .before .before .answer-asked in
     let r = bare (args .letters .now) (args .known .cds) in
     let at = parsed .given .0 .1 .0 in
     let e = parsed .given .0 .0 in
@@ -101,15 +90,10 @@ answer-edit-spec =
     print-refused-requires-2
     (λ c. search needs)
     returns-2
-    (λ c κs. search needs)
-    residues-of-requires
-    plain-code-requires
-    (λ c κs. search needs)
     sub-answer-asked
     part-answer-asked-start
     (λ c. search needs)
-    (λ c. search needs)
-    answer-asked-requires
+    (λ c κs. search needs)
     (λ c. search needs)
     (λ c. search needs)
     returns-3)

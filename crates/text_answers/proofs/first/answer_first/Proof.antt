@@ -1,5 +1,5 @@
 -- `text_answers::first::answer_first` meets its contract. Assumes nothing.
-use mathlib.Core.Path.{sym, ap, _∙_}
+use mathlib.Core.Path.{refl, sym, ap, _∙_}
 use native.Mathlib.Omega.{arith}
 use borrow.Author.Tests.{not-true, not-false}
 use Rattle.text_forms.specs.Views.{lettersAt}
@@ -19,7 +19,7 @@ returns c =
     let if1 = c .before .before .before .before .if1 in
     let refuse = c .before .before .refuse in
     let found = first-long _ (sym (fits-line .ensures) ∙ not-true _ (if1 .taken)) in
-    opens-ended _ _ _ _ _ _ _ _ _ _ (found .0) (found .1) (refuse .ensures .0) (refuse .ensures .1 .0) (refuse .ensures .1 .1)
+    opens-ended _ _ _ _ _ _ _ _ _ _ (found .0) (found .1) (refuse .ensures .0) refl (refuse .ensures .1 .0) (refuse .ensures .1 .1)
 
 refuse-requires-2 : tie.Need-refuse-requires-2
 refuse-requires-2 c κs =
@@ -34,7 +34,7 @@ returns-2 c =
     let enum-told = c .before .before .before .before .enum-told in
     let refuse2 = c .before .before .refuse2 in
     let found = first-formless _ (sym (fits-line .ensures) ∙ not-false _ (if1 .left)) _ (parse-reference .ensures .0) (enum-told .given .1) in
-    opens-ended _ _ _ _ _ _ _ _ _ _ (found .0) (found .1) (refuse2 .ensures .0) (refuse2 .ensures .1 .0) (refuse2 .ensures .1 .1)
+    opens-ended _ _ _ _ _ _ _ _ _ _ (found .0) (found .1) (refuse2 .ensures .0) refl (refuse2 .ensures .1 .0) (refuse2 .ensures .1 .1)
 
 sub-answer-given : tie.Need-sub-answer-given
 sub-answer-given c =
