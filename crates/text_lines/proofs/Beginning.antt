@@ -8,6 +8,9 @@ use native.Mathlib.Omega.{arith}
 use lib.ListN.{length, take, drop, length-append, length-drop}
 use lib.Seq.{length-take-le}
 use borrow.Rule.Slice.PartMut.{putMid}
+use borrow.Author.Tests.{lt-ltb, le-ltb}
+use Rattle.bytes.specs.Bytes.{indexAfter, indexOf}
+use Rattle.rules.specs.Opened.{opened}
 use Rattle.rules.specs.declared.Written.{Written}
 use Rattle.rules.specs.declared.Written.the-variants.{Refused, Bytes}
 use Rattle.rules.specs.Bytes.{if_then_else_, bytes, over}
@@ -25,11 +28,24 @@ use Rattle.text_answers.specs.Rooms.{lineRoom}
 use Rattle.text_answers.specs.Stage.{Stage, opening, editing, ended, accepted, behindFirst, nextLine, answered}
 use Rattle.text_answers.specs.Lines.{stageBy, KnownIn, Opens}
 use Rattle.text_lines.specs.declared.State.{State}
-use Rattle.text_lines.specs.Steps.{longer, after, printed, within, Gathers, Moves, Full, Steps}
-use Rattle.text_lines.specs.Memory.{stageOf, heldBehind, Keeps, Put, Begins}
+use Rattle.text_lines.specs.Steps.{kept, longer, after, printed, within, Gathers, Moves, Full, Steps}
+use Rattle.text_lines.specs.Memory.{stageOf, heldBehind, Keeps, firstEnd, Fills, Put, Begins}
 use Rattle.text_lines.proofs.Pieces.{after-ended, printed-ended}
 use Rattle.text_lines.proofs.Puts.{put-bytes, put-none, over-none}
 use Rattle.text_lines.proofs.Turns.{moves-none, full-all, moves-line, full-feed, moves-feed, row-reached, row-prints, row-steps}
+
+-- nothing is kept behind the first line, nor of an empty one
+editing-ends-in : (r : Reference) (l s : List ℕ) → firstEnd (editing r l) s ≡ ended
+unfolding firstEnd
+editing-ends-in r l s = refl
+
+ended-ends-in : (s : List ℕ) → firstEnd ended s ≡ ended
+unfolding firstEnd
+ended-ends-in s = refl
+
+empty-ends : firstEnd (opening []) (lineFeed ∷ []) ≡ ended
+unfolding firstEnd opened kept nextLine accepted behindFirst indexOf indexAfter
+empty-ends = refl
 
 -- a line's answer is never empty
 line-some : (l : List ℕ) → 1 ≤ length (unlines (l ∷ []))
@@ -81,6 +97,24 @@ module _ (l : List ℕ) (p : Phase) (size : ℕ) (letters letters′ protein pro
           known = λ z. absurd (z refl);
         }
 
+-- a first line's letters and R
+pub fills-first : (l : List ℕ) (p : Phase) (size : ℕ) (letters letters′ protein protein′ text text′ : List ℕ) → Opens (answered (opening l)) (nextLine (opening l)) p size letters letters′ protein protein′ text text′
+    → Fills (nextLine (opening l)) letters letters′ protein protein′
+fills-first l p size letters letters′ protein protein′ text text′ h = record { with-letters = h .keeps-letters; with-protein = h .keeps-protein }
+
+fills-ended : (x : Stage) (letters protein : List ℕ) → x ≡ ended → Fills x letters letters protein protein
+unfolding over
+fills-ended x letters protein is = rw is (record { with-letters = refl; with-protein = refl })
+
+-- an empty first line is refused, so that nothing is kept of it
+pub fills-empty : (s : State) (line letters protein : List ℕ) → s .held ≡ 0 → Fills (firstEnd (stageOf s line letters) (lineFeed ∷ [])) letters letters protein protein
+fills-empty s line letters protein z = fills-ended (firstEnd (stageOf s line letters) (lineFeed ∷ [])) letters protein (rw z (by (s .phase)))
+  where
+    by : (p : Phase) → firstEnd (stageBy p [] letters) (lineFeed ∷ []) ≡ ended
+    by Opening = empty-ends
+    by (Editing k size) = editing-ends-in (bare (take size letters) (k .cds)) [] (lineFeed ∷ [])
+    by Ended = ended-ends-in (lineFeed ∷ [])
+
 -- behind the first line's end
 stage-behind : (p : Phase) (n : ℕ) (line letters : List ℕ) → stageBy p (take (heldBehind p n) line) letters ≡ stageBy p [] letters
 stage-behind Opening n line letters = refl
@@ -117,6 +151,18 @@ module _ (n : ℕ) (l line′ input : List ℕ) (t : ℕ) (g : Gathers l (take n
   pub begun-keeps : (letters′ protein′ : List ℕ) → n ≤ lineRoom → Keeps (record { phase = Opening; held = n }) letters′ protein′
   begun-keeps letters′ protein′ few = record { short = few; known = tt }
 
+  pub fills-none : (letters protein : List ℕ) → t ≡ length input → Fills (firstEnd (opening l) input) letters letters protein protein
+  unfolding firstEnd
+  fills-none letters protein e = fills-ended (firstEnd (opening l) input) letters protein (rw (le-ltb (indexOf lineFeed input) (length input) (omega (arith, g .ends))))
+
+  pub fills-line : (t ≡ length input → ⊥) → (letters letters′ protein protein′ : List ℕ) → Fills (nextLine (opening (take n line′))) letters letters′ protein protein′
+      → Fills (firstEnd (opening l) input) letters letters′ protein protein′
+  unfolding firstEnd
+  fills-line more letters letters′ protein protein′ h =
+      let there : firstEnd (opening l) input ≡ nextLine (opening (take n line′)) =
+      rw (lt-ltb (indexOf lineFeed input) (length input) (omega (arith, g .ends, g .inside, more)), ← (g .ends), ← (g .holds)) in
+      rw there h
+
   -- the line ends there
   module _ (more : t ≡ length input → ⊥) (p : Phase) (size : ℕ) (letters′ protein′ out out′ : List ℕ) (q : Put (opening (take n line′)) p size letters′ protein′ out out′) where
     pub begun-full : length line′ ≡ lineRoom → size ≡ 0 → Begins (opening l) (record { phase = Opening; held = n }) line′ letters′ input t 0 out out′
@@ -133,8 +179,8 @@ module _ (n : ℕ) (l line′ input : List ℕ) (t : ℕ) (g : Gathers l (take n
       there : stageBy p (take m line′) letters′ ≡ nextLine (opening (take n line′))
       there = rw behind (stage-behind p n line′ letters′ ∙ q .reaches not)
 
-      pub opened : length line′ ≡ lineRoom → size ≤ length out → Begins (opening l) (record { phase = p; held = m }) line′ letters′ input (t + 1) size out out′
-      opened has room =
+      pub opened-begins : length line′ ≡ lineRoom → size ≤ length out → Begins (opening l) (record { phase = p; held = m }) line′ letters′ input (t + 1) size out out′
+      opened-begins has room =
           record {
             room = has;
             moves =
@@ -155,6 +201,18 @@ module _ (s : State) (line letters input out : List ℕ) where
   pub begins-first : s .phase ≡ Opening → (s′ : State) (line′ letters′ : List ℕ) (t u : ℕ) (out′ : List ℕ) → Begins (opening (take (s .held) line)) s′ line′ letters′ input t u out out′
       → Begins (stageOf s line letters) s′ line′ letters′ input t u out out′
   begins-first is s′ line′ letters′ t u out′ h = subst (λ (p : Phase). Begins (stageBy p (take (s .held) line) letters) s′ line′ letters′ input t u out out′) (sym is) h
+
+  pub fills-opening : s .phase ≡ Opening → (letters′ protein protein′ : List ℕ) → Fills (firstEnd (opening (take (s .held) line)) input) letters letters′ protein protein′
+      → Fills (firstEnd (stageOf s line letters) input) letters letters′ protein protein′
+  fills-opening is letters′ protein protein′ h = subst (λ (p : Phase). Fills (firstEnd (stageBy p (take (s .held) line) letters) input) letters letters′ protein protein′) (sym is) h
+
+  pub fills-behind : (protein : List ℕ) → (s .phase ≡ Opening → ⊥) → Fills (firstEnd (stageOf s line letters) input) letters letters protein protein
+  fills-behind protein not = fills-ended (firstEnd (stageOf s line letters) input) letters protein (by (s .phase) not)
+    where
+      by : (p : Phase) → (p ≡ Opening → ⊥) → firstEnd (stageBy p (take (s .held) line) letters) input ≡ ended
+      by Opening h = absurd (h refl)
+      by (Editing k size) h = editing-ends-in (bare (take size letters) (k .cds)) (take (s .held) line) input
+      by Ended h = ended-ends-in input
 
   pub begins-none : length line ≡ lineRoom → (s .phase ≡ Opening → ⊥) → Begins (stageOf s line letters) s line letters input 0 0 out out
   begins-none room not = record { room = room; moves = moves-none (stageOf s line letters) input out; stays = λ e. absurd (not e) }

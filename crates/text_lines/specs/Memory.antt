@@ -1,16 +1,19 @@
 -- What is kept between two steps: a state, and the buffers that are lent to each.
 use Prim.Native.Nat.{ℕ, _≤_, _<_}
 use mathlib.Core.Path.{_≡_}
-use mathlib.Core.List.{List, []}
+use mathlib.Core.List.{List, [], _++_}
+use lib.Dec.{ltb}
 use lib.ListN.{length, take}
-use Rattle.rules.specs.Bytes.{over}
+use Rattle.bytes.specs.Bytes.{indexOf}
+use Rattle.rules.specs.Bytes.{if_then_else_, over}
+use Rattle.rules.specs.Run.{lineFeed}
 use Rattle.text_answers.specs.declared.Phase.{Phase}
 use Rattle.text_answers.specs.declared.Phase.the-variants.{Opening, Editing, Ended}
 use Rattle.text_answers.specs.Rooms.{lineRoom, lettersRoom, proteinRoom}
-use Rattle.text_answers.specs.Stage.{Stage, nextLine, answered}
-use Rattle.text_answers.specs.Lines.{stageBy, KnownIn}
+use Rattle.text_answers.specs.Stage.{Stage, opening, editing, ended, nextLine, answered}
+use Rattle.text_answers.specs.Lines.{stageBy, KnownIn, lettersOf, proteinOf}
 use Rattle.text_lines.specs.declared.State.{State}
-use Rattle.text_lines.specs.Steps.{Moves, Full}
+use Rattle.text_lines.specs.Steps.{kept, Moves, Full}
 
 -- before the first byte
 abbrev pub fresh : State
@@ -35,6 +38,17 @@ pub record Rooms (line letters protein : List ℕ) : Type 0 where
 pub record Keeps (s : State) (letters protein : List ℕ) : Type 0 where
   pub short : s .held ≤ lineRoom
   pub known : KnownIn (s .phase) letters protein
+
+-- where the run stands behind its first line, if that ends in s; else `ended`, of which nothing is kept
+unfoldable pub firstEnd : Stage → List ℕ → Stage
+firstEnd (opening l) s = if ltb (indexOf lineFeed s) (length s) then nextLine (opening (kept (l ++ take (indexOf lineFeed s) s))) else ended
+firstEnd (editing r l) s = ended
+firstEnd ended s = ended
+
+-- what is kept of the reference at x is written over the letters and R, and nothing else
+pub record Fills (x : Stage) (letters letters′ protein protein′ : List ℕ) : Type 0 where
+  pub with-letters : letters′ ≡ over (lettersOf x) letters
+  pub with-protein : protein′ ≡ over (proteinOf x) protein
 
 -- A first line's end, answered into the output: nothing is put out where there is no room.
 pub record Put (x : Stage) (p : Phase) (size : ℕ) (letters protein out out′ : List ℕ) : Type 0 where

@@ -9,15 +9,16 @@ use open::open_some;
 use rules::Written;
 use text_answers::Phase;
 ghost use mathlib.Core.Path.{_≡_};
-ghost use mathlib.Core.List.{List};
+ghost use mathlib.Core.List.{List, [], _∷_};
 ghost use Prim.Native.Nat.{ℕ, _≤_};
 ghost use lib.ListN.{length};
 ghost use Rattle.rules.specs.Bytes.{over};
 ghost use Rattle.rules.specs.Answer.{writtenOf, bytesOf};
+ghost use Rattle.rules.specs.Run.{lineFeed};
 ghost use Rattle.text_answers.specs.Rooms.{lineRoom};
 ghost use Rattle.text_answers.specs.Stage.{Stage, isEnded};
 ghost use Rattle.text_lines.specs.Steps.{last, Steps};
-ghost use Rattle.text_lines.specs.Memory.{fresh, stageOf, Rooms, Keeps, Begins};
+ghost use Rattle.text_lines.specs.Memory.{fresh, stageOf, Rooms, Keeps, firstEnd, Fills, Begins};
 
 // `held` bytes of the line so far are kept, of a refused first line too; one more than the longest line has stands for any larger number.
 pub struct State {
@@ -68,6 +69,7 @@ fn begin(
     ensures { λ r. ⌜ Keeps (r .state) (now (letters .exit)) (now (protein .exit)) ⌝ }
     ensures { λ r. ⌜ Begins (stageOf state (now (line .entry)) (now (letters .entry))) (r .state) (now (line .exit)) (now (letters .exit))
         (now (input .entry)) (r .taken) (r .used) (now (out .entry)) (now (out .exit)) ⌝ }
+    ensures { λ _. ⌜ Fills (firstEnd (stageOf state (now (line .entry)) (now (letters .entry))) (now (input .entry))) (now (letters .entry)) (now (letters .exit)) (now (protein .entry)) (now (protein .exit)) ⌝ }
 {
     let phase = state.phase;
     let nothing = Stepped {
@@ -146,6 +148,7 @@ pub fn step(
     ensures { λ r. ⌜ Keeps (r .state) (now (letters .exit)) (now (protein .exit)) ⌝ }
     ensures { λ r. ⌜ Steps (stageOf state (now (line .entry)) (now (letters .entry))) (stageOf (r .state) (now (line .exit)) (now (letters .exit)))
         (now (input .entry)) (r .taken) (r .used) (now (out .entry)) (now (out .exit)) ⌝ }
+    ensures { λ _. ⌜ Fills (firstEnd (stageOf state (now (line .entry)) (now (letters .entry))) (now (input .entry))) (now (letters .entry)) (now (letters .exit)) (now (protein .entry)) (now (protein .exit)) ⌝ }
 {
     let begun = begin(state, line, letters, protein, input, out);
     go_on(begun, line, letters, protein, input, out)
@@ -164,6 +167,7 @@ fn finish_line(
     requires { ⌜ (state .held ≡ 0 → ⊥) ⌝ }
     ensures { λ r. ⌜ r ≡ writtenOf (last (stageOf state (now (line .entry)) (now (letters .entry))) (length (now (out .entry)))) ⌝ }
     ensures { λ _. ⌜ now (out .exit) ≡ over (bytesOf (last (stageOf state (now (line .entry)) (now (letters .entry))) (length (now (out .entry))))) (now (out .entry)) ⌝ }
+    ensures { λ _. ⌜ Fills (firstEnd (stageOf state (now (line .entry)) (now (letters .entry))) (lineFeed ∷ [])) (now (letters .entry)) (now (letters .exit)) (now (protein .entry)) (now (protein .exit)) ⌝ }
 {
     let stepped = step(state, line, letters, protein, b"\n", out);
     if stepped.taken == 0 {
@@ -184,6 +188,7 @@ pub fn finish(
     requires { ⌜ Keeps state (now letters) (now protein) ⌝ }
     ensures { λ r. ⌜ r ≡ writtenOf (last (stageOf state (now (line .entry)) (now (letters .entry))) (length (now (out .entry)))) ⌝ }
     ensures { λ _. ⌜ now (out .exit) ≡ over (bytesOf (last (stageOf state (now (line .entry)) (now (letters .entry))) (length (now (out .entry))))) (now (out .entry)) ⌝ }
+    ensures { λ _. ⌜ Fills (firstEnd (stageOf state (now (line .entry)) (now (letters .entry))) (lineFeed ∷ [])) (now (letters .entry)) (now (letters .exit)) (now (protein .entry)) (now (protein .exit)) ⌝ }
 {
     if state.held == 0 {
         return Written::Bytes(0);

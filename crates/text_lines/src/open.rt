@@ -12,13 +12,14 @@ ghost use mathlib.Core.Path.{_≡_};
 ghost use Prim.Native.Nat.{_≤_};
 ghost use lib.ListN.{length, take};
 ghost use Rattle.text_answers.specs.Rooms.{lineRoom, lettersRoom, proteinRoom};
-ghost use Rattle.text_answers.specs.Stage.{opening};
-ghost use Rattle.text_lines.specs.Memory.{heldBehind, Rooms, Keeps, Put, Begins};
+ghost use Rattle.text_answers.specs.Stage.{opening, nextLine};
+ghost use Rattle.text_lines.specs.Memory.{heldBehind, Rooms, Keeps, firstEnd, Fills, Put, Begins};
 
 // The answer to a first line, put out; nothing where there is no room for it.
 fn open_line(line: &[u8], letters: &mut [u8], protein: &mut [u8], out: &mut [u8]) -> Opened
     requires { ⌜ (length (now letters) ≡ lettersRoom) × (length (now protein) ≡ proteinRoom) ⌝ }
     ensures { λ r. ⌜ Put (opening (now (line .entry))) (r .phase) (r .size) (now (letters .exit)) (now (protein .exit)) (now (out .entry)) (now (out .exit)) ⌝ }
+    ensures { λ _. ⌜ Fills (nextLine (opening (now (line .entry)))) (now (letters .entry)) (now (letters .exit)) (now (protein .entry)) (now (protein .exit)) ⌝ }
 {
     let mut text = [0u8; FIRST];
     let opened = answer_first(line, letters, protein, &mut text);
@@ -55,6 +56,7 @@ pub(crate) fn open_some(
     ensures { λ r. ⌜ Keeps (r .state) (now (letters .exit)) (now (protein .exit)) ⌝ }
     ensures { λ r. ⌜ Begins (opening (take held (now (line .entry)))) (r .state) (now (line .exit)) (now (letters .exit))
         (now (input .entry)) (r .taken) (r .used) (now (out .entry)) (now (out .exit)) ⌝ }
+    ensures { λ _. ⌜ Fills (firstEnd (opening (take held (now (line .entry)))) (now (input .entry))) (now (letters .entry)) (now (letters .exit)) (now (protein .entry)) (now (protein .exit)) ⌝ }
 {
     let got = gather(line, held, input);
     let n = got.held;

@@ -1,4 +1,5 @@
 -- `text_lines::finish` meets its contract. Assumes nothing.
+use Rattle.text_lines.proofs.Beginning.{fills-empty}
 use Rattle.text_lines.proofs.Last.{none-held}
 use borrow.Author.Needs.{needs}
 use Rattle.text_lines.proofs.finish.Statement.{statement}
@@ -8,7 +9,8 @@ returns : tie.Need-returns
 returns c =
     let args = c .before .before .before .before .before .before .args in
     let pre = c .before .before .before .before .before .before .pre in
-    none-held (args .state) (args .line .now) (args .letters .now) (args .protein .now) (args .out .now) (pre .0 .for-line) (pre .1) (c .if1 .taken)
+    let done = none-held (args .state) (args .line .now) (args .letters .now) (args .protein .now) (args .out .now) (pre .0 .for-line) (pre .1) (c .if1 .taken) in
+    (done .0, (done .1, fills-empty (args .state) (args .line .now) (args .letters .now) (args .protein .now) (c .if1 .taken)))
 
 finish-line-requires : tie.Need-finish-line-requires
 finish-line-requires c κs =

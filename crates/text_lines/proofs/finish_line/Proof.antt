@@ -14,14 +14,16 @@ returns c =
     let args = c .before .before .before .before .before .before .before .before .before .before .before .before .before .before .before .before .before .before .before .before .args in
     let pre = c .before .before .before .before .before .before .before .before .before .before .before .before .before .before .before .before .before .before .before .before .pre in
     let step = c .before .before .before .before .before .before .before .before .before .before .step in
-    no-room-left (args .state) (args .line .now) (args .letters .now) (args .protein .now) (args .out .now) (pre .0 .for-line) (pre .1 .0) (pre .1 .1) _ _ _ _ (step .ensures .1) (c .if1 .taken)
+    let done = no-room-left (args .state) (args .line .now) (args .letters .now) (args .protein .now) (args .out .now) (pre .0 .for-line) (pre .1 .0) (pre .1 .1) _ _ _ _ (step .ensures .1 .0) (c .if1 .taken) in
+    (done .0, (done .1, step .ensures .1 .1))
 
 returns-2 : tie.Need-returns-2
 returns-2 c =
     let args = c .before .before .before .before .before .before .before .before .before .before .before .before .before .before .before .before .before .before .before .before .args in
     let pre = c .before .before .before .before .before .before .before .before .before .before .before .before .before .before .before .before .before .before .before .before .pre in
     let step = c .before .before .before .before .before .before .before .before .before .before .step in
-    line-finished (args .state) (args .line .now) (args .letters .now) (args .protein .now) (args .out .now) (pre .0 .for-line) (pre .1 .0) (pre .1 .1) _ _ _ _ (step .ensures .1) (c .if1 .left)
+    let done = line-finished (args .state) (args .line .now) (args .letters .now) (args .protein .now) (args .out .now) (pre .0 .for-line) (pre .1 .0) (pre .1 .1) _ _ _ _ (step .ensures .1 .0) (c .if1 .left) in
+    (done .0, (done .1, step .ensures .1 .1))
 
 pub finish-line-spec : {M : Type 1} → statement M
 finish-line-spec =

@@ -1,7 +1,7 @@
 -- `text_lines::open::open_line` meets its contract. Assumes nothing.
 use mathlib.Core.Path.{refl, sym}
 use lib.Seq.{length-take-le}
-use Rattle.text_lines.proofs.Beginning.{first-fits, put-first, put-nothing}
+use Rattle.text_lines.proofs.Beginning.{first-fits, put-first, put-nothing, fills-first}
 use borrow.Author.Needs.{needs}
 use Rattle.text_lines.proofs.open.open_line.Statement.{statement}
 use Rattle.text_lines.proofs.open.open_line.Tie as tie
@@ -20,12 +20,12 @@ slice-aggregate-put c = sym (length-take-le _ _ (first-fits _ _ _ _ _ _ _ _ _ (c
 returns : tie.Need-returns
 returns c =
     let put = c .before .before .before .before .put in
-    put-nothing _ _ _ _ _ _ _ _ _ (c .before .before .before .before .before .before .before .before .before .before .before .before .answer-first .ensures) _ _ _ (put .ensures .0) (put .ensures .1) _ (c .enum-told .given .1)
+    (put-nothing _ _ _ _ _ _ _ _ _ (c .before .before .before .before .before .before .before .before .before .before .before .before .answer-first .ensures) _ _ _ (put .ensures .0) (put .ensures .1) _ (c .enum-told .given .1), fills-first _ _ _ _ _ _ _ _ _ (c .before .before .before .before .before .before .before .before .before .before .before .before .answer-first .ensures))
 
 returns-2 : tie.Need-returns-2
 returns-2 c =
     let put = c .before .before .before .before .before .put in
-    put-first _ _ _ _ _ _ _ _ _ (c .before .before .before .before .before .before .before .before .before .before .before .before .before .answer-first .ensures) _ _ _ (put .ensures .0) (put .ensures .1) _ (c .before .n .given .1)
+    (put-first _ _ _ _ _ _ _ _ _ (c .before .before .before .before .before .before .before .before .before .before .before .before .before .answer-first .ensures) _ _ _ (put .ensures .0) (put .ensures .1) _ (c .before .n .given .1), fills-first _ _ _ _ _ _ _ _ _ (c .before .before .before .before .before .before .before .before .before .before .before .before .before .answer-first .ensures))
 
 pub open-line-spec : {M : Type 1} → statement M
 open-line-spec =

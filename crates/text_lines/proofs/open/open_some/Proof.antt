@@ -2,7 +2,7 @@
 use mathlib.Core.Path.{sym, _∙_}
 use native.Mathlib.Omega.{arith}
 use lib.Seq.{length-take-le}
-use Rattle.text_lines.proofs.Beginning.{begun-all, begun-keeps, begun-full, put-fits, opened, opened-keeps}
+use Rattle.text_lines.proofs.Beginning.{begun-all, begun-keeps, begun-full, put-fits, opened-begins, opened-keeps, fills-none, fills-line}
 use borrow.Author.Needs.{needs}
 use Rattle.text_lines.proofs.open.open_some.Statement.{statement}
 use Rattle.text_lines.proofs.open.open_some.Tie as tie
@@ -15,7 +15,7 @@ gather-requires c κs =
 returns : tie.Need-returns
 returns c =
     let gather = c .before .before .before .gather in
-    (begun-keeps _ _ _ _ _ (gather .ensures .0) _ _ (gather .ensures .1 .0), begun-all _ _ _ _ _ (gather .ensures .0) _ _ (gather .ensures .1 .1) (c .if1 .taken))
+    (begun-keeps _ _ _ _ _ (gather .ensures .0) _ _ (gather .ensures .1 .0), (begun-all _ _ _ _ _ (gather .ensures .0) _ _ (gather .ensures .1 .1) (c .if1 .taken), fills-none (gather .result .held) _ (gather .last .0) _ _ (gather .ensures .0) _ _ (c .if1 .taken)))
 
 slice-reshare-prefix-open-line : tie.Need-slice-reshare-prefix-open-line
 slice-reshare-prefix-open-line c = omega (arith, c .before .before .before .gather .ensures .1)
@@ -31,7 +31,7 @@ open-line-requires c κs =
 returns-2 : tie.Need-returns-2
 returns-2 c =
     let gather = c .before .before .before .before .before .before .before .before .before .before .before .before .before .before .before .before .gather in
-    (begun-keeps _ _ _ _ _ (gather .ensures .0) _ _ (gather .ensures .1 .0), begun-full _ _ _ _ _ (gather .ensures .0) (c .before .before .before .before .before .before .before .before .before .before .before .before .before .if1 .left) _ _ _ _ _ _ (c .before .before .before .before .before .before .before .before .open-line .ensures) (gather .ensures .1 .1) (c .if2 .taken))
+    (begun-keeps _ _ _ _ _ (gather .ensures .0) _ _ (gather .ensures .1 .0), (begun-full _ _ _ _ _ (gather .ensures .0) (c .before .before .before .before .before .before .before .before .before .before .before .before .before .if1 .left) _ _ _ _ _ _ (c .before .before .before .before .before .before .before .before .open-line .ensures .0) (gather .ensures .1 .1) (c .if2 .taken), fills-line (gather .result .held) _ (gather .last .0) _ _ (gather .ensures .0) (c .before .before .before .before .before .before .before .before .before .before .before .before .before .if1 .left) _ _ _ _ (c .before .before .before .before .before .before .before .before .open-line .ensures .1)))
 
 add-behind : tie.Need-add-behind
 add-behind c = omega (arith, c .before .before .before .gather .ensures .0 .inside, c .if1 .left, c .before .before .before .before .before .before .before .before .before .before .good)
@@ -41,8 +41,8 @@ returns-3 c =
     let gather = c .before .before .before .before .before .before .before .before .before .before .before .before .before .before .before .before .before .gather in
     let open-line = c .before .before .before .before .before .before .before .before .before .open-line in
     let some = c .before .if2 .left in (
-      opened-keeps _ _ _ _ _ (gather .ensures .0) (c .before .before .before .before .before .before .before .before .before .before .before .before .before .before .if1 .left) _ _ _ _ _ _ (open-line .ensures) some _ (c .held-behind .ensures) (gather .ensures .1 .0),
-      opened _ _ _ _ _ (gather .ensures .0) (c .before .before .before .before .before .before .before .before .before .before .before .before .before .before .if1 .left) _ _ _ _ _ _ (open-line .ensures) some _ (c .held-behind .ensures) (gather .ensures .1 .1) (put-fits _ _ _ _ _ _ _ (open-line .ensures) (open-line .kept .1 .1 .1 .0) some),
+      opened-keeps _ _ _ _ _ (gather .ensures .0) (c .before .before .before .before .before .before .before .before .before .before .before .before .before .before .if1 .left) _ _ _ _ _ _ (open-line .ensures .0) some _ (c .held-behind .ensures) (gather .ensures .1 .0),
+      (opened-begins _ _ _ _ _ (gather .ensures .0) (c .before .before .before .before .before .before .before .before .before .before .before .before .before .before .if1 .left) _ _ _ _ _ _ (open-line .ensures .0) some _ (c .held-behind .ensures) (gather .ensures .1 .1) (put-fits _ _ _ _ _ _ _ (open-line .ensures .0) (open-line .kept .1 .1 .1 .0) some), fills-line (gather .result .held) _ (gather .last .0) _ _ (gather .ensures .0) (c .before .before .before .before .before .before .before .before .before .before .before .before .before .before .if1 .left) _ _ _ _ (open-line .ensures .1)),
     )
 
 pub open-some-spec : {M : Type 1} → statement M
