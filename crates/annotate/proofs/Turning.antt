@@ -1,6 +1,6 @@
 -- Laws of a piece that is answered step by step, and of a read.
 -- Assumes nothing.
-use mathlib.Core.Path.{_≡_, refl, sym, ap, _∙_}
+use mathlib.Core.Path.{_≡_, refl, _∙_}
 use mathlib.Core.Bool.{Bool, true, false}
 use mathlib.Core.List.{List}
 use Prim.Native.Nat.{ℕ, _+_, _-_, _^_, _≤_, _<_}
@@ -16,7 +16,6 @@ use Rattle.text_lines.proofs.Turns.{row-reached}
 use Rattle.text_lines.proofs.Room.{takes-some}
 use Rattle.text_lines.proofs.Rooms.{fresh-keeps, rooms-kept}
 use Rattle.annotate.specs.declared.Next.{Next}
-use Rattle.annotate.specs.declared.Next.the-variants.{Unwritten}
 use Rattle.annotate.specs.Turns.{pieceRoom, nextBy, Turned}
 
 -- at the head of a turn: the run stands behind the first `at` bytes of a piece

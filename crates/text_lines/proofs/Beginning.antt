@@ -3,7 +3,7 @@
 use mathlib.Core.Path.{_≡_, refl, sym, ap, subst, _∙_}
 use mathlib.Core.List.{List, [], _∷_, _++_, append-nil}
 use mathlib.Core.Option.{Option, none, some}
-use Prim.Native.Nat.{ℕ, zero, suc, _+_, _-_, _≤_, _<_}
+use Prim.Native.Nat.{ℕ, zero, suc, _+_, _-_, _≤_}
 use native.Mathlib.Omega.{arith}
 use lib.ListN.{length, take, drop, length-append, length-drop}
 use lib.Seq.{length-take-le}
@@ -28,7 +28,7 @@ use Rattle.text_answers.specs.Rooms.{lineRoom}
 use Rattle.text_answers.specs.Stage.{Stage, opening, editing, ended, accepted, behindFirst, nextLine, answered}
 use Rattle.text_answers.specs.Lines.{stageBy, KnownIn, Opens}
 use Rattle.text_lines.specs.declared.State.{State}
-use Rattle.text_lines.specs.Steps.{kept, longer, after, printed, within, Gathers, Moves, Full, Steps}
+use Rattle.text_lines.specs.Steps.{kept, longer, after, printed, within, Gathers, Moves, Steps}
 use Rattle.text_lines.specs.Memory.{stageOf, heldBehind, Keeps, firstEnd, Fills, Put, Begins}
 use Rattle.text_lines.proofs.Pieces.{after-ended, printed-ended}
 use Rattle.text_lines.proofs.Puts.{put-bytes, put-none, over-none}

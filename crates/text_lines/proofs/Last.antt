@@ -1,17 +1,14 @@
 -- Laws of the input's end.
 -- Assumes nothing.
-use mathlib.Core.Path.{_≡_, refl, sym, ap, subst, _∙_}
-use mathlib.Core.Bool.{Bool, true, false}
+use mathlib.Core.Path.{_≡_, refl, ap, subst, _∙_}
 use mathlib.Core.List.{List, [], _∷_}
 use Prim.Native.Nat.{ℕ, _≤_, _<_}
 use native.Mathlib.Omega.{arith}
-use lib.Dec.{leb}
 use lib.ListN.{length, take}
 use lib.Seq.{length-take-le}
-use borrow.Author.Tests.{le-leb, lt-leb, leb-true}
 use Rattle.rules.specs.declared.Written.{Written}
 use Rattle.rules.specs.declared.Written.the-variants as written
-use Rattle.rules.specs.Bytes.{if_then_else_, given, refused, over}
+use Rattle.rules.specs.Bytes.{given, over}
 use Rattle.rules.specs.Answer.{writtenOf, bytesOf}
 use Rattle.rules.specs.Run.{lineFeed}
 use Rattle.rules.proofs.Fills.{refuses, gives}

@@ -64,18 +64,6 @@ module _ (x : Stage) (short : Short x) (input : List ℕ) (t : ℕ) (ends : t �
     moves-feed z n out out′ there e room q =
         record { inside = omega (arith, more); reaches = there ∙ sym next; prints = q ∙ rw said; counts = e ∙ rw said; fits = room }
 
--- a run that has ended takes all
-pub moves-ended : (input : List ℕ) (t : ℕ) (out : List ℕ) → t ≡ length input → Moves ended ended input t 0 out out
-unfolding over
-moves-ended input t out e =
-    record {
-      inside = omega arith;
-      reaches = sym (after-ended (take t input));
-      prints = rw (printed-ended (take t input));
-      counts = rw (printed-ended (take t input));
-      fits = omega arith;
-    }
-
 -- two pieces in a row
 module _ (x y : Stage) (input : List ℕ) (t : ℕ) (is : y ≡ after x (take t input)) (n : ℕ) where
   row : take (t + n) input ≡ take t input ++ take n (drop t input)

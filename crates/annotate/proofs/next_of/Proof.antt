@@ -1,7 +1,6 @@
 -- `annotate::next_of` meets its contract. Assumes nothing.
 use mathlib.Core.Path.{sym, _∙_}
 use borrow.Author.Tests.{not-true, not-false}
-use Rattle.annotate.specs.Turns.{nextBy}
 use borrow.Author.Needs.{needs}
 use Rattle.annotate.proofs.next_of.Statement.{statement}
 use Rattle.annotate.proofs.next_of.Tie as tie

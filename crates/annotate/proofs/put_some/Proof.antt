@@ -9,15 +9,17 @@ use Rattle.annotate.proofs.put_some.Tie as tie
 slice-reshare-prefix-write-all : tie.Need-slice-reshare-prefix-write-all
 slice-reshare-prefix-write-all c =
     let step = c .before .before .before .before .before .before .before .before .step in
-    omega (arith, step .ensures .1 .moves .fits, step .kept .1 .1 .1 .1 .1 .0)
+    omega (arith, step .ensures .1 .0 .moves .fits, step .kept .1 .1 .1 .1 .1 .0)
 
 slice-aggregate-write-all : tie.Need-slice-aggregate-write-all
 slice-aggregate-write-all c =
     let step = c .before .before .before .before .before .before .before .before .before .step in
-    sym (length-take-le _ _ (omega (arith, step .ensures .1 .moves .fits, step .kept .1 .1 .1 .1 .1 .0)))
+    sym (length-take-le _ _ (omega (arith, step .ensures .1 .0 .moves .fits, step .kept .1 .1 .1 .1 .1 .0)))
 
 returns : tie.Need-returns
-returns c = c .before .before .before .before .before .before .before .before .before .before .step .ensures
+returns c =
+    let step = c .before .before .before .before .before .before .before .before .before .before .step in
+    (step .ensures .0, step .ensures .1 .0)
 
 pub put-some-spec : {M : Type 1} → statement M
 put-some-spec =

@@ -4,7 +4,7 @@ use Prim.Native.Nat.{_-_}
 use native.Mathlib.Omega.{arith}
 use lib.ListN.{length}
 use Rattle.text_lines.specs.Memory.{stageOf}
-use Rattle.annotate.proofs.Turning.{Reached, reached-none, sum-fits, falls, reached-on, reached-all, not-written, rest-length}
+use Rattle.annotate.proofs.Turning.{Reached, reached-none, sum-fits, falls, reached-on, reached-all, not-written}
 use borrow.Author.Needs.{needs}
 use Rattle.annotate.proofs.run_piece.Statement.{statement}
 use Rattle.annotate.proofs.run_piece.Tie as tie

@@ -1,7 +1,5 @@
 -- `text_lines::is_over` meets its contract. Assumes nothing.
 use mathlib.Core.Path.{sym, ap}
-use mathlib.Core.List.{List}
-use Prim.Native.Nat.{ℕ}
 use lib.ListN.{take}
 use Rattle.text_answers.specs.declared.Phase.{Phase}
 use Rattle.text_answers.specs.Stage.{isEnded}

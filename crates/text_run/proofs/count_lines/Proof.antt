@@ -30,7 +30,7 @@ add-at : tie.Need-add-at Inv-loop μ-loop
 add-at c =
     let inv = c .before .before .before .before .before .before .before .before .before .before .before .before .before .before .before .before .before .loop .inv in
     let step = c .before .before .before .before .before .before .before .before .before .before .step in
-    omega (arith, goes-on _ _ _ _ _ _ _ _ (inv .0) (step .result .state) (step .last .1 .0) (step .last .1 .1 .0) _ _ _ _ (step .ensures .1), inv .1 .small)
+    omega (arith, goes-on _ _ _ _ _ _ _ _ (inv .0) (step .result .state) (step .last .1 .0) (step .last .1 .1 .0) _ _ _ _ (step .ensures .1 .0), inv .1 .small)
 
 sub-if1 : tie.Need-sub-if1 Inv-loop μ-loop
 sub-if1 c = c .before .before .before .before .before .before .before .before .before .before .before .before .before .before .before .before .before .loop .inv .0 .fits
@@ -52,7 +52,7 @@ returns c =
     let inv = c .before .before .before .before .before .before .before .before .before .before .before .before .before .before .before .before .before .before .before .loop .inv in
     let step = c .before .before .before .before .before .before .before .before .before .before .before .before .step in (
       (λ z. absurd (not-within z)),
-      ((λ z. too-many _ _ _ _ _ _ _ _ (inv .0) (step .result .state) (step .last .1 .0) (step .last .1 .1 .0) _ _ _ _ (step .ensures .1) (c .if1 .taken)), step .kept .1 .1 .1 .1 .1 .0 ∙ inv .1 .room),
+      ((λ z. too-many _ _ _ _ _ _ _ _ (inv .0) (step .result .state) (step .last .1 .0) (step .last .1 .1 .0) _ _ _ _ (step .ensures .1 .0) (c .if1 .taken)), step .kept .1 .1 .1 .1 .1 .0 ∙ inv .1 .room),
     )
 
 add-total : tie.Need-add-total Inv-loop μ-loop
@@ -62,13 +62,13 @@ loop-less : tie.Need-loop-less Inv-loop μ-loop
 loop-less c =
     let inv = c .before .before .before .before .before .before .before .before .before .before .before .before .before .before .before .before .before .before .before .before .loop .inv in
     let step = c .before .before .before .before .before .before .before .before .before .before .before .before .before .step in
-    omega (arith, takes _ _ _ _ _ _ _ _ (inv .0) (step .result .state) (step .last .1 .0) (step .last .1 .1 .0) _ _ _ _ (step .ensures .1) (c .before .before .before .before .before .before .before .before .before .before .before .before .before .before .before .before .before .before .before .loop-test .taken) (omega (arith, inv .1 .room)), c .before .before .before .before .before .before .before .before .before .before .before .before .before .before .before .before .before .before .before .loop-test .taken)
+    omega (arith, takes _ _ _ _ _ _ _ _ (inv .0) (step .result .state) (step .last .1 .0) (step .last .1 .1 .0) _ _ _ _ (step .ensures .1 .0) (c .before .before .before .before .before .before .before .before .before .before .before .before .before .before .before .before .before .before .before .loop-test .taken) (omega (arith, inv .1 .room)), c .before .before .before .before .before .before .before .before .before .before .before .before .before .before .before .before .before .before .before .loop-test .taken)
 
 loop-again : tie.Need-loop-again Inv-loop μ-loop
 loop-again c =
     let inv = c .before .before .before .before .before .before .before .before .before .before .before .before .before .before .before .before .before .before .before .before .loop .inv in
     let step = c .before .before .before .before .before .before .before .before .before .before .before .before .before .step in (
-      counted-on _ _ _ _ _ _ _ _ (inv .0) (step .result .state) (step .last .1 .0) (step .last .1 .1 .0) _ _ _ _ (step .ensures .1) _ (step .ensures .0) (step .kept .1 .0) (step .kept .1 .1 .0) (step .kept .1 .1 .1 .0) (c .before .if1 .left),
+      counted-on _ _ _ _ _ _ _ _ (inv .0) (step .result .state) (step .last .1 .0) (step .last .1 .1 .0) _ _ _ _ (step .ensures .1 .0) _ (step .ensures .0) (step .kept .1 .0) (step .kept .1 .1 .0) (step .kept .1 .1 .1 .0) (c .before .if1 .left),
       record {
         room = step .kept .1 .1 .1 .1 .1 .0 ∙ inv .1 .room;
         of-line = step .kept .1 .0 ∙ inv .1 .of-line;

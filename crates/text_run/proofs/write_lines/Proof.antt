@@ -12,7 +12,7 @@ returns : tie.Need-returns
 returns c =
     let args = c .before .before .before .before .before .before .before .before .before .before .before .before .before .before .before .before .before .before .before .args in
     let step = c .before .before .before .before .before .before .before .before .step in
-    (step .ensures .0, wrote _ (args .line .now) (args .letters .now) (c .before .before .before .before .before .before .before .before .before .before .before .before .before .start .ensures) _ _ _ (c .before .before .before .before .before .before .before .before .before .before .before .before .before .before .before .before .before .before .before .pre .1) _ _ _ (step .ensures .1))
+    (step .ensures .0, wrote _ (args .line .now) (args .letters .now) (c .before .before .before .before .before .before .before .before .before .before .before .before .before .start .ensures) _ _ _ (c .before .before .before .before .before .before .before .before .before .before .before .before .before .before .before .before .before .before .before .pre .1) _ _ _ (step .ensures .1 .0))
 
 pub write-lines-spec : {M : Type 1} → statement M
 write-lines-spec =

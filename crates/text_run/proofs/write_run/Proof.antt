@@ -1,6 +1,5 @@
 -- `text_run::write_run` meets its contract. Assumes nothing.
 use mathlib.Core.Path.{refl}
-use Rattle.text_lines.proofs.Rooms.{rooms-kept}
 use Rattle.text_run.proofs.Counting.{used-fits, written-run}
 use borrow.Author.Needs.{needs}
 use Rattle.text_run.proofs.write_run.Statement.{statement}
@@ -21,7 +20,7 @@ finish-requires c κs =
     (record { for-line = write-lines .kept .0; for-letters = write-lines .kept .1 .0; for-protein = write-lines .kept .1 .1 .0 }, write-lines .ensures .0)
 
 returns : tie.Need-returns
-returns c = written-run _ _ _ _ _ (c .before .before .before .before .before .before .before .before .before .before .before .before .before .before .before .before .write-lines .ensures .1) _ (c .before .before .before .before .before .finish .ensures .1)
+returns c = written-run _ _ _ _ _ (c .before .before .before .before .before .before .before .before .before .before .before .before .before .before .before .before .write-lines .ensures .1) _ (c .before .before .before .before .before .finish .ensures .1 .0)
 
 pub write-run-spec : {M : Type 1} → statement M
 write-run-spec =

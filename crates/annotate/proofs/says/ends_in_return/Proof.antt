@@ -2,7 +2,6 @@
 use native.Mathlib.Omega.{arith}
 use borrow.Author.Tests.{lt-ltb, le-ltb}
 use lib.ListN.{length}
-use borrow.Author.Needs.{needs}
 use Rattle.annotate.proofs.says.ends_in_return.Statement.{statement}
 use Rattle.annotate.proofs.says.ends_in_return.Tie as tie
 

@@ -1,5 +1,4 @@
 -- `text_answers::edit::answer_asked` meets its contract. Assumes nothing.
-use mathlib.Core.Path.{refl}
 use native.Mathlib.Omega.{arith}
 use Rattle.rules.specs.Run.{recordLine}
 use Rattle.rules.specs.Line.{textLimits}

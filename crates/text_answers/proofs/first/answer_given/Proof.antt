@@ -1,7 +1,6 @@
 -- `text_answers::first::answer_given` meets its contract. Assumes nothing.
 use mathlib.Core.Path.{sym}
 use native.Mathlib.Omega.{arith}
-use lib.ListN.{length}
 use lib.Seq.{length-take-le}
 use Rattle.rules.specs.Translation.{residueCount}
 use Rattle.text_answers.proofs.Checking.{letters-fit, protein-fits, reference-room, opens-refused, opens-known}

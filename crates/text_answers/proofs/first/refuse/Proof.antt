@@ -1,5 +1,4 @@
 -- `text_answers::first::refuse` meets its contract. Assumes nothing.
-use mathlib.Core.Path.{refl}
 use native.Mathlib.Omega.{arith}
 use Rattle.text_prints.proofs.Sizes.{refused-size}
 use borrow.Author.Needs.{needs}

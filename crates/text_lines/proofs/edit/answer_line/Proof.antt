@@ -1,11 +1,6 @@
 -- `text_lines::edit::answer_line` meets its contract. Assumes nothing.
-use mathlib.Core.Path.{sym, ap, _∙_}
-use mathlib.Core.List.{List}
-use Prim.Native.Nat.{ℕ}
+use mathlib.Core.Path.{sym}
 use lib.Seq.{length-take-le}
-use Rattle.rules.specs.Bytes.{over}
-use Rattle.rules.specs.Answer.{writtenOf, bytesOf}
-use Rattle.text_lines.specs.Steps.{within}
 use Rattle.text_lines.proofs.Puts.{put-as}
 use borrow.Author.Needs.{needs}
 use Rattle.text_lines.proofs.edit.answer_line.Statement.{statement}

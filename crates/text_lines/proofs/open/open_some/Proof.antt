@@ -1,5 +1,5 @@
 -- `text_lines::open::open_some` meets its contract. Assumes nothing.
-use mathlib.Core.Path.{sym, _∙_}
+use mathlib.Core.Path.{sym}
 use native.Mathlib.Omega.{arith}
 use lib.Seq.{length-take-le}
 use Rattle.text_lines.proofs.Beginning.{begun-all, begun-keeps, begun-full, put-fits, opened-begins, opened-keeps, fills-none, fills-line}
