@@ -20,7 +20,7 @@
  *         struct garumbott_buffers buffers = { transcript, sizeof transcript, R, sizeof R, A, sizeof A };
  *         struct garumbott_answer a = garumbott_record_of(&reference, &edit, &buffers);
  *         if (a.answer != GARUMBOTT_CHANGED) {
- *             printf("answer %d, refusal %d\n", (int)a.answer, (int)a.refusal);
+ *             printf("%s: %s\n", garumbott_answer_name(a.answer), garumbott_refusal_words(a.refusal));
  *             return 1;
  *         }
  *         printf("%s %d %.*s %.*s\n", garumbott_class_name(a.change), (int)a.number, (int)a.deleted_len, (const char *)R + a.deleted_at,
@@ -40,9 +40,13 @@
  *   Stack. No call needs more than GARUMBOTT_STACK bytes of it, but for garumbott_run: GARUMBOTT_RUN_STACK.
  *   Refusals. Every other fault of the input is refused: the answer has the refusal's number, every other number in it is 0, and no byte of
  *     any buffer has changed. Where several faults apply, the lowest number is given, but where a function names another order.
+ *     garumbott_refusal_words has words for each number, to show to a user.
  *   Bytes written stand at a buffer's start. What stands behind them is as it was before the call.
  *   Numbers from the caller that are too large for their meaning are refused like any other wrong number; none is cut down to fewer bits.
- *   Letters are bytes of ASCII, and residues are too. A stop is '*', a residue that isn't known 'X'.
+ *   Letters are IUPAC's for bases and sets of bases, ACGTRYSWKMBDHVN, in upper case but for garumbott_translate. Letters and residues are bytes of
+ *     ASCII. A stop is '*', a residue that isn't known 'X'.
+ *   Versions. Later versions add members at the ends of the structs; 0 in a new member means what is done today. The archive can't tell which
+ *     header its caller was compiled with: compile all of a host with the header that came with the archive, and anew whenever they change.
  *
  * The archive is compiled for Linux on x86-64 (System V calling convention). It wants memcpy and memset of the C library and nothing else,
  * and links into programs and shared objects alike. The header is C11, and C++ as well.
@@ -57,6 +61,7 @@
 extern "C" {
 #endif
 
+/* Of this header and of the archive that it came with. */
 #define GARUMBOTT_VERSION "1.0.0"
 
 /* ---- Limits ------------------------------------------------------------------------------------------------------------------------- */
@@ -69,17 +74,24 @@ extern "C" {
 #define GARUMBOTT_LONGEST 16384
 #define GARUMBOTT_MOST_BASES 4096
 
-/* The most exceptions, and the bytes of each in the stored form: the codon's number, from 1, in two bytes, high byte first, then the residue
- * ('A' to 'Z' or '*') that is read there instead of the table's. */
+/* The most exceptions, and the bytes of each. An exception has a codon read as another residue than the table's: the codon's number, from 1, in
+ * two bytes, high byte first, then the residue, 'A' to 'Z' or '*'. "\0\2U" (three bytes; C's zero byte doesn't count) has codon 2 read as U. */
 #define GARUMBOTT_MOST_EXCEPTIONS 16
 #define GARUMBOTT_EXCEPTION_BYTES 3
 
-/* Buffers of these sizes are never too short for garumbott_edit and garumbott_record. The functions below them compute smaller ones. */
+/* Buffers of these sizes are never too short for garumbott_edit and garumbott_record. garumbott_transcript_room and the two functions behind it
+ * compute smaller ones. */
 #define GARUMBOTT_TRANSCRIPT_ROOM 32768
 #define GARUMBOTT_REFERENCE_ROOM 5461
 #define GARUMBOTT_ALTERED_ROOM 10923
 
 /* ---- Numbers ------------------------------------------------------------------------------------------------------------------------ */
+
+/* Genetic codes, for `table`. The numbers aren't NCBI's: its code 1, the standard one, is 0 here, and 1 is the one with selenocysteine. A host that
+ * hands NCBI's 1 on gets answers by the wrong code, or 6 where the CDS ends in TGA. Every other number is refused with 4. */
+#define GARUMBOTT_TABLE_STANDARD 0                 /* NCBI's code 1 */
+#define GARUMBOTT_TABLE_SELENOCYSTEINE 1           /* the same, but TGA is U */
+#define GARUMBOTT_TABLE_VERTEBRATE_MITOCHONDRIAL 2 /* NCBI's code 2: TGA is W, ATA is M, AGA and AGG are '*' */
 
 /* Kinds of edit. Every other number is an unknown kind and refused with 10. */
 #define GARUMBOTT_SUBSTITUTION 1 /* one base gives way to one new base */
@@ -97,7 +109,7 @@ extern "C" {
 #define GARUMBOTT_SILENT 3     /* both proteins are the same */
 #define GARUMBOTT_CHANGED 4
 
-/* Classes of a change, in the order in which they are tried; 0 where an answer has no change. */
+/* Classes of a change, in the order in which they are tried; 0 where an answer has no change. "There" is at the change's number. */
 #define GARUMBOTT_CHANGE_NONE 0
 #define GARUMBOTT_CHANGE_START_LOST 1   /* residue 1 changes */
 #define GARUMBOTT_CHANGE_EXTENSION 2    /* something is deleted, and R has its stop there */
@@ -114,9 +126,9 @@ extern "C" {
 #define GARUMBOTT_REFUSAL_LETTER 2           /* a letter isn't one of ACGTRYSWKMBDHVN (plain translation: either case, and U too) */
 #define GARUMBOTT_REFUSAL_BOUNDS 3           /* not 1 <= cs <= ce <= letters_len, or ce-cs+1 not divisible by 3, or below 6 */
 #define GARUMBOTT_REFUSAL_TABLE 4            /* the table isn't 0, 1 or 2 */
-#define GARUMBOTT_REFUSAL_EXCEPTIONS 5       /* exceptions break a rule */
+#define GARUMBOTT_REFUSAL_EXCEPTIONS 5       /* too many exceptions, a codon number or a residue that is none, or codon numbers out of order */
 #define GARUMBOTT_REFUSAL_LAST_CODON 6       /* the last codon of the CDS, exceptions applied, doesn't read '*' */
-#define GARUMBOTT_REFUSAL_POSITION 7         /* a position is none, or outside, or a duplication ends behind the transcript */
+#define GARUMBOTT_REFUSAL_POSITION 7         /* a position is none, past the CDS or before the transcript; a duplication ends behind it */
 #define GARUMBOTT_REFUSAL_ORDER 8            /* start behind end, anchors no neighbours, or a substitution at two places */
 #define GARUMBOTT_REFUSAL_OUT_OF_CDS 9       /* both ends before the CDS, both behind it, or an insertion that begins before it */
 #define GARUMBOTT_REFUSAL_BASES 10           /* new bases missing, too many, of a wrong letter, or not wanted; unknown kind */
@@ -185,18 +197,23 @@ struct garumbott_stored {
  *
  * The reference:
  *   letters, letters_len         the transcript, 1 to 16,384 upper-case letters (1, 2)
- *   cs, ce                       first and last base of the CDS, counted from 1, both included (3)
- *   table                        0: the standard code; 1: TGA is U; 2: TGA is W, ATA is M, AGA and AGG are '*' (4)
+ *   cs, ce                       first and last base of the CDS, counted from 1, both included: two codons or more (3), of which the last reads
+ *                                '*', exceptions applied (6)
+ *   table                        GARUMBOTT_TABLE_..; not NCBI's number (4)
  *   exceptions, exceptions_len   at most 16, three bytes each as above, codon numbers strictly rising and within the CDS; none: length 0.
  *                                A length that isn't divisible by three is refused like any other fault of theirs (5)
- * The edit:
- *   kind                         GARUMBOTT_SUBSTITUTION .. GARUMBOTT_IDENTITY
+ * The edit, by the positions of an HGVS name ("c.8", "c.-2", "c.*3"; those in introns, as "c.88+2", have no place here):
+ *   kind                         GARUMBOTT_SUBSTITUTION .. GARUMBOTT_IDENTITY (10)
  *   start_star, start            the first position: start_star 0 and start = p, or start_star 1 and start = q.
  *   end_star, end                the last position, the same as the first where there is only one.
  *                                p > 0 is base p of the CDS, p < 0 the base -p before it, q > 0 base q behind it ("*q"), at most 65,535.
- *                                A base behind the CDS is only ever a star. Every other pair of numbers is no position (7)
+ *                                A base behind the CDS is only ever a star. Every other pair of numbers is no position (7).
+ *                                An insertion's two are neighbours, a substitution's the same, and no kind's first is behind its last (8).
+ *                                They aren't both before the CDS, nor both behind it, and an insertion's first isn't before it (9)
  *   bases, bases_len             the new bases, upper-case letters: one for a substitution, 1 to 4,096 for delins and insertion, none for
  *                                the other kinds (10)
+ *   The base that a substitution names isn't part of a call: "8T>G" is answered as "8A>G" is, whatever the transcript has there. A host that
+ *   minds compares it with letters[cs + start - 2] once the edit isn't refused. A stricter call that looks at it is to come.
  * The buffers, each with its length:
  *   transcript                   gets the altered transcript (11)
  *   reference                    gets R (12)
@@ -204,12 +221,12 @@ struct garumbott_stored {
  *
  * What it does:
  *   An edit that begins before the CDS changes bases from base 1 of the CDS on: the bases before it stay.
- *   New bases of an insertion, and the copy of a duplication, end with the first stop codon that they make: what they have behind it is dropped,
- *     and such an edit is no frameshift. So the transcript may be shorter than you would count.
- *   The frameshift flag is set where the change of length, before that, isn't divisible by 3, and where a deletion, delins or substitution begins in the
- *     CDS and ends behind it; never where the bases are put back as they were, nor in an inversion or an identity.
- *   A is read from base 1 of the CDS through the first '*', to the transcript's end where there is none, with 'X' for one or two bases that are left. An
- *     exception stays with its codon where the edit leaves that codon as it was and in frame, and is dropped otherwise.
+ *   New bases of an insertion, and the copy of a duplication, end with the first stop codon that they make by themselves, in the CDS's frame: what
+ *     they have behind it is dropped, and such an edit is no frameshift. So the transcript may be shorter than you would count.
+ *   The frameshift flag is set where the change of length, before that, isn't divisible by 3, and where a deletion or delins goes on from the CDS
+ *     to behind it; never where the bases are put back as they were, nor in an inversion or an identity.
+ *   A is read from base 1 of the CDS through the first '*', to the transcript's end where there is none, with 'X' for one or two bases that are
+ *     left. An exception stays with its codon where the edit leaves that codon as it was and in frame, and is dropped otherwise.
  *
  * Refusals 1 to 12, the lowest that applies; but Unknown is decided before 11, so that it needs no room. Refused and Unknown write nothing;
  * every other answer writes all three buffers. */
@@ -252,10 +269,11 @@ struct garumbott_stored garumbott_read_stored(const uint8_t *data, uint64_t data
 
 /* ---- The text program --------------------------------------------------------------------------------------------------------------- */
 
-/* The text program over memory: the first line of the input is "ref CS CE TABLE LETTERS", each line behind it an edit ("8A>G", "5del", "4_6dup", "9_10insTAG",
- * "4_6delinsTT", "4_6inv", "4="; positions "7", "-2", "*3"), and each is answered by a line: "reference MAKW*", "substitution 3 K R", "refused 7". A line
- * ends at a line feed, the last perhaps without; lines that aren't in the form, empty ones and those above 20,480 bytes are answered "refused 30".
- * A refused first line ends the run. An answer has at most 16,415 bytes, its line feed included.
+/* The text program over memory: the first line of the input is "ref CS CE TABLE LETTERS", each line behind it an edit ("8A>G", "5del", "4_6dup",
+ * "9_10insTAG", "4_6delinsTT", "4_6inv", "4="; positions "7", "-2", "*3"), and each is answered by a line: "reference MAKW*",
+ * "substitution 3 K R", "refused 7". TABLE is 0, 1 or 2 as above, and the base that a substitution names isn't looked at here either. A line ends
+ * at a line feed, the last perhaps without; a carriage return before it is a byte of the line. Lines that aren't in the form, empty ones and those
+ * above 20,480 bytes are answered "refused 30". A refused first line ends the run. An answer has at most 16,415 bytes, its line feed included.
  * Refusal 15: the answers don't fit; then no byte of out has changed. Nothing else is refused. */
 struct garumbott_length garumbott_run(const uint8_t *input, uint64_t input_len, uint8_t *out, uint64_t out_len);
 
@@ -264,8 +282,9 @@ struct garumbott_length garumbott_run(const uint8_t *input, uint64_t input_len, 
 /* Translates codon by codon: one residue a codon, then one 'X' if one or two bytes remain. Letters may be of either case, and U is T. A codon
  * of ambiguous letters reads as its residue if all its plain codons agree, else 'X'. A remaining byte isn't looked at.
  *   full         not 0: a length that isn't divisible by 3 is refused (14)
- *   exceptions   as in garumbott_record, but codon numbers may come in any order, and the last one for a codon counts; one behind the whole codons does
- *                nothing. The letters of its codon must be good all the same
+ *   table        GARUMBOTT_TABLE_.. (4)
+ *   exceptions   as in garumbott_record, but codon numbers may come in any order, and the last one for a codon counts; one behind the whole codons
+ *                does nothing (5). The letters of an exception's codon must be good all the same
  *   out          needs (seq_len + 2) / 3 bytes (15)
  * The first of these that applies is given: 4, 5, 14, 15, 2. */
 struct garumbott_length garumbott_translate(const uint8_t *seq, uint64_t seq_len, uint64_t table, uint64_t full, const uint8_t *exceptions,
@@ -287,8 +306,8 @@ uint64_t garumbott_common_suffix(const uint8_t *a, uint64_t a_len, const uint8_t
 
 /* ---- The same over structs ---------------------------------------------------------------------------------------------------------- */
 
-/* Twenty arguments in a row are easy to mix up: these hold them by name. Members that an initializer leaves out are 0, which is right for
- * exceptions, stars, bases and table 0. */
+/* Twenty arguments in a row are easy to mix up: these hold them by name. Members that an initializer leaves out are 0: no exceptions, no stars, no
+ * bases, and GARUMBOTT_TABLE_STANDARD. */
 struct garumbott_reference {
     const uint8_t *letters;
     uint64_t letters_len;
@@ -349,8 +368,8 @@ static inline struct garumbott_answer garumbott_edit_of(const struct garumbott_r
 }
 
 /* Room that is enough for any edit of a kind with so many new bases. Less may do: 11 and 12 ask for the altered length itself, and for a
- * residue of each of its codons from cs on. The numbers are those of a reference and an edit that aren't refused; garumbott_record with three buffers
- * of length 0 tells whether they are: it answers 11 or 12 to one that is accepted. */
+ * residue of each of its codons from cs on. The numbers are those of a reference and an edit that aren't refused; garumbott_record with three
+ * buffers of length 0 tells whether they are: it answers 11, 12 or Unknown to one that is accepted. */
 static inline uint64_t garumbott_transcript_room(uint64_t letters_len, uint64_t kind, uint64_t bases_len)
 {
     return letters_len + (kind == GARUMBOTT_DUPLICATION ? letters_len : bases_len);
@@ -384,6 +403,57 @@ static inline const char *garumbott_class_name(uint64_t change)
     case GARUMBOTT_CHANGE_INSERTION: return "insertion";
     case GARUMBOTT_CHANGE_DELINS: return "delins";
     default: return "?";
+    }
+}
+
+/* The name of an answer, "?" for any other number. The text program prints these too, but for "changed": there it prints the class. */
+static inline const char *garumbott_answer_name(uint64_t answer)
+{
+    switch (answer) {
+    case GARUMBOTT_REFUSED: return "refused";
+    case GARUMBOTT_UNKNOWN: return "unknown";
+    case GARUMBOTT_NO_PROTEIN: return "no-protein";
+    case GARUMBOTT_SILENT: return "silent";
+    case GARUMBOTT_CHANGED: return "changed";
+    default: return "?";
+    }
+}
+
+/* When a refusal is given, in words for a user. They may change with the version: tell refusals apart by their numbers. */
+static inline const char *garumbott_refusal_words(uint64_t number)
+{
+    switch (number) {
+    case 0: return "not refused";
+    case GARUMBOTT_REFUSAL_LENGTH: return "the transcript's length is 0 or above 16,384";
+    case GARUMBOTT_REFUSAL_LETTER:
+        return "a letter is not of ACGTRYSWKMBDHVN, the fifteen of a reference and of a complement; plain translation takes either case, and U as T";
+    case GARUMBOTT_REFUSAL_BOUNDS: return "the bounds break a rule: 1 <= cs <= ce <= length, ce-cs+1 divisible by 3 and at least 6";
+    case GARUMBOTT_REFUSAL_TABLE: return "the table is not 0, 1 or 2";
+    case GARUMBOTT_REFUSAL_EXCEPTIONS:
+        return "the exceptions break a rule: at most 16, codon numbers strictly rising from 1 to the number of CDS codons "
+               "(in plain translation from 1 in any order), residues A to Z or *";
+    case GARUMBOTT_REFUSAL_LAST_CODON: return "the last CDS codon, exceptions applied, doesn't read *";
+    case GARUMBOTT_REFUSAL_POSITION:
+        return "a position is 0, star 0 or above 65,535, past the CDS or before base 1 of the transcript, "
+               "or a duplication's end is behind the transcript";
+    case GARUMBOTT_REFUSAL_ORDER:
+        return "the start place is after the end place, an insertion's anchors are not neighbours, or a substitution's two places differ";
+    case GARUMBOTT_REFUSAL_OUT_OF_CDS: return "both ends are before the CDS, or both behind it, or an insertion's left anchor is before it";
+    case GARUMBOTT_REFUSAL_BASES:
+        return "new bases are missing, too many, of a wrong letter, or given where the kind has none; or the kind is unknown";
+    case GARUMBOTT_REFUSAL_TRANSCRIPT_ROOM: return "the transcript buffer is shorter than the altered length";
+    case GARUMBOTT_REFUSAL_PROTEIN_ROOM:
+        return "a protein buffer is shorter than CDS/3 (reference) or ceil((altered length-cs+1)/3) (altered)";
+    case GARUMBOTT_REFUSAL_CODON: return "full codons were demanded, and one or two bytes remain: the length is not divisible by 3";
+    case GARUMBOTT_REFUSAL_OUTPUT:
+        return "a name is unknown, three-letter names have a length not divisible by three, "
+               "or an output doesn't fit (of names, a translation, a complement or a run)";
+    case GARUMBOTT_REFUSAL_CUT: return "a stored field is cut off";
+    case GARUMBOTT_REFUSAL_TAG: return "a stored tag is unknown, repeated or not rising";
+    case GARUMBOTT_REFUSAL_MISSING: return "stored tag 1, 2 or 3 (letters, bounds, table) is missing";
+    case GARUMBOTT_REFUSAL_FIELD: return "a stored field's length is wrong for its tag";
+    case GARUMBOTT_REFUSAL_LINE: return "the text line is not in the form";
+    default: return "a refusal that this header doesn't know";
     }
 }
 

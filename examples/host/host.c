@@ -1,5 +1,5 @@
 /* host [FILE]: answers the edit lines of FILE, or of standard input, through the library. It reads and prints what the text program annotate
- * does; here the lines are taken apart in C, and only the answers come from the library.
+ * does; here the lines are taken apart in C, and only the answers come from the library. Standard error gets the reason of each refusal.
  *
  *     ref CS CE TABLE LETTERS      first line: the reference
  *     8A>G  5del  4_6delinsTT      then an edit a line; positions 7, -2, *3
@@ -16,16 +16,18 @@ enum { LONGEST_LINE = 20480, MOST_DIGITS = 5 };
 struct line {
     char text[LONGEST_LINE + 1]; /* ends in a zero byte */
     size_t len;
-    bool good; /* not too long, and without a zero byte */
+    bool good;            /* not too long, and without a zero byte */
+    unsigned long number; /* from 1 */
 };
 
 /* The next line, without its line feed; false where nothing is left. */
-static bool next_line(FILE *in, struct line *line)
+static bool next_line(FILE *in, unsigned long number, struct line *line)
 {
     int c = getc(in);
     if (c == EOF) return false;
     line->len = 0;
     line->good = true;
+    line->number = number;
     for (; c != EOF && c != '\n'; c = getc(in)) {
         if (line->len == LONGEST_LINE || c == 0) {
             line->good = false;
@@ -126,9 +128,10 @@ static bool read_edit(const struct line *line, struct garumbott_coding_edit *e)
 static uint8_t transcript[GARUMBOTT_TRANSCRIPT_ROOM], reference[GARUMBOTT_REFERENCE_ROOM], altered[GARUMBOTT_ALTERED_ROOM];
 static const struct garumbott_buffers buffers = {transcript, sizeof transcript, reference, sizeof reference, altered, sizeof altered};
 
-static void print_refused(uint64_t number)
+static void print_refused(const struct line *line, uint64_t number)
 {
     printf("refused %d\n", (int)number);
+    fprintf(stderr, "line %lu: refused %d: %s\n", line->number, (int)number, garumbott_refusal_words(number));
 }
 
 static void print_part(const uint8_t *residues, uint64_t at, uint64_t len)
@@ -140,28 +143,33 @@ static void print_part(const uint8_t *residues, uint64_t at, uint64_t len)
     }
 }
 
-static void print_answer(const struct garumbott_answer *a)
+/* A record: its class, or "silent", the first residue's number, and the residues that go and come. */
+static void print_record(const char *name, const struct garumbott_answer *a)
 {
-    switch (a->answer) {
-    case GARUMBOTT_REFUSED: print_refused(a->refusal); return;
-    case GARUMBOTT_UNKNOWN: printf("unknown\n"); return;
-    case GARUMBOTT_NO_PROTEIN: printf("no-protein\n"); return;
-    default: break;
-    }
-    printf("%s %d", a->answer == GARUMBOTT_SILENT ? "silent" : garumbott_class_name(a->change), (int)a->number);
+    printf("%s %d", name, (int)a->number);
     print_part(reference, a->deleted_at, a->deleted_len);
     print_part(altered, a->inserted_at, a->inserted_len);
     if (a->change == GARUMBOTT_CHANGE_DUPLICATION) printf(" %d", (int)a->first);
     printf("\n");
 }
 
+static void print_answer(const struct line *line, const struct garumbott_answer *a)
+{
+    switch (a->answer) {
+    case GARUMBOTT_REFUSED: print_refused(line, a->refusal); break;
+    case GARUMBOTT_SILENT: print_record(garumbott_answer_name(a->answer), a); break;
+    case GARUMBOTT_CHANGED: print_record(garumbott_class_name(a->change), a); break;
+    default: printf("%s\n", garumbott_answer_name(a->answer)); break; /* unknown, no-protein */
+    }
+}
+
 /* Prints the reference protein. An edit that changes nothing is refused exactly where the reference is. */
-static bool check_reference(const struct garumbott_reference *r)
+static bool check_reference(const struct line *line, const struct garumbott_reference *r)
 {
     const struct garumbott_coding_edit nothing = {.kind = GARUMBOTT_IDENTITY, .start = 1, .end = 1};
     struct garumbott_answer a = garumbott_record_of(r, &nothing, &buffers);
     if (a.answer == GARUMBOTT_REFUSED) {
-        print_refused(a.refusal);
+        print_refused(line, a.refusal);
         return false;
     }
     struct garumbott_length n = garumbott_translate(r->letters + (r->cs - 1), r->ce + 1 - r->cs, r->table, 1, r->exceptions, r->exceptions_len,
@@ -175,18 +183,18 @@ static void run(FILE *in)
     static struct line first, line;
     struct garumbott_reference r;
     struct garumbott_coding_edit e;
-    if (!next_line(in, &first)) return;
+    if (!next_line(in, 1, &first)) return;
     if (!read_reference(&first, &r)) {
-        print_refused(GARUMBOTT_REFUSAL_LINE);
+        print_refused(&first, GARUMBOTT_REFUSAL_LINE);
         return;
     }
-    if (!check_reference(&r)) return;
-    while (next_line(in, &line)) {
+    if (!check_reference(&first, &r)) return;
+    for (unsigned long n = 2; next_line(in, n, &line); n++) {
         if (read_edit(&line, &e)) {
             struct garumbott_answer a = garumbott_record_of(&r, &e, &buffers);
-            print_answer(&a);
+            print_answer(&line, &a);
         } else {
-            print_refused(GARUMBOTT_REFUSAL_LINE);
+            print_refused(&line, GARUMBOTT_REFUSAL_LINE);
         }
     }
 }
@@ -203,7 +211,7 @@ int main(int argc, char **argv)
         return 1;
     }
     run(in);
-    if (ferror(in) || fflush(stdout) != 0) {
+    if (ferror(in) || fflush(stdout) != 0 || ferror(stdout)) {
         perror("host");
         return 1;
     }

@@ -1,7 +1,8 @@
-/* fuzz SECONDS SEED: calls every entry point on random bytes, on good input and on damaged copies of it, through fenced memory, and holds each
- * answer to what can be told without a second account of the rules: no byte changes that shouldn't, every number is in its range, the answers of
- * different entry points fit together, the altered transcript is what the edit makes of the letters, the record carried out on one protein gives the
- * other, and a stored reference is what its fields, read plainly, and garumbott_record make of it. In the end every answer, class and refusal must have come up. Prints the call's seed where a check fails, and exits 1. */
+/* fuzz SECONDS SEED: for so long, and on 10,000 inputs at least, calls every entry point on random bytes, on good input and on damaged copies of
+ * it, through fenced memory, and holds each answer to what can be told without a second account of the rules: no byte changes that shouldn't,
+ * every number is in its range, the answers of different entry points fit together, the altered transcript is what the edit makes of the letters,
+ * the record carried out on one protein gives the other, and a stored reference is what its fields, read plainly, and garumbott_record make of it.
+ * In the end every answer, class and refusal must have come up. Prints the call's seed where a check fails, and exits 1. */
 #define _DEFAULT_SOURCE
 #include "../host/fence.h"
 #include "garumbott.h"
@@ -133,6 +134,7 @@ static void make_edit(void)
     if (!one_in(20) && end >= ref.letters_len) end = ref.letters_len - 1;
     memset(&edit, 0, sizeof edit);
     edit.kind = 1 + below(7);
+    if (one_in(60)) edit.kind = GARUMBOTT_DELETION, start = ref.cs - 1, end = ref.letters_len - 1; /* no protein is left */
     if (edit.kind == GARUMBOTT_SUBSTITUTION) end = start;
     if (edit.kind == GARUMBOTT_INSERTION) end = start + 1;
     make_position(start, &edit.start_star, &edit.start);
@@ -577,6 +579,7 @@ int main(int argc, char **argv)
     double seconds = argc > 1 ? strtod(argv[1], NULL) : 30;
     uint64_t seed = argc > 2 ? strtoull(argv[2], NULL, 10) : 1, calls = 0;
     static const int wanted[] = {1, 2, 3, 4, 5, 6, 7, 8, 9, 10, 11, 12, 14, 15, 20, 21, 22, 23};
+    enum { LEAST = 10000 }; /* a slow machine too must meet every answer, class and refusal */
     time_t until = time(NULL) + (time_t)seconds;
     for (int i = 0; i < FENCES; i++) fence_make(&small[i], 4000), fence_make(&large[i], 40000);
     do {
@@ -586,7 +589,7 @@ int main(int argc, char **argv)
             else if (i % 4 == 1) fuzz_stored();
             else fuzz_edit();
         }
-    } while (time(NULL) < until);
+    } while (time(NULL) < until || calls < LEAST);
     for (int i = 0; i < 5; i++) printf("answer %d: %lu\n", i, answers[i]), check(answers[i] != 0, "an answer never came up");
     printf("stored references found: %lu\n", found), check(found != 0, "no stored reference was found");
     for (int i = 1; i < 10; i++) printf("%s: %lu\n", garumbott_class_name((uint64_t)i), classes[i]), check(classes[i] != 0, "a class never came up");

@@ -102,6 +102,7 @@ wanted["REFUSED"] = 0 if re.search(r"^valuesOf \(Refused n\) = record \{ refusal
 limits = re.search(r"^limits = record \{ longest = (\d+); most = (\d+) \}", text(f"{SPECS}/Refusal.antt"), re.M)
 wanted["LONGEST"], wanted["MOST_BASES"] = int(limits.group(1)), int(limits.group(2))
 wanted["MOST_EXCEPTIONS"], wanted["EXCEPTION_BYTES"] = 16, 3
+wanted |= {"TABLE_STANDARD": 0, "TABLE_SELENOCYSTEINE": 1, "TABLE_VERTEBRATE_MITOCHONDRIAL": 2}  # test.c translates by these
 wanted["TRANSCRIPT_ROOM"] = wanted["LONGEST"] + max(wanted["LONGEST"], wanted["MOST_BASES"])
 wanted["REFERENCE_ROOM"] = wanted["LONGEST"] // 3
 wanted["ALTERED_ROOM"] = (wanted["TRANSCRIPT_ROOM"] + 2) // 3

@@ -178,11 +178,28 @@ static void edit_stored(const char *name, const struct garumbott_reference *refe
     }
 }
 
+/* What the header says of rooms, of names, and of the base that a substitution replaces, which stands behind the number in the row's name. */
+static void row_says(const struct row *x, const struct garumbott_answer *w, size_t t, size_t n)
+{
+    const struct garumbott_reference *r = x->reference;
+    const char *name = w->answer == GARUMBOTT_CHANGED ? garumbott_class_name(w->change) : garumbott_answer_name(w->answer);
+    check(strncmp(x->line, name, strlen(name)) == 0, x->name, "the answer's name");
+    if (x->edit.kind == GARUMBOTT_SUBSTITUTION)
+        check(r->letters[r->cs + (uint64_t)x->edit.start - 2] == (uint8_t)x->name[strspn(x->name, "0123456789")], x->name, "the base replaced");
+    if (w->answer < GARUMBOTT_NO_PROTEIN) return;
+    check(garumbott_reference_room(r->cs, r->ce) == n, x->name, "reference_room");
+    check(garumbott_transcript_room(r->letters_len, x->edit.kind, x->edit.bases_len) >= t, x->name, "transcript_room");
+    struct garumbott_buffers none = {0};
+    uint64_t refusal = garumbott_record_of(r, &x->edit, &none).refusal;
+    check(refusal == 11 || refusal == 12, x->name, "11 or 12 without room");
+}
+
 /* A row with exactly the room that its answer asks for, with plenty, and with a byte too little in each buffer. */
 static void row_case(const struct row *x, const char *r)
 {
     size_t t = strlen(x->transcript), a = strlen(x->altered), n = strlen(r);
     struct garumbott_answer w = wanted(x->line, x->flag, t, n, a), e = alone(&w);
+    row_says(x, &w, t, n);
     size_t exact[3] = {t, n, garumbott_altered_room(t, x->reference->cs)};
     size_t plenty[3] = {GARUMBOTT_TRANSCRIPT_ROOM, GARUMBOTT_REFERENCE_ROOM, GARUMBOTT_ALTERED_ROOM};
     edit_case(x->name, x->reference, &x->edit, plenty, &w, &e, x->transcript, r, x->altered);
@@ -772,6 +789,15 @@ static void plain(void)
     plain_case(COMPLEMENT, "complement 32,768 letters", doubled, 32768, 0, 0, NULL, 0, 32768, 0, reversed, 32768);
 }
 
+/* The genetic codes by their names. */
+static void tables(void)
+{
+    static const char codons[] = "TGAATAAGAAGGTAA", *const names[] = {"*IRR*", "UIRR*", "WM***"};
+    static const uint64_t all[] = {GARUMBOTT_TABLE_STANDARD, GARUMBOTT_TABLE_SELENOCYSTEINE, GARUMBOTT_TABLE_VERTEBRATE_MITOCHONDRIAL};
+    for (size_t i = 0; i < sizeof all / sizeof *all; i++)
+        plain_case(TRANSLATE, names[i], bytes(codons), sizeof codons - 1, all[i], 1, NULL, 0, 5, 0, names[i], 5);
+}
+
 static void trims(void)
 {
     static const struct {
@@ -795,7 +821,6 @@ static void trims(void)
     check(garumbott_common_prefix(NULL, 0, bytes("A"), 1) == 0 && garumbott_common_suffix(bytes("A"), 1, NULL, 0) == 0, "trims", "one NULL slice");
 }
 
-/* NULL for every slice of length 0. */
 /* The text program over memory. */
 static void text(void)
 {
@@ -811,6 +836,9 @@ static void text(void)
         {"empty lines", "ref 1 6 0 ATGTAA\n\n\n1=\n", "reference M*\nrefused 30\nrefused 30\nsilent 1 M M\n"},
         {"a refused first line", "ref 1 6 3 ATGTAA\n1=\n", "refused 4\n"},
         {"no first line", "1=\n1=\n", "refused 30\n"},
+        {"another base named", "ref 3 17 0 GGATGGCCAAATGGTAACCTGAC\n8T>G\n8Z>G\n", "reference MAKW*\nsubstitution 3 K R\nsubstitution 3 K R\n"},
+        {"carriage returns", "ref 1 6 0 ATGTAA\n1=\r\n1=\n", "reference M*\nrefused 30\nsilent 1 M M\n"},
+        {"a carriage return in the first line", "ref 1 6 0 ATGTAA\r\n1=\r\n", "refused 30\n"},
     };
     for (size_t i = 0; i < sizeof all / sizeof *all; i++)
         plain_case(RUN, all[i].name, (const uint8_t *)all[i].input, strlen(all[i].input), 0, 0, NULL, 0, strlen(all[i].output), 0, all[i].output, strlen(all[i].output));
@@ -818,6 +846,7 @@ static void text(void)
     check(none.refusal == 0 && none.len == 0, "run", "NULL");
 }
 
+/* NULL for every slice of length 0. */
 static void nulls(void)
 {
     struct garumbott_reference none = {0};
@@ -835,6 +864,21 @@ static void nulls(void)
     check(same(&a, &eleven), "NULL buffers", "record");
     a = garumbott_edit_of(&SHORT, &in, &buffers);
     check(same(&a, &eleven), "NULL buffers", "edit");
+}
+
+/* Slices that are only read may overlap: new bases that stand in the letters. */
+static void overlaps(void)
+{
+    struct garumbott_coding_edit in = {.kind = GARUMBOTT_INSERTION, .start = 3, .end = 4, .bases = SELENO.letters + 6, .bases_len = 3};
+    struct garumbott_answer want = {.answer = GARUMBOTT_CHANGED, .transcript_len = 15, .reference_len = 4, .altered_len = 5,
+                                    .change = GARUMBOTT_CHANGE_INSERTION, .number = 2, .deleted_at = 1, .inserted_at = 1, .inserted_len = 1},
+                            want_alone = alone(&want);
+    uint8_t t[15], p[4], a[5];
+    struct garumbott_buffers b = {t, sizeof t, p, sizeof p, a, sizeof a};
+    struct garumbott_answer got = garumbott_record_of(&SELENO, &in, &b), got_alone = garumbott_edit_of(&SELENO, &in, &b);
+    check(same(&got, &want) && same(&got_alone, &want_alone), "bases in the letters", "answer");
+    check(memcmp(t, "ATGAAATGAAAATAA", 15) == 0 && memcmp(p, "MUK*", 4) == 0 && memcmp(a, "MKUK*", 5) == 0, "bases in the letters", "what is written");
+    check(garumbott_common_suffix(SELENO.letters, 12, SELENO.letters + 6, 6) == 6, "trims", "one slice within the other");
 }
 
 /* ---- threads and stack ------------------------------------------------------------------------------------------------------------- */
@@ -977,7 +1021,9 @@ int main(int argc, char **argv)
     stored();
     text();
     nulls();
+    tables();
     trims();
+    overlaps();
     threads();
     if (argc == 1) stack();
     plain();

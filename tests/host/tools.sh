@@ -1,8 +1,9 @@
 # Sourced from the repository's root by the tests that are written in C: the compiler, the emulator where the machine isn't x86-64, and the
-# archive, proved and built where its sources are newer. Sets cc, nm, static, emulator, archive and warnings.
+# archive, proved and built where its sources are newer. Sets cc, nm, static, emulator, archive and warnings, and, for `need`, the C++ compiler cxx and
+# its package.
 warnings="-std=c11 -O2 -Wall -Wextra -Wpedantic -Wconversion -Wshadow -Wstrict-prototypes -Werror"
 archive=target/staticlib/libgarumbott.a
-cc=gcc nm=nm static= emulator=
+cc=gcc nm=nm static= emulator= cxx=g++ cxx_package=g++
 
 fail() {
   echo "$(basename "$(dirname "$0")"): $1"
@@ -21,7 +22,7 @@ if [ "$(uname -m)" = x86_64 ]; then
   need gcc gcc libc6-dev
 else
   need x86_64-linux-gnu-gcc gcc-x86-64-linux-gnu libc6-dev-amd64-cross
-  cc=x86_64-linux-gnu-gcc nm=x86_64-linux-gnu-nm static=-static
+  cc=x86_64-linux-gnu-gcc nm=x86_64-linux-gnu-nm static=-static cxx=x86_64-linux-gnu-g++ cxx_package=g++-x86-64-linux-gnu
   emulator=${RATTLE_HOME:-$(dirname "$(dirname "$(readlink -f "$rt")")")}/on/$(uname -m)/toolchain/bin/qemu-x86_64
   if [ ! -x "$emulator" ]; then
     need qemu-x86_64 qemu-user

@@ -1,9 +1,8 @@
 -- Laws that this crate's proofs and the crates above cite.
-pub mod Stops
-pub mod Plain
-pub mod References
-pub mod Transcripts
-pub mod Writing
-pub mod Deciding
+pub mod Coding
+pub mod Carrying
 pub mod Answering
+pub mod Whole
+pub mod Transcribing
 pub mod Promised
+pub mod Agreeing

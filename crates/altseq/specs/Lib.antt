@@ -1,4 +1,4 @@
--- What only this crate's contracts want said.
-pub mod Known
-pub mod Decisions
-pub mod Transcript
+-- What only this crate's contracts, and those above it, want said.
+pub mod Carried
+pub mod Decided
+pub mod Transcribing

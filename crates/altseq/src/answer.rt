@@ -1,39 +1,30 @@
 // "Refusal numbers": what an edit of a reference is answered, and what is written to the three buffers.
-use crate::decision::Decision;
-use crate::decision::decide;
-use crate::reference::Checked;
-use crate::reference::Early;
-use crate::reference::Known;
-use crate::reference::early_refusal;
-use crate::reference::read_reference;
-use crate::transcript::write_transcript;
-use codons::complement::complements;
-use codons::letters::folded_sets;
-use codons::tables::plain_code;
-use codons::tables::residues_of;
-use edits::swaps::Plan;
-use edits::swaps::room_refusal;
-use edits::swaps::silent_number;
-use exceptions::alt_translation_exceptions;
-use record::record_from;
+use crate::carry::carry_out;
+use crate::room::with_room;
+use edits::decision::Decision;
+use edits::decision::decide;
+use reference::Checked;
+use reference::Known;
+use reference::check_reference;
 use rules::Answer;
 use rules::Cds;
 use rules::Edit;
 use rules::Exceptions;
-use rules::Limits;
+use rules::LONGEST;
+use rules::LONGEST_PROTEIN;
+use rules::MOST;
 use rules::Record;
 use rules::Report;
-use translation::all_fold_to_bases;
-use translation::write_through_stop;
 ghost use mathlib.Core.Path.{_≡_};
-ghost use Rattle.rules.specs.Reference.{referenceProtein};
+ghost use Prim.Native.Nat.{_≤_};
+ghost use lib.ListN.{length};
+ghost use Rattle.rules.specs.Bytes.{over};
 ghost use Rattle.rules.specs.Refusal.{limits};
-ghost use Rattle.rules.specs.Answer.{unknownReport, writesAll, outcome, Answers};
-ghost use Rattle.codons.specs.Tables.{foldedSet, HoldsSets, HoldsCode, HoldsPlain, HoldsComplements};
-ghost use Rattle.rules.specs.Views.{asked, cdsOf, referenceOf, roomOf};
-ghost use Rattle.edits.specs.Plans.{planOf};
-ghost use Rattle.altseq.specs.Known.{knownOf, Knows};
-ghost use Rattle.altseq.specs.Decisions.{Clear};
+ghost use Rattle.rules.specs.Answer.{unknownReport, outcome, Answers};
+ghost use Rattle.rules.specs.Views.{bare, asked, referenceOf, roomOf};
+ghost use Rattle.edits.specs.declared.plans.Plan.{Plan};
+ghost use Rattle.altseq.specs.Carried.{Carries};
+ghost use Rattle.altseq.specs.Decided.{decidedIn, decidedOutcome, Accepts, referenceIn, Copies};
 
 // Zero lengths and no flag.
 fn unknown_report() -> Report
@@ -48,159 +39,110 @@ fn unknown_report() -> Report
     }
 }
 
-// Writes the altered transcript, R and A, and reports them. It never refuses.
-fn write(
+// What was decided is answered: the altered transcript and A are written if the edit goes.
+fn answer_decided(
     letters: &[u8],
     known: Known,
     e: Exceptions,
     protein: &[u8],
-    edit: Edit,
-    plan: Plan,
+    decision: Decision,
     new: &[u8],
-    sets: &[u8; 256],
-    lut: &[u8; 4096],
-    code: &[u8; 64],
-    pairs: &[u8; 32],
-    tx: &mut [u8],
-    rp: &mut [u8],
-    ap: &mut [u8],
-) -> Report
-    requires { ⌜ Clear (referenceOf (now letters) (known .cds) e) (asked edit (now new)) (roomOf (now tx) (now rp) (now ap)) ⌝ }
-    requires { ⌜ known ≡ knownOf (now letters) (known .cds) e ⌝ }
-    requires { ⌜ now protein ≡ referenceProtein (referenceOf (now letters) (known .cds) e) ⌝ }
-    requires { ⌜ plan ≡ planOf (referenceOf (now letters) (known .cds) e) (asked edit (now new)) ⌝ }
-    requires { ⌜ HoldsSets foldedSet (now sets) ⌝ }
-    requires { ⌜ HoldsCode (known .cds .table) (now lut) ⌝ }
-    requires { ⌜ HoldsPlain (known .cds .table) (now code) ⌝ }
-    requires { ⌜ HoldsComplements (now pairs) ⌝ }
-    ensures { λ r. ⌜ Answers (writesAll (referenceOf (now (letters .entry)) (known .cds) e) (asked edit (now (new .entry)))) (Answer.Reported r)
-        (now (tx .entry)) (now (tx .exit)) (now (rp .entry)) (now (rp .exit)) (now (ap .entry)) (now (ap .exit)) ⌝ }
+    transcript: &mut [u8],
+    altered: &mut [u8],
+) -> Answer
+    requires { ⌜ ((p : Plan) → decision ≡ Decision.Goes p → Carries (now letters) known e (now protein) p (now new) (now transcript) (now altered)) ⌝ }
+    ensures { λ r. ⌜ r ≡ decidedOutcome (referenceOf (now (letters .entry)) (known .cds) e) decision (now (new .entry)) .answer ⌝ }
+    ensures { λ _. ⌜ now (transcript .exit) ≡ over (decidedOutcome (referenceOf (now (letters .entry)) (known .cds) e) decision (now (new .entry)) .transcript) (now (transcript .entry)) ⌝ }
+    ensures { λ _. ⌜ now (altered .exit) ≡ over (decidedOutcome (referenceOf (now (letters .entry)) (known .cds) e) decision (now (new .entry)) .altered) (now (altered .entry)) ⌝ }
 {
-    let c = known.cds;
-    let first = c.cs - 1;
-    let n = write_transcript(letters, plan, new, pairs, tx);
-    let m = bytes::copy(protein, rp);
-    let moved = alt_translation_exceptions(letters, &tx[..n], first, e);
-    let plain = known.plain & all_fold_to_bases(new);
-    let k = write_through_stop(&tx[first..n], c.table, plain, sets, lut, code, moved, ap);
-    let number = silent_number(m, edit);
-    let found = record_from(protein, &ap[..k], plan.shift, number);
-    Report {
-        found,
-        frameshift: plan.shift,
-        transcript: n,
-        reference: m,
-        altered: k,
+    match decision {
+        Decision::Refused(n) => Answer::Refused(n),
+        Decision::Unknown => Answer::Reported(unknown_report()),
+        Decision::Goes(plan) => Answer::Reported(carry_out(
+            letters,
+            known,
+            e,
+            protein,
+            plan,
+            new,
+            transcript,
+            altered,
+        )),
     }
 }
 
-// The answer to an edit of a checked reference. The tables are those of the reference's code.
-pub fn build_altseq_in(
-    letters: &[u8],
-    known: Known,
-    e: Exceptions,
-    protein: &[u8],
-    limits: Limits,
-    edit: Edit,
-    new: &[u8],
-    sets: &[u8; 256],
-    lut: &[u8; 4096],
-    code: &[u8; 64],
-    pairs: &[u8; 32],
-    tx: &mut [u8],
-    rp: &mut [u8],
-    ap: &mut [u8],
-) -> Answer
-    requires { ⌜ Knows limits (now letters) known e (now protein) ⌝ }
-    requires { ⌜ HoldsSets foldedSet (now sets) ⌝ }
-    requires { ⌜ HoldsCode (known .cds .table) (now lut) ⌝ }
-    requires { ⌜ HoldsPlain (known .cds .table) (now code) ⌝ }
-    requires { ⌜ HoldsComplements (now pairs) ⌝ }
-    ensures { λ r. ⌜ Answers
-        (outcome limits (referenceOf (now (letters .entry)) (known .cds) e) (asked edit (now (new .entry))) (roomOf (now (tx .entry)) (now (rp .entry)) (now (ap .entry))))
-        r (now (tx .entry)) (now (tx .exit)) (now (rp .entry)) (now (rp .exit)) (now (ap .entry)) (now (ap .exit)) ⌝ }
+// Copies as much of R as an answer reports.
+fn copy_reference(answer: Answer, protein: &[u8], reference: &mut [u8])
+    requires { ⌜ Copies answer (now protein) (now reference) ⌝ }
+    ensures { λ _. ⌜ now (reference .exit) ≡ over (referenceIn answer (now (protein .entry))) (now (reference .entry)) ⌝ }
 {
-    let c = known.cds;
-    match decide(letters, c, known.several, limits.most, edit, new, sets, lut) {
-        Decision::Refused(n) => Answer::Refused(n),
-        Decision::Unknown => Answer::Reported(unknown_report()),
-        Decision::Goes(plan) => {
-            let room = room_refusal(c, plan.length, tx.len(), rp.len(), ap.len());
-            if room != 0 {
-                return Answer::Refused(room);
-            }
-            Answer::Reported(write(
-                letters,
-                known,
-                e,
-                protein,
-                edit,
-                plan,
-                new,
-                sets,
-                lut,
-                code,
-                pairs,
-                tx,
-                rp,
-                ap,
-            ))
+    match answer {
+        Answer::Refused(_) => {}
+        Answer::Reported(report) => {
+            let n = report.reference;
+            bytes::copy(&protein[..n], reference);
         }
     }
+}
+
+// What is decided of an edit of a checked reference where the three buffers have so much room.
+fn decide_in(
+    letters: &[u8],
+    known: Known,
+    edit: Edit,
+    new: &[u8],
+    transcript: usize,
+    reference: usize,
+    altered: usize,
+) -> Decision
+    requires { ⌜ Accepts (now letters) known ⌝ }
+    ensures { λ r. ⌜ r ≡ decidedIn (known .several) (bare (now (letters .entry)) (known .cds)) (asked edit (now (new .entry))) (record { transcript = transcript; reference = reference; altered = altered }) ⌝ }
+{
+    let decided = decide(letters, known, MOST, edit, new);
+    with_room(decided, known.cds, transcript, reference, altered)
 }
 
 // The answer to an edit of a reference: refusals 1 to 12, Unknown, or a report of what the three buffers hold.
 pub fn build_altseq(
     letters: &[u8],
-    cs: usize,
-    ce: usize,
-    table: usize,
+    cds: Cds,
     e: Exceptions,
     edit: Edit,
     new: &[u8],
-    tx: &mut [u8],
-    rp: &mut [u8],
-    ap: &mut [u8],
+    transcript: &mut [u8],
+    reference: &mut [u8],
+    altered: &mut [u8],
 ) -> Answer
     ensures { λ r. ⌜ Answers
-        (outcome limits (referenceOf (now (letters .entry)) (cdsOf cs ce table) e) (asked edit (now (new .entry))) (roomOf (now (tx .entry)) (now (rp .entry)) (now (ap .entry))))
-        r (now (tx .entry)) (now (tx .exit)) (now (rp .entry)) (now (rp .exit)) (now (ap .entry)) (now (ap .exit)) ⌝ }
+        (outcome limits (referenceOf (now (letters .entry)) cds e) (asked edit (now (new .entry))) (roomOf (now (transcript .entry)) (now (reference .entry)) (now (altered .entry))))
+        r (now (transcript .entry)) (now (transcript .exit)) (now (reference .entry)) (now (reference .exit)) (now (altered .entry)) (now (altered .exit)) ⌝ }
 {
-    let c = Cds { cs, ce, table };
-    let limits = Limits {
-        longest: 16384,
-        most: 4096,
-    };
-    match early_refusal(letters, c, e, limits.longest) {
-        Early::Refused(n) => Answer::Refused(n),
-        Early::Clear { plain } => {
-            let sets = folded_sets();
-            let lut = residues_of(table);
-            let code = plain_code(table);
-            let pairs = complements();
-            let mut protein = [0u8; 5462];
-            match read_reference(letters, c, e, plain, &sets, &lut, &code, &mut protein) {
-                Checked::Refused(n) => Answer::Refused(n),
-                Checked::Known(known) => {
-                    let residues = known.residues;
-                    build_altseq_in(
-                        letters,
-                        known,
-                        e,
-                        &protein[..residues],
-                        limits,
-                        edit,
-                        new,
-                        &sets,
-                        &lut,
-                        &code,
-                        &pairs,
-                        tx,
-                        rp,
-                        ap,
-                    )
-                }
-            }
+    let mut protein = [0u8; LONGEST_PROTEIN];
+    match check_reference(letters, cds, e, LONGEST, &mut protein) {
+        Checked::Refused(n) => Answer::Refused(n),
+        Checked::Known(known) => {
+            let residues = known.residues;
+            let decision = decide_in(
+                letters,
+                known,
+                edit,
+                new,
+                transcript.len(),
+                reference.len(),
+                altered.len(),
+            );
+            let answer = answer_decided(
+                letters,
+                known,
+                e,
+                &protein[..residues],
+                decision,
+                new,
+                transcript,
+                altered,
+            );
+            copy_reference(answer, &protein[..residues], reference);
+            answer
         }
     }
 }

@@ -4,3 +4,4 @@ pub mod Sets
 pub mod Partners
 pub mod Expanded
 pub mod Agreement
+pub mod Single

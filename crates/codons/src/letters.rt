@@ -1,7 +1,9 @@
 // The two readings of letters: plain translation takes either case, and U as T; transcripts and edits take the fifteen upper-case letters alone.
 ghost use mathlib.Core.Path.{_≡_};
 ghost use Prim.Native.Nat.{_<_};
+ghost use Rattle.rules.specs.Bytes.{isCapital};
 ghost use Rattle.rules.specs.Letters.{letterSet, isLetter, folded};
+ghost use Rattle.rules.specs.Translation.{isResidue};
 ghost use Rattle.codons.specs.Tables.{HoldsSets, foldedSet, foldsToBase, isBase};
 
 // The set of an upper-case letter, and 0 of any other byte.
@@ -26,6 +28,27 @@ pub fn letter_set(b: u8) -> usize
         b'V' => 7,
         b'N' => 15,
         _ => 0,
+    }
+}
+
+// Whether a byte is A to Z.
+pub fn is_capital(b: u8) -> bool
+    ensures { λ r. ⌜ r ≡ isCapital b ⌝ }
+{
+    match b {
+        b'A'..=b'Z' => true,
+        _ => false,
+    }
+}
+
+// Whether a byte is a residue: A to Z or `*`.
+pub fn is_residue(r: u8) -> bool
+    ensures { λ y. ⌜ y ≡ isResidue r ⌝ }
+{
+    match r {
+        b'A'..=b'Z' => true,
+        b'*' => true,
+        _ => false,
     }
 }
 

@@ -1,4 +1,5 @@
 -- Laws that this crate's proofs and the crates above cite.
 pub mod Cuts
 pub mod Numbers
-pub mod Plans
+pub mod Planning
+pub mod Deciding

@@ -1,30 +1,19 @@
 -- Laws of the silent number, and of refusals 11 and 12, with what the calls answer as variables.
 -- Assumes nothing.
-use mathlib.Core.Path.{_≡_, refl, sym, ap, _∙_}
+use mathlib.Core.Path.{_≡_}
 use mathlib.Core.Bool.{Bool, true, false}
-use mathlib.Core.List.{List}
 use Prim.Native.Nat.{ℕ, _+_, _-_, _/_, _≤_, _<_}
 use native.Mathlib.Omega.{arith}
 use borrow.Author.Tests.{lt-ltb, le-ltb}
-use lib.ListN.{length}
 use Rattle.rules.specs.declared.Kind.the-variants.{Duplication}
 use Rattle.rules.specs.declared.Edit.{Edit}
 use Rattle.rules.specs.Bytes.{firstOf}
 use Rattle.rules.specs.Translation.{residueCount}
-use Rattle.rules.specs.Reference.{Reference, cdsSize, referenceProtein}
 use Rattle.rules.specs.Position.{counted}
-use Rattle.rules.specs.Edit.{Asked, is}
-use Rattle.rules.specs.Altered.{alteredLength}
-use Rattle.rules.specs.Record.{within, silentNumber}
-use Rattle.rules.specs.Refusal.{Room, roomTests, roomRefusal}
+use Rattle.rules.specs.Edit.{is}
+use Rattle.rules.specs.Record.{within, silentWithin}
+use Rattle.rules.specs.Refusal.{Room, roomTests}
 use Rattle.rules.specs.declared.Cds.{Cds}
-use Rattle.rules.specs.Views.{bare}
-use Rattle.edits.specs.Plans.{silentWithin, roomBy}
-
--- the definitions' silent number, of R's residues
-pub silent-is : (r : Reference) (e : Asked) → silentNumber r e ≡ silentWithin (length (referenceProtein r)) (e .edit)
-unfolding silentNumber silentWithin
-silent-is r e = refl
 
 module _ (n : ℕ) (e : Edit) (duplicates : Bool) (told : duplicates ≡ is Duplication (e .kind)) (k : ℕ) where
   pub silent-end : duplicates ≡ true → k ≡ counted (e .end) → within n (k / 3 + 1) ≡ silentWithin n e
@@ -35,36 +24,31 @@ module _ (n : ℕ) (e : Edit) (duplicates : Bool) (told : duplicates ≡ is Dupl
   unfolding silentWithin
   silent-start h c = rw (← told, h, c)
 
--- the definitions' refusals, of an edit's altered length
-pub room-is : (s : List ℕ) (c : Cds) (e : Asked) (room : Room) → roomRefusal (bare s c) e room ≡ roomBy c (alteredLength (bare s c) e) room
-unfolding roomRefusal roomTests cdsSize roomBy
-room-is s c e room = refl
-
 thirds-of : (n k m : ℕ) → n ≡ m → k ≡ (n + 2) / 3 → residueCount m ≡ k
 unfolding residueCount
 thirds-of n k m h e = omega arith
 
 module _ (c : Cds) (n : ℕ) (room : Room) where
-  pub no-transcript : room .transcript < n → 11 ≡ roomBy c n room
-  unfolding roomBy firstOf
+  pub no-transcript : room .transcript < n → 11 ≡ firstOf (roomTests (c .ce + 1 - c .cs) (c .cs) n room)
+  unfolding roomTests firstOf
   no-transcript h = rw (lt-ltb (room .transcript) n h)
 
   module _ (first : 1 ≤ c .cs) (fits : n ≤ room .transcript) (k : ℕ) (e : k ≡ (c .ce - (c .cs - 1) + 2) / 3) where
     whole : residueCount (c .ce + 1 - c .cs) ≡ k
     whole = thirds-of (c .ce - (c .cs - 1)) k (c .ce + 1 - c .cs) (omega arith) e
 
-    pub no-reference : room .reference < k → 12 ≡ roomBy c n room
-    unfolding roomBy firstOf
+    pub no-reference : room .reference < k → 12 ≡ firstOf (roomTests (c .ce + 1 - c .cs) (c .cs) n room)
+    unfolding roomTests firstOf
     no-reference h = rw (le-ltb (room .transcript) n fits, whole, lt-ltb (room .reference) k h)
 
     module _ (holds : k ≤ room .reference) (j : ℕ) (f : j ≡ (n - (c .cs - 1) + 2) / 3) where
       rest : residueCount (n + 1 - c .cs) ≡ j
       rest = thirds-of (n - (c .cs - 1)) j (n + 1 - c .cs) (omega arith) f
 
-      pub no-altered : room .altered < j → 12 ≡ roomBy c n room
-      unfolding roomBy firstOf
+      pub no-altered : room .altered < j → 12 ≡ firstOf (roomTests (c .ce + 1 - c .cs) (c .cs) n room)
+      unfolding roomTests firstOf
       no-altered h = rw (le-ltb (room .transcript) n fits, whole, le-ltb (room .reference) k holds, rest, lt-ltb (room .altered) j h)
 
-      pub room-enough : j ≤ room .altered → 0 ≡ roomBy c n room
-      unfolding roomBy firstOf
+      pub room-enough : j ≤ room .altered → 0 ≡ firstOf (roomTests (c .ce + 1 - c .cs) (c .cs) n room)
+      unfolding roomTests firstOf
       room-enough h = rw (le-ltb (room .transcript) n fits, whole, le-ltb (room .reference) k holds, rest, le-ltb (room .altered) j h)

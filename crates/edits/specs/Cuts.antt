@@ -1,19 +1,21 @@
 -- The stop cut of what goes in.
-use Prim.Native.Nat.{ℕ, _+_, _-_, _*_}
-use mathlib.Core.List.{List, [], _++_}
-use lib.Dec.{ltb}
-use lib.ListN.{length, take, replicate}
-use Rattle.rules.specs.Bytes.{byte, if_then_else_}
-use Rattle.rules.specs.Translation.{translated, beforeStop}
-use Rattle.edits.specs.declared.stops.Cut.{Cut}
-
--- so many letters N before the bytes that go in, translated
-unfoldable pub framedBy : ℕ → ℕ → List ℕ → List ℕ
-framedBy table frame put = translated table [] (replicate frame (byte "N") ++ put)
+use Prim.Native.Nat.{ℕ, _<_}
+use mathlib.Core.Path.{_≡_}
+use mathlib.Core.Bool.{Bool, true}
+use mathlib.Core.List.{List}
+use lib.ListN.{length}
+use Rattle.rules.specs.Bytes.{all}
+use Rattle.rules.specs.Letters.{isLetter}
+use Rattle.rules.specs.Altered.{hasStop, cutAtStop}
+use Rattle.codons.specs.Tables.{isBase}
+use Rattle.edits.specs.declared.cut.Cut.{Cut}
 
 -- the stop cut behind so many letters N: whether a `*` appears, and how many of the bytes stay
 unfoldable pub cutOf : ℕ → ℕ → List ℕ → Cut
-cutOf table frame put =
-    let before = beforeStop (framedBy table frame put) in
-    let found = ltb before (length (framedBy table frame put)) in
-    record { found = found; kept = length (if found then take (3 * (before + 1) - frame) put else put) }
+cutOf table n put = record { found = hasStop table n put; kept = length (cutAtStop table n put) }
+
+-- letters to cut, which are plain only if each is one base
+pub record Cuts (table : ℕ) (plain : Bool) (put : List ℕ) : Type 0 where
+  pub code : table < 3
+  pub letters : all isLetter put ≡ true
+  pub bases : plain ≡ true → all isBase put ≡ true

@@ -1,3 +1,4 @@
--- What only this crate's contracts want said.
+-- What only this crate's contracts, and those above it, want said.
 pub mod Cuts
 pub mod Plans
+pub mod Decisions

@@ -1,28 +1,23 @@
--- What an accepted edit does, in numbers; the silent number, and refusals 11 and 12, by numbers.
-use Prim.Native.Nat.{ℕ, _+_, _-_, _/_, _%_, _<_, _≤_}
+-- What an accepted edit does, in numbers.
+use Prim.Native.Nat.{ℕ, _-_, _<_, _≤_}
 use mathlib.Core.Path.{_≡_}
-use mathlib.Core.List.{List, [], _∷_}
-use mathlib.Core.Bool.{Bool, true, false, _&&_, _||_, not}
-use lib.Dec.{eqb, ltb}
+use mathlib.Core.List.{List}
+use mathlib.Core.Bool.{true, false, _||_}
 use lib.ListN.{length, take}
 use Rattle.rules.specs.declared.Kind.{Kind}
 use Rattle.rules.specs.declared.Kind.the-variants.{Substitution, Deletion, Delins, Insertion, Duplication, Inversion, Identity, Other}
-use Rattle.rules.specs.declared.Edit.{Edit}
-use Rattle.rules.specs.Bytes.{if_then_else_, all, same, _↯_, firstOf}
+use Rattle.rules.specs.Bytes.{all}
 use Rattle.rules.specs.Letters.{isLetter}
-use Rattle.rules.specs.Translation.{residueCount}
 use Rattle.rules.specs.Complement.{reverseComplement}
 use Rattle.rules.specs.Reference.{Reference, size}
-use Rattle.rules.specs.Position.{isOutside, counted}
-use Rattle.rules.specs.Edit.{Asked, is, kindOf, startIndex, endIndex}
-use Rattle.rules.specs.Altered.{part, Swap, swap, kept, alteredLength, frameshift}
-use Rattle.rules.specs.Record.{within}
-use Rattle.rules.specs.Refusal.{Room}
-use Rattle.rules.specs.declared.Cds.{Cds}
-use Rattle.edits.specs.declared.swaps.Range.{Range}
-use Rattle.edits.specs.declared.swaps.Source.{Source}
-use Rattle.edits.specs.declared.swaps.Source.the-variants.{New, Copy, Turned}
-use Rattle.edits.specs.declared.swaps.Plan.{Plan}
+use Rattle.rules.specs.Position.{isOutside}
+use Rattle.rules.specs.Edit.{Asked, kindOf, startIndex, endIndex}
+use Rattle.rules.specs.Altered.{part, isReplacing, isInserting, swap, findsStop, kept, alteredLength, frameshift}
+use Rattle.rules.specs.Record.{silentNumber}
+use Rattle.edits.specs.declared.plans.Range.{Range}
+use Rattle.edits.specs.declared.plans.Source.{Source}
+use Rattle.edits.specs.declared.plans.Source.the-variants.{New, Copy, Turned}
+use Rattle.edits.specs.declared.plans.Plan.{Plan}
 
 -- where what goes in comes from
 abbrev pub sourceOf : Kind → Source
@@ -46,6 +41,8 @@ planOf r e =
       kept = length (kept r e);
       length = alteredLength r e;
       shift = frameshift r e;
+      stopped = findsStop r e;
+      number = silentNumber r e;
     }
 
 -- what a source holds, before the cut
@@ -68,14 +65,6 @@ pub record Planned (r : Reference) (e : Asked) : Type 0 where
   pub ends : endIndex r e ≤ size r
   pub few : length (e .new) < 4294967296
   pub letters : all isLetter (e .new) ≡ true
-
--- deletion, delins, substitution
-abbrev pub isReplacing : Kind → Bool
-isReplacing k = is Deletion k || is Delins k || is Substitution k
-
--- insertion, duplication
-abbrev pub isInserting : Kind → Bool
-isInserting k = is Insertion k || is Duplication k
 
 -- the range of an edit's bases
 pub record Ranges (r : Reference) (e : Asked) (g : Range) : Type 0 where
@@ -100,22 +89,3 @@ pub record Keeps (r : Reference) (e : Asked) (g : Range) (source : Source) : Typ
   pub kind : (isReplacing (kindOf e) || isInserting (kindOf e)) ≡ false
   pub range : Ranges r e g
   pub comes : sourceOf (kindOf e) ≡ source
-
--- the flag where the elements start..end give way to the new bases
-unfoldable pub shiftBy : ℕ → List ℕ → ℕ → ℕ → List ℕ → Bool
-shiftBy ce s start end new =
-    (not (eqb (length new % 3) ((end - start) % 3)) || (ltb start ce && ltb ce end))
-    && not (same (part start end s) new)
-
--- a silent record's number, of so many residues of R
-unfoldable pub silentWithin : ℕ → Edit → ℕ
-silentWithin n e =
-    within n (if is Duplication (e .kind) then counted (e .end) / 3 + 1 else (counted (e .start) + 2) / 3)
-
--- 11 and 12, of an altered length
-unfoldable pub roomBy : Cds → ℕ → Room → ℕ
-roomBy c n room =
-    firstOf
-    (ltb (room .transcript) n ↯ 11
-    ∷ (ltb (room .reference) (residueCount (c .ce + 1 - c .cs)) || ltb (room .altered) (residueCount (n + 1 - c .cs))) ↯ 12
-    ∷ [])

@@ -1,4 +1,5 @@
-// What an accepted edit does to a checked reference, read off it and written nowhere: which bases give way to which, the stop cut, the altered
-// length, the frameshift flag.
-pub mod stops;
-pub mod swaps;
+// What an edit of a checked reference does, decided and written nowhere: 7 to 10, Unknown, or which bases give way to which, the stop cut, the
+// altered length, the frameshift flag and the number of a silent record.
+mod cut;
+pub mod decision;
+pub mod plans;

@@ -1,15 +1,13 @@
--- The cases of a field at a place of the bytes, and the tests of a tag and of a length.
+-- The cases of a field at a place of the bytes.
 -- Assumes nothing.
 use mathlib.Core.Path.{_≡_, refl}
-use mathlib.Core.Bool.{Bool, true, false, _||_, not}
 use mathlib.Core.List.{List, [], _∷_}
 use Prim.Native.Nat.{ℕ, suc, _+_, _-_, _≤_, _<_}
 use native.Mathlib.Numerals.{add-one}
 use native.Mathlib.Omega.{arith}
-use lib.Dec.{leb, ltb}
 use lib.ListN.{length, drop, getD, length-drop, drop-of-length-le}
 use lib.Seq.{drop-cons, length-take-le}
-use borrow.Author.Tests.{le-leb, lt-leb, ltb-true, ltb-false, ne-eqb}
+use borrow.Author.Tests.{le-leb, lt-leb}
 use Rattle.rules.specs.Stored as stored
 use Rattle.fields.specs.declared.reader.Field.the-variants.{Whole, Cut, End}
 use Rattle.fields.specs.Places.{placed, fieldAt}
@@ -43,15 +41,3 @@ module _ (s : List ℕ) (at : ℕ) (h : at + 3 ≤ length s) (n : ℕ) (e : n �
   pub cut : length s - (at + 3) < n → Cut (getD s at 0) ≡ fieldAt s at
   unfolding placed stored.field
   cut k = rw (three, ← e, lt-leb n (length (drop (at + 3) s)) (rw length-drop k))
-
-pub tag-test : (last tag : ℕ) → (leb tag last || ltb 4 tag) ≡ stored.isWrongTag last tag
-unfolding stored.isWrongTag
-tag-test last tag = by (ltb last tag) refl
-  where
-    by : (t : Bool) → ltb last tag ≡ t → (leb tag last || ltb 4 tag) ≡ (not t || ltb 4 tag)
-    by true h = rw (lt-leb tag last (ltb-true last tag h))
-    by false h = rw (le-leb tag last (ltb-false last tag h))
-
-pub any-length : (tag n : ℕ) → (tag ≡ 2 → ⊥) → (tag ≡ 3 → ⊥) → (tag ≡ 4 → ⊥) → false ≡ stored.isWrongLength tag n
-unfolding stored.isWrongLength
-any-length tag n two three four = rw (ne-eqb tag 2 two, ne-eqb tag 3 three, ne-eqb tag 4 four)

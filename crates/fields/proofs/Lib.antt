@@ -1,6 +1,5 @@
--- Laws of fields.
+-- Laws of fields, whatever their form.
 pub mod Cases
+pub mod Places
 pub mod Order
 pub mod Contents
-pub mod Reading
-pub mod Held

@@ -1,5 +1,3 @@
--- What only this crate's contracts want said.
+-- What only contracts over fields want said.
 pub mod Places
 pub mod Refusals
-pub mod Reading
-pub mod Held

@@ -1,16 +1,13 @@
-// The form of a stored reference: fields of a one-byte tag, a two-byte length (high byte first) and the content. `reader` knows no tag and no
-// refusal; the tags of a reference and what fits them stand in `tags`, and what they hold in `reference` and `exceptions`.
-pub mod exceptions;
+// Stored fields: a one-byte tag, a two-byte length (high byte first) and the content. Nothing here knows a tag, what fits one, or a refusal: that
+// is a form's own, as `stored` has the reference's. The laws of proofs/ are over any form.
+pub mod lookup;
 pub mod reader;
-pub mod reference;
-pub mod tags;
 
-pub use exceptions::exceptions_in;
+pub use lookup::Content;
+pub use lookup::content_of;
+pub use lookup::part_or_empty;
 pub use reader::Field;
 pub use reader::Fields;
-pub use reader::Span;
 pub use reader::bytes_at;
 pub use reader::next_field;
-pub use reference::Stored;
-pub use reference::StoredAt;
-pub use reference::find_stored;
+pub use reader::two_bytes;

@@ -1,20 +1,17 @@
 // The reader of stored fields. The work is in `field_at`, which takes a plain slice and a place.
+use numbers::wide;
+use rules::Part;
 ghost use mathlib.Core.Path.{_≡_};
-ghost use Prim.Native.Nat.{_+_, _<_, _≤_};
+ghost use Prim.Native.Nat.{_+_, _≤_};
 ghost use lib.ListN.{length, getD};
+ghost use Rattle.rules.specs.Record.{partOf};
 ghost use Rattle.rules.specs.Stored.{twoBytes};
-ghost use Rattle.fields.specs.Places.{bytesAt, fieldAt};
-
-// `len` bytes of the caller's, behind the first `at`.
-pub struct Span {
-    pub at: usize,
-    pub len: usize,
-}
+ghost use Rattle.fields.specs.Places.{fieldAt};
 
 // The bytes at a place.
-pub fn bytes_at(s: &[u8], p: Span) -> &[u8]
+pub fn bytes_at(s: &[u8], p: Part) -> &[u8]
     requires { ⌜ p .at + p .len ≤ length (now s) ⌝ }
-    ensures { λ r. ⌜ now r ≡ bytesAt (now (s .entry)) p ⌝ }
+    ensures { λ r. ⌜ now r ≡ partOf p (now (s .entry)) ⌝ }
 {
     let at = p.at;
     let end = at + p.len;
@@ -23,18 +20,11 @@ pub fn bytes_at(s: &[u8], p: Span) -> &[u8]
 
 // What the bytes hold at a place.
 pub enum Field {
-    Whole { tag: u8, content: Span },
+    Whole { tag: u8, content: Part },
     // The bytes end inside the field.
     Cut { tag: u8 },
     // No byte is left.
     End,
-}
-
-pub fn wide(b: u8) -> usize
-    ensures { λ r. ⌜ r ≡ b ⌝ }
-    ensures small { λ r. ⌜ r < 256 ⌝ }
-{
-    b as usize
 }
 
 // The number of two bytes, high byte first.
@@ -48,7 +38,7 @@ pub fn two_bytes(s: &[u8], at: usize) -> usize
 }
 
 // The field at a place of the bytes.
-pub fn field_at(s: &[u8], at: usize) -> Field
+fn field_at(s: &[u8], at: usize) -> Field
     ensures { λ r. ⌜ r ≡ fieldAt (now (s .entry)) at ⌝ }
 {
     if s.len() <= at {
@@ -62,7 +52,7 @@ pub fn field_at(s: &[u8], at: usize) -> Field
     if len <= s.len() - (at + 3) {
         Field::Whole {
             tag,
-            content: Span { at: at + 3, len },
+            content: Part { at: at + 3, len },
         }
     } else {
         Field::Cut { tag }

@@ -22,12 +22,12 @@ use Rattle.rules.specs.Refusal.{Room, refusal}
 use Rattle.rules.specs.Answer.{outcome}
 use Rattle.rules.specs.Stored.{exceptionsIn}
 use Rattle.rules.proofs.Answers.{refused-by}
-use Rattle.fields.specs.Held.{exceptionsOf}
-use Rattle.fields.proofs.Held.{list-few, list-length, list-uneven}
+use Rattle.stored.specs.Held.{exceptionsOf}
+use Rattle.stored.proofs.Held.{list-few, list-length, list-uneven}
 use Rattle.rules.specs.declared.Cds.{Cds}
 use Rattle.garumbott.specs.Host.{exceptionsAt}
-use Rattle.garumbott.specs.Edited.{edited}
-use Rattle.garumbott.proofs.Editing.{edited-refused}
+use Rattle.altseq.specs.Transcribing.{edited}
+use Rattle.altseq.proofs.Transcribing.{edited-refused}
 
 -- no list that a call takes
 pub record Unfit (es : List Exception) : Type 0 where

@@ -4,26 +4,27 @@ use mathlib.Core.List.{List}
 use Prim.Native.Nat.{ℕ}
 use Rattle.rules.specs.Bytes.{Result, given, refused}
 use Rattle.rules.specs.Reference.{Reference}
-use Rattle.rules.specs.Stored.{exceptionsIn, storedReference}
-use Rattle.fields.specs.declared.reference.StoredAt.{StoredAt}
-use Rattle.fields.specs.declared.reference.Stored.{Stored}
-use Rattle.fields.specs.declared.reference.Stored.the-variants.{Refused, At}
-use Rattle.fields.specs.Reading.{referenceIn, Reads}
+use Rattle.rules.specs.Refusal.{limits}
+use Rattle.rules.specs.Stored.{storedReference}
+use Rattle.stored.specs.declared.places.StoredAt.{StoredAt}
+use Rattle.stored.specs.declared.places.Stored.{Stored}
+use Rattle.stored.specs.declared.places.Stored.the-variants.{Refused, At}
+use Rattle.stored.specs.Reading.{toldReference, Reads}
 use Rattle.garumbott.specs.Keeping.{refusedNumbers, placedNumbers, numbersBy, storedNumbers}
 
-module _ (s : List ℕ) (x : Stored) (reads : Reads s (storedReference 16384 s) x) where
+module _ (s : List ℕ) (x : Stored) (reads : Reads s (storedReference (limits .longest) s) x) where
   pub told-refused : (n : ℕ) → x ≡ Refused n → refusedNumbers n ≡ storedNumbers s
-  unfolding storedNumbers numbersBy referenceIn
+  unfolding storedNumbers numbersBy toldReference
   told-refused n h =
-      let is : refused n ≡ storedReference 16384 s = ap (referenceIn s) (sym h) ∙ reads .says in
+      let is : refused n ≡ storedReference (limits .longest) s = ap (toldReference s) (sym h) ∙ reads .says in
       rw (← is)
 
   pub told-placed : (p : StoredAt) → x ≡ At p → placedNumbers p ≡ storedNumbers s
-  unfolding storedNumbers numbersBy referenceIn
+  unfolding storedNumbers numbersBy toldReference
   told-placed p h =
-      let is : referenceIn s (At p) ≡ storedReference 16384 s = ap (referenceIn s) (sym h) ∙ reads .says in
+      let is : toldReference s (At p) ≡ storedReference (limits .longest) s = ap (toldReference s) (sym h) ∙ reads .says in
       let stands = reads .stands p h in
       rw (← is, ← stands .letters, ← stands .exceptions) (given-numbers s p)
     where
-      given-numbers : (s : List ℕ) (p : StoredAt) → placedNumbers p ≡ numbersBy (referenceIn s (At p)) (p .letters) (p .exceptions)
+      given-numbers : (s : List ℕ) (p : StoredAt) → placedNumbers p ≡ numbersBy (toldReference s (At p)) (p .letters) (p .exceptions)
       given-numbers s p = refl

@@ -1,6 +1,6 @@
 -- Laws that this crate's proofs cite.
 pub mod Signed
 pub mod Given
-pub mod Editing
 pub mod Excepted
 pub mod Keeping
+pub mod Promised

@@ -19,7 +19,9 @@ use Rattle.rules.specs.Reference.{Reference}
 use Rattle.rules.specs.Edit.{Asked}
 use Rattle.rules.specs.Stored.{exceptionsIn}
 use Rattle.rules.specs.Answer.{Outcome}
-use Rattle.rules.specs.Values.{kindAt, Told, Values, valuesOf}
+use Rattle.rules.specs.Values.{kindAt, flagNumber, Told, Values, valuesOf}
+use Rattle.altseq.specs.declared.alone.Transcribed.{Transcribed}
+use Rattle.altseq.specs.declared.alone.Transcribed.the-variants as transcribed
 use Rattle.garumbott.specs.declared.numbers.GarumbottLength.{GarumbottLength}
 use Rattle.garumbott.specs.declared.numbers.GarumbottAnswer.{GarumbottAnswer}
 
@@ -35,15 +37,15 @@ positionAt (suc (suc star)) p = Star 0
 abbrev pub editAt : ℕ → ℕ → ℤ → ℕ → ℤ → Edit
 editAt kind startStar start endStar end = record { kind = kindAt kind; start = positionAt startStar start; end = positionAt endStar end }
 
-abbrev pub askedAt : ℕ → ℕ → ℤ → ℕ → ℤ → List ℕ → Asked
-askedAt kind startStar start endStar end bases = record { edit = editAt kind startStar start endStar end; new = bases }
+abbrev pub hostAsked : ℕ → ℕ → ℤ → ℕ → ℤ → List ℕ → Asked
+hostAsked kind startStar start endStar end bases = record { edit = editAt kind startStar start endStar end; new = bases }
 
 -- exceptions in the stored form. Bytes that aren't three each are none; they stand as an exception that breaks the rules, which is refused with 5
 unfoldable pub exceptionsAt : List ℕ → List Exception
 exceptionsAt s = if eqb (length s % 3) 0 then exceptionsIn s else (noException ∷ [])
 
-abbrev pub referenceAt : List ℕ → ℕ → ℕ → ℕ → List ℕ → Reference
-referenceAt letters cs ce table exceptions =
+abbrev pub hostReference : List ℕ → ℕ → ℕ → ℕ → List ℕ → Reference
+hostReference letters cs ce table exceptions =
     record { letters = letters; cs = cs; ce = ce; table = table; exceptions = exceptionsAt exceptions }
 
 -- 0 or not 0
@@ -99,6 +101,27 @@ answerOf a = numbersOf (valuesOf a)
 -- what a record tells, with no flag and no lengths
 abbrev pub toldOf : Told → GarumbottAnswer
 toldOf t = numbersOf (record { refusal = 0; frameshift = 0; transcript = 0; reference = 0; altered = 0; told = t })
+
+-- the altered transcript alone: answer 4 where it was written
+abbrev pub transcribedOf : Transcribed → GarumbottAnswer
+transcribedOf (transcribed.Refused n) = aloneOf 0 n
+transcribedOf transcribed.Unknown = aloneOf 1 0
+transcribedOf (transcribed.Written n flag) =
+    record {
+      answer = 4;
+      refusal = 0;
+      frameshift = flagNumber flag;
+      «transcript_len» = n;
+      «reference_len» = 0;
+      «altered_len» = 0;
+      change = 0;
+      number = 0;
+      «deleted_at» = 0;
+      «deleted_len» = 0;
+      «inserted_at» = 0;
+      «inserted_len» = 0;
+      first = 0;
+    }
 
 -- the answer is the outcome's, and each buffer is what it was under what the outcome writes
 pub record Tells (o : Outcome) (r : GarumbottAnswer) (transcript transcript′ reference reference′ altered altered′ : List ℕ) : Type 0 where

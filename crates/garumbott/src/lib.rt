@@ -4,5 +4,4 @@ pub mod numbers;
 pub mod plain;
 pub mod reading;
 pub mod text;
-pub mod transcript;
 pub mod variant;

@@ -1,5 +1,7 @@
 // The numbers that a host gives and gets.
+use altseq::Transcribed;
 use rules::Answer;
+use rules::Cds;
 use rules::Class;
 use rules::Edit;
 use rules::Kind;
@@ -11,8 +13,9 @@ ghost use mathlib.Core.Path.{_≡_};
 ghost use Prim.Native.Nat.{_-_};
 ghost use lib.IntN.{natAbs};
 ghost use Rattle.rules.specs.declared.Answer.the-variants as answer;
+ghost use Rattle.rules.specs.Views.{cdsOf};
 ghost use Rattle.rules.specs.Values.{kindAt, classNumber, flagNumber, toldBy};
-ghost use Rattle.garumbott.specs.Host.{positionAt, editAt, lengthOf, aloneOf, toldOf, answerOf};
+ghost use Rattle.garumbott.specs.Host.{positionAt, editAt, lengthOf, aloneOf, toldOf, answerOf, transcribedOf};
 
 // A refusal's number and 0, or 0 and the bytes written from the buffer's start.
 #[repr(C)]
@@ -98,6 +101,16 @@ pub fn edit_at(kind: u64, start_star: u64, start: i64, end_star: u64, end: i64) 
     }
 }
 
+pub fn cds_at(cs: u64, ce: u64, table: u64) -> Cds
+    ensures { λ r. ⌜ r ≡ cdsOf cs ce table ⌝ }
+{
+    Cds {
+        cs: cs as usize,
+        ce: ce as usize,
+        table: table as usize,
+    }
+}
+
 // The answer of a function that fills one buffer.
 pub fn length_of(w: Written) -> GarumbottLength
     ensures { λ r. ⌜ r ≡ lengthOf w ⌝ }
@@ -137,7 +150,7 @@ pub fn flag_number(flag: bool) -> u64
 }
 
 // The place of the residue with a number.
-fn place_of(number: usize) -> u64
+fn residue_place(number: usize) -> u64
     ensures { λ r. ⌜ r ≡ number - 1 ⌝ }
 {
     if number == 0 {
@@ -176,7 +189,7 @@ fn told_by(found: Record) -> GarumbottAnswer
         Record::NoProtein => alone(2, 0),
         Record::Silent { number, residue: _ } => {
             let mut r = alone(3, 0);
-            let at = place_of(number);
+            let at = residue_place(number);
             r.number = wide(number);
             r.deleted_at = at;
             r.deleted_len = 1;
@@ -218,5 +231,21 @@ pub fn answer_of(a: Answer) -> GarumbottAnswer
     match a {
         Answer::Refused(n) => alone(0, wide(n)),
         Answer::Reported(p) => reported(p),
+    }
+}
+
+// The answer where the altered transcript alone is asked for: 4 where it was written.
+pub fn transcribed_of(t: Transcribed) -> GarumbottAnswer
+    ensures { λ r. ⌜ r ≡ transcribedOf t ⌝ }
+{
+    match t {
+        Transcribed::Refused(n) => alone(0, wide(n)),
+        Transcribed::Unknown => alone(1, 0),
+        Transcribed::Written { length, frameshift } => {
+            let mut r = alone(4, 0);
+            r.frameshift = flag_number(frameshift);
+            r.transcript_len = wide(length);
+            r
+        }
     }
 }

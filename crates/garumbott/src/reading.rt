@@ -1,6 +1,6 @@
 // Stored references.
-use fields::Stored;
-use fields::StoredAt;
+use stored::Stored;
+use stored::StoredAt;
 use stored::read_stored;
 ghost use mathlib.Core.Path.{_≡_};
 ghost use Rattle.garumbott.specs.Keeping.{placedNumbers, refusedNumbers, storedNumbers};
@@ -23,9 +23,9 @@ fn placed(p: StoredAt) -> GarumbottStored
 {
     GarumbottStored {
         refusal: 0,
-        cs: p.cs as u64,
-        ce: p.ce as u64,
-        table: p.table as u64,
+        cs: p.cds.cs as u64,
+        ce: p.cds.ce as u64,
+        table: p.cds.table as u64,
         letters_at: p.letters.at as u64,
         letters_len: p.letters.len as u64,
         exceptions_at: p.exceptions.at as u64,

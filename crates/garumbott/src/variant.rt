@@ -1,18 +1,20 @@
 // One edit of a reference: the altered transcript alone, and the whole answer.
 use crate::numbers::GarumbottAnswer;
 use crate::numbers::answer_of;
+use crate::numbers::cds_at;
 use crate::numbers::edit_at;
-use crate::transcript::build_transcript;
+use crate::numbers::transcribed_of;
 use altseq::build_altseq;
-use fields::exceptions_in;
+use altseq::build_transcript;
+use stored::exceptions_in;
 ghost use mathlib.Core.Path.{_≡_};
 ghost use lib.ListN.{length};
 ghost use Rattle.rules.specs.Bytes.{over};
 ghost use Rattle.rules.specs.Refusal.{limits};
 ghost use Rattle.rules.specs.Answer.{outcome};
 ghost use Rattle.rules.specs.Views.{roomOf};
-ghost use Rattle.garumbott.specs.Host.{referenceAt, askedAt, Tells};
-ghost use Rattle.garumbott.specs.Edited.{edited};
+ghost use Rattle.altseq.specs.Transcribing.{edited};
+ghost use Rattle.garumbott.specs.Host.{hostReference, hostAsked, transcribedOf, Tells};
 
 #[no_mangle]
 pub extern "C" fn garumbott_edit(
@@ -29,21 +31,13 @@ pub extern "C" fn garumbott_edit(
     bases: &[u8],
     transcript: &mut [u8],
 ) -> GarumbottAnswer
-    ensures { λ r. ⌜ r ≡ edited limits (referenceAt (now (letters .entry)) cs ce table (now (exceptions .entry))) (askedAt kind «start_star» start «end_star» end (now (bases .entry))) (length (now (transcript .entry))) .answer ⌝ }
-    ensures { λ _. ⌜ now (transcript .exit) ≡ over (edited limits (referenceAt (now (letters .entry)) cs ce table (now (exceptions .entry))) (askedAt kind «start_star» start «end_star» end (now (bases .entry))) (length (now (transcript .entry))) .transcript) (now (transcript .entry)) ⌝ }
+    ensures { λ r. ⌜ r ≡ transcribedOf (edited limits (hostReference (now (letters .entry)) cs ce table (now (exceptions .entry))) (hostAsked kind «start_star» start «end_star» end (now (bases .entry))) (length (now (transcript .entry))) .answer) ⌝ }
+    ensures { λ _. ⌜ now (transcript .exit) ≡ over (edited limits (hostReference (now (letters .entry)) cs ce table (now (exceptions .entry))) (hostAsked kind «start_star» start «end_star» end (now (bases .entry))) (length (now (transcript .entry))) .transcript) (now (transcript .entry)) ⌝ }
 {
+    let cds = cds_at(cs, ce, table);
     let e = exceptions_in(exceptions);
     let edit = edit_at(kind, start_star, start, end_star, end);
-    build_transcript(
-        letters,
-        cs as usize,
-        ce as usize,
-        table as usize,
-        e,
-        edit,
-        bases,
-        transcript,
-    )
+    transcribed_of(build_transcript(letters, cds, e, edit, bases, transcript))
 }
 
 #[no_mangle]
@@ -64,21 +58,11 @@ pub extern "C" fn garumbott_record(
     altered: &mut [u8],
 ) -> GarumbottAnswer
     ensures { λ r. ⌜ Tells
-        (outcome limits (referenceAt (now (letters .entry)) cs ce table (now (exceptions .entry))) (askedAt kind «start_star» start «end_star» end (now (bases .entry))) (roomOf (now (transcript .entry)) (now (reference .entry)) (now (altered .entry))))
+        (outcome limits (hostReference (now (letters .entry)) cs ce table (now (exceptions .entry))) (hostAsked kind «start_star» start «end_star» end (now (bases .entry))) (roomOf (now (transcript .entry)) (now (reference .entry)) (now (altered .entry))))
         r (now (transcript .entry)) (now (transcript .exit)) (now (reference .entry)) (now (reference .exit)) (now (altered .entry)) (now (altered .exit)) ⌝ }
 {
+    let cds = cds_at(cs, ce, table);
     let e = exceptions_in(exceptions);
     let edit = edit_at(kind, start_star, start, end_star, end);
-    answer_of(build_altseq(
-        letters,
-        cs as usize,
-        ce as usize,
-        table as usize,
-        e,
-        edit,
-        bases,
-        transcript,
-        reference,
-        altered,
-    ))
+    answer_of(build_altseq(letters, cds, e, edit, bases, transcript, reference, altered))
 }

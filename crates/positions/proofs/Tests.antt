@@ -1,32 +1,26 @@
--- Laws of positions that aren't outside, of a loop over all letters, and of what a checked reference and an edit that isn't refused leave.
+-- Laws of positions that aren't outside, and of what an edit that isn't refused leaves.
 -- Assumes nothing.
 use mathlib.Core.Path.{_≡_, refl}
-use mathlib.Core.Bool.{Bool, true, false, _&&_, _||_, and-assoc}
+use mathlib.Core.Bool.{true, false, _&&_, _||_}
 use mathlib.Core.List.{List, [], _∷_}
-use Prim.Native.Nat.{ℕ, suc, _+_, _-_, _≤_, _<_, max, zero-le}
-use native.Mathlib.Numerals.{add-one}
+use Prim.Native.Nat.{ℕ, _+_, _-_, _≤_, max, zero-le}
 use native.Mathlib.Omega.{arith}
 use borrow.Author.Tests.{leb-true, ne-eqb}
 use lib.Dec.{eqb, leb}
-use lib.ListN.{length, drop, getD, drop-of-length-le}
-use lib.Seq.{drop-cons}
+use lib.ListN.{length}
 use Rattle.rules.specs.declared.Kind.{Kind}
 use Rattle.rules.specs.declared.Kind.the-variants.{Substitution, Deletion, Delins, Insertion, Duplication, Inversion, Identity, Other}
 use Rattle.rules.specs.declared.Position.{Position}
 use Rattle.rules.specs.declared.Position.the-variants.{Plus, Minus, Star}
-use Rattle.rules.specs.declared.Edit.{Edit}
 use Rattle.rules.specs.Bytes.{isNone, all, firstOf}
 use Rattle.rules.specs.Letters.{isLetter}
-use Rattle.rules.specs.Reference.{Reference, size}
+use Rattle.rules.specs.Reference.{Reference}
 use Rattle.rules.specs.Position.{isOutside}
 use Rattle.rules.specs.Edit.{Asked, is, kindOf, endsPast, isMisplaced, areNewBases, fitBases, editTests}
 use Rattle.rules.proofs.Tests.{and-left, and-right, or-left, or-right}
-use Rattle.rules.proofs.Reference.{Bounds}
 use Rattle.rules.proofs.Refusal.{Allowed, allowed}
 use Rattle.rules.proofs.Span.{within, Indexes, indexes-of}
-use Rattle.rules.specs.declared.Cds.{Cds}
-use Rattle.rules.specs.Views.{bare, asked}
-use Rattle.positions.specs.Views.{Bounded, Sound}
+use Rattle.reference.specs.Bounds.{Sound}
 
 -- the number of a position that isn't outside
 module _ (cs ce : ℕ) (p : Position) (n : ℕ) where
@@ -51,17 +45,7 @@ both-inside r e h =
     let both = or-left (start || end) (is Duplication (kindOf e) && endsPast r e) h in
     (or-left start end both, or-right start end both)
 
--- a loop over all elements that never leaves early: what is passed and what is left tell of the whole
-module _ (p : ℕ → Bool) (s : List ℕ) (i : ℕ) where
-  pub all-turn : (good : Bool) → i < length s → ((good && p (getD s i 0)) && all p (drop (i + 1) s)) ≡ (good && all p (drop i s))
-  unfolding all
-  all-turn good h = rw (add-one, drop-cons s i 0 h) (and-assoc good (p (getD s i 0)) (all p (drop (suc i) s)))
-
-  pub all-done : (good : Bool) → length s ≤ i → (good && all p (drop i s)) ≡ good
-  unfolding all
-  all-done true h = rw (drop-of-length-le s {i = i} h)
-  all-done false h = refl
-
+-- how many new bases there are
 pub none-given : (s : List ℕ) → eqb (length s) 0 ≡ isNone s
 none-given [] = refl
 none-given (x ∷ s) = ne-eqb (length (x ∷ s)) 0 (λ e. omega arith)
@@ -94,28 +78,13 @@ fitting most Inversion s h = none-fit most s h
 fitting most Identity s h = none-fit most s h
 fitting most Other s h = let z : _≡_ {A = ℕ} 0 1 = cc in absurd (omega arith)
 
-module _ (s : List ℕ) (c : Cds) (known : Sound s c) where
-  pub bounded : Bounded c
-  bounded = record { first = known .first; ordered = known .ordered; small = omega (arith, known .last, known .short) }
+-- none of 7 to 10 applies to an edit of a checked reference
+module _ (r : Reference) (known : Sound r) (most : ℕ) (e : Asked) (none : firstOf (editTests most r e) ≡ 0) where
+  pub edit-allowed : Allowed most r e
+  edit-allowed = allowed most r e none
 
-  pub bounds : Bounds (bare s c)
-  unfolding size
-  bounds =
-      record {
-        first = known .first;
-        rising = known .ordered;
-        inside = known .last;
-        whole = known .whole;
-        long = known .long;
-      }
+  pub edit-indexes : Indexes r e
+  edit-indexes = indexes-of most r e (known .bounds) edit-allowed
 
-  -- none of 7 to 10 applies
-  module _ (most : ℕ) (e : Edit) (new : List ℕ) (none : firstOf (editTests most (bare s c) (asked e new)) ≡ 0) where
-    pub edit-allowed : Allowed most (bare s c) (asked e new)
-    edit-allowed = allowed most (bare s c) (asked e new) none
-
-    pub edit-indexes : Indexes (bare s c) (asked e new)
-    edit-indexes = indexes-of most (bare s c) (asked e new) bounds edit-allowed
-
-    pub edit-fitting : Fitting most new
-    edit-fitting = fitting most (e .kind) new (edit-allowed .bases)
+  pub edit-fitting : Fitting most (e .new)
+  edit-fitting = fitting most (kindOf e) (e .new) (edit-allowed .bases)

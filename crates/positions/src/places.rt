@@ -1,20 +1,15 @@
 // "Positions and edits": a position's place, and its index in editing.
+use numbers::least;
 use rules::Cds;
 use rules::Position;
 ghost use mathlib.Core.Path.{_≡_};
 ghost use mathlib.Core.Bool.{false};
-ghost use Prim.Native.Nat.{_+_, _<_, min};
+ghost use Prim.Native.Nat.{_+_, _<_};
 ghost use Rattle.rules.specs.Position.{place, isOutside, index, isBefore, isBehind, counted};
-ghost use Rattle.positions.specs.Views.{Bounded};
-
-pub fn least(a: usize, b: usize) -> usize
-    ensures { λ r. ⌜ r ≡ min a b ⌝ }
-{
-    if a < b { a } else { b }
-}
+ghost use Rattle.reference.specs.Bounds.{Bounded};
 
 // 0; past the CDS; before base 1 of the transcript; star 0 or above 65,535.
-pub fn is_outside(p: Position, c: Cds) -> bool
+pub(crate) fn is_outside(p: Position, c: Cds) -> bool
     requires { ⌜ Bounded c ⌝ }
     ensures { λ r. ⌜ r ≡ isOutside (c .cs) (c .ce) p ⌝ }
 {
@@ -26,7 +21,7 @@ pub fn is_outside(p: Position, c: Cds) -> bool
 }
 
 // The place, counted from 0.
-pub fn place_of(p: Position, c: Cds) -> usize
+pub(crate) fn place_of(p: Position, c: Cds) -> usize
     requires { ⌜ Bounded c ⌝ }
     requires { ⌜ isOutside (c .cs) (c .ce) p ≡ false ⌝ }
     ensures { λ r. ⌜ r ≡ place (c .cs) (c .ce) p ⌝ }
@@ -52,7 +47,7 @@ pub fn index_of(p: Position, c: Cds, len: usize) -> usize
     }
 }
 
-pub fn is_before(p: Position) -> bool
+pub(crate) fn is_before(p: Position) -> bool
     ensures { λ r. ⌜ r ≡ isBefore p ⌝ }
 {
     match p {
@@ -62,7 +57,7 @@ pub fn is_before(p: Position) -> bool
     }
 }
 
-pub fn is_behind(p: Position) -> bool
+pub(crate) fn is_behind(p: Position) -> bool
     ensures { λ r. ⌜ r ≡ isBehind p ⌝ }
 {
     match p {

@@ -1,4 +1,4 @@
-// "Refusal numbers": 7 to 10, over both positions.
+// "Refusal numbers": 7 to 10, over both positions. Of the transcript only its length plays a part.
 use crate::places::is_before;
 use crate::places::is_behind;
 use crate::places::is_outside;
@@ -11,12 +11,13 @@ ghost use Prim.Native.Nat.{ℕ};
 ghost use mathlib.Core.Path.{_≡_};
 ghost use mathlib.Core.Bool.{false};
 ghost use mathlib.Core.List.{List};
+ghost use lib.ListN.{length};
 ghost use Rattle.rules.specs.Bytes.{firstOf};
 ghost use Rattle.rules.specs.Position.{isOutside};
 ghost use Rattle.rules.specs.Edit.{kindNumber, is, endsPast, isMisplaced, isDisordered, isOutOfCds, areNewBases, fitBases, editTests};
 ghost use Rattle.rules.specs.declared.Kind.the-variants.{Substitution, Insertion, Duplication};
 ghost use Rattle.rules.specs.Views.{bare, asked};
-ghost use Rattle.positions.specs.Views.{Bounded, Sound};
+ghost use Rattle.reference.specs.Bounds.{Bounded};
 
 // The number that a host gives a kind.
 fn kind_number(kind: Kind) -> usize
@@ -34,19 +35,19 @@ fn kind_number(kind: Kind) -> usize
     }
 }
 
-pub fn is_kind(a: Kind, b: Kind) -> bool
+fn is_kind(a: Kind, b: Kind) -> bool
     ensures { λ r. ⌜ r ≡ is a b ⌝ }
 {
     kind_number(a) == kind_number(b)
 }
 
-pub fn is_substitution(kind: Kind) -> bool
+fn is_substitution(kind: Kind) -> bool
     ensures { λ r. ⌜ r ≡ is Substitution kind ⌝ }
 {
     is_kind(Kind::Substitution, kind)
 }
 
-pub fn is_insertion(kind: Kind) -> bool
+fn is_insertion(kind: Kind) -> bool
     ensures { λ r. ⌜ r ≡ is Insertion kind ⌝ }
 {
     is_kind(Kind::Insertion, kind)
@@ -88,19 +89,19 @@ fn fit_bases(most: usize, kind: Kind, new: &[u8]) -> bool
 }
 
 // Whether the end's place is L or more.
-pub fn ends_after_transcript(letters: &[u8], c: Cds, edit: Edit) -> bool
+pub fn ends_after_transcript(size: usize, c: Cds, edit: Edit) -> bool
     requires { ⌜ Bounded c ⌝ }
     requires { ⌜ isOutside (c .cs) (c .ce) (edit .end) ≡ false ⌝ }
-    ensures { λ r. ⌜ ((new : List ℕ) → r ≡ endsPast (bare (now (letters .entry)) c) (asked edit new)) ⌝ }
+    ensures { λ r. ⌜ ((s new : List ℕ) → length s ≡ size → r ≡ endsPast (bare s c) (asked edit new)) ⌝ }
 {
     let end = edit.end;
-    letters.len() <= place_of(end, c)
+    size <= place_of(end, c)
 }
 
 // 7: a position outside, or a duplication's end at L or behind.
-fn is_misplaced(letters: &[u8], c: Cds, edit: Edit) -> bool
+fn is_misplaced(size: usize, c: Cds, edit: Edit) -> bool
     requires { ⌜ Bounded c ⌝ }
-    ensures { λ r. ⌜ ((new : List ℕ) → r ≡ isMisplaced (bare (now (letters .entry)) c) (asked edit new)) ⌝ }
+    ensures { λ r. ⌜ ((s new : List ℕ) → length s ≡ size → r ≡ isMisplaced (bare s c) (asked edit new)) ⌝ }
 {
     let kind = edit.kind;
     let start = edit.start;
@@ -111,7 +112,7 @@ fn is_misplaced(letters: &[u8], c: Cds, edit: Edit) -> bool
     if is_outside(end, c) {
         return true;
     }
-    is_duplication(kind) & ends_after_transcript(letters, c, edit)
+    is_duplication(kind) & ends_after_transcript(size, c, edit)
 }
 
 // 8: places out of order, an insertion's not neighbours, or a substitution's not the same.
@@ -144,11 +145,11 @@ fn is_out_of_cds(edit: Edit) -> bool
 }
 
 // The lowest of 7 to 10 that applies, or 0.
-pub fn edit_refusal(letters: &[u8], c: Cds, most: usize, edit: Edit, new: &[u8]) -> usize
+pub fn edit_refusal(size: usize, c: Cds, most: usize, edit: Edit, new: &[u8]) -> usize
     requires { ⌜ Bounded c ⌝ }
-    ensures { λ r. ⌜ r ≡ firstOf (editTests most (bare (now (letters .entry)) c) (asked edit (now (new .entry)))) ⌝ }
+    ensures { λ r. ⌜ ((s : List ℕ) → length s ≡ size → r ≡ firstOf (editTests most (bare s c) (asked edit (now (new .entry))))) ⌝ }
 {
-    if is_misplaced(letters, c, edit) {
+    if is_misplaced(size, c, edit) {
         return 7;
     }
     if is_disordered(c, edit) {

@@ -17,7 +17,7 @@ use Rattle.rules.specs.Translation.{beforeStop}
 use Rattle.rules.specs.Complement.{reverseComplement}
 use Rattle.rules.specs.Reference.{Reference, size}
 use Rattle.rules.specs.Edit.{Asked, kindOf, startIndex, endIndex, areNewBases, fitBases}
-use Rattle.rules.specs.Altered.{part, Swap, carried, swapBy, swap, frame, framed, findsStop, throughStopCodon, kept, cutSwap, alteredTranscript, deleted, inserted, cutOff, alteredLength}
+use Rattle.rules.specs.Altered.{part, Swap, carried, swapBy, swap, isInserting, frame, framed, hasStop, throughStopCodon, cutAtStop, kept, cutSwap, alteredTranscript, deleted, inserted, cutOff, alteredLength}
 use Rattle.rules.specs.declared.Limits.{Limits}
 use Rattle.rules.specs.Refusal.{refusal}
 use Rattle.rules.proofs.Tests.{and-left, and-right, all-take, all-drop, all-both}
@@ -83,12 +83,17 @@ take-again (suc n) (x ∷ s) = ap (x ∷_) (take-again n s)
 
 -- the cut keeps the first of the new bases
 pub kept-is : (r : Reference) (e : Asked) → kept r e ≡ take (length (kept r e)) (swap r e .put)
-unfolding kept throughStopCodon
-kept-is r e = by (findsStop r e) (3 * (beforeStop (framed r (swap r e)) + 1) - frame r (swap r e)) (swap r e .put)
+unfolding kept cutAtStop throughStopCodon
+kept-is r e =
+    let put = swap r e .put in
+    let n = frame r (swap r e) in
+    by (isInserting (kindOf e)) (hasStop (r .table) n put) (3 * (beforeStop (framed (r .table) n put) + 1) - n) put
   where
-    by : (t : Bool) (n : ℕ) (put : List ℕ) → (if t then take n put else put) ≡ take (length (if t then take n put else put)) put
-    by true n put = take-again n put
-    by false n put = sym (take-length put)
+    by : (c t : Bool) (n : ℕ) (put : List ℕ)
+        → (if c then (if t then take n put else put) else put) ≡ take (length (if c then (if t then take n put else put) else put)) put
+    by true true n put = take-again n put
+    by true false n put = sym (take-length put)
+    by false t n put = sym (take-length put)
 
 pub length-kept : (r : Reference) (e : Asked) → length (kept r e) ≤ inserted r e
 unfolding inserted

@@ -95,11 +95,11 @@ number-checks =
     ∷ carried (from-to 2 2 "TT") (bytes "ACGGTA") gives bytes "ACTTGGTA"
     ∷ carried (from-to 0 6 "") (bytes "ACGGTA") gives []
     -- letters N before the new bases, translated; and the new bases through the first stop's codon
-    ∷ framed worked (swap worked (asked "9_10insTAGC")) gives bytes "*X"
-    ∷ framed worked (swap worked (asked "7_8insAATAAG")) gives bytes "X*X"
-    ∷ framed worked (swap worked (asked "8_9insATAA")) gives bytes "X*"
-    ∷ framed worked (swap worked (asked "4_6dup")) gives bytes "A"
-    ∷ framed worked (swap worked (asked "5_6dup")) gives bytes "X"
+    ∷ framed 0 0 (bytes "TAGC") gives bytes "*X"
+    ∷ framed 0 1 (bytes "AATAAG") gives bytes "X*X"
+    ∷ framed 0 2 (bytes "ATAA") gives bytes "X*"
+    ∷ framed 0 0 (bytes "GCC") gives bytes "A"
+    ∷ framed 0 1 (bytes "CC") gives bytes "X"
     ∷ kept worked (asked "9_10insTAGC") gives bytes "TAG"
     ∷ kept worked (asked "7_8insAATAAG") gives bytes "AATAA"
     ∷ kept worked (asked "8_9insATAA") gives bytes "ATAA"

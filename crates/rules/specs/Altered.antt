@@ -25,6 +25,14 @@ pub record Swap : Type 0 where
 unfoldable pub carried : Swap → List ℕ → List ℕ
 carried w s = take (w .from) s ++ (w .put ++ drop (w .to) s)
 
+-- deletion, delins, substitution
+abbrev pub isReplacing : Kind → Bool
+isReplacing k = is Deletion k || is Delins k || is Substitution k
+
+-- insertion, duplication
+abbrev pub isInserting : Kind → Bool
+isInserting k = is Insertion k || is Duplication k
+
 -- deletion, delins, substitution: start..end give way to the new bases; insertion: new bases after the start index; duplication: a copy of
 -- start..end goes in at end; inversion: start..end is reverse complemented; identity: nothing changes, as in an unknown kind
 unfoldable pub swapBy : Kind → List ℕ → ℕ → ℕ → List ℕ → Swap
@@ -46,22 +54,29 @@ unfoldable pub frame : Reference → Swap → ℕ
 frame r w = (w .from - (r .cs - 1)) % 3
 
 -- put so many letters N before the new bases and translate; exceptions play no part in this
-unfoldable pub framed : Reference → Swap → List ℕ
-framed r w = translated (r .table) [] (replicate (frame r w) (byte "N") ++ w .put)
+unfoldable pub framed : ℕ → ℕ → List ℕ → List ℕ
+framed table n put = translated table [] (replicate n (byte "N") ++ put)
 
--- the stop cut, insertions and duplications only: a `*` appears
-unfoldable pub findsStop : Reference → Asked → Bool
-findsStop r e =
-    (is Insertion (kindOf e) || is Duplication (kindOf e))
-    && ltb (beforeStop (framed r (swap r e))) (length (framed r (swap r e)))
+-- a `*` appears
+unfoldable pub hasStop : ℕ → ℕ → List ℕ → Bool
+hasStop table n put = ltb (beforeStop (framed table n put)) (length (framed table n put))
 
 -- the new bases through the first `*`'s codon
-unfoldable pub throughStopCodon : Reference → Swap → List ℕ
-throughStopCodon r w = take (3 * (beforeStop (framed r w) + 1) - frame r w) (w .put)
+unfoldable pub throughStopCodon : ℕ → ℕ → List ℕ → List ℕ
+throughStopCodon table n put = take (3 * (beforeStop (framed table n put) + 1) - n) put
 
 -- the new bases behind the first one's codon are dropped
+unfoldable pub cutAtStop : ℕ → ℕ → List ℕ → List ℕ
+cutAtStop table n put = if hasStop table n put then throughStopCodon table n put else put
+
+-- the stop cut, insertions and duplications only
+unfoldable pub findsStop : Reference → Asked → Bool
+findsStop r e = isInserting (kindOf e) && hasStop (r .table) (frame r (swap r e)) (swap r e .put)
+
 unfoldable pub kept : Reference → Asked → List ℕ
-kept r e = if findsStop r e then throughStopCodon r (swap r e) else swap r e .put
+kept r e =
+    if isInserting (kindOf e) then cutAtStop (r .table) (frame r (swap r e)) (swap r e .put)
+    else swap r e .put
 
 -- an edit's swap, after the stop cut
 unfoldable pub cutSwap : Reference → Asked → Swap
@@ -89,10 +104,7 @@ isUneven r e = not (eqb (inserted r e % 3) (deleted r e % 3))
 
 -- a deletion, delins or substitution with start < ce < end
 unfoldable pub leavesCds : Reference → Asked → Bool
-leavesCds r e =
-    (is Deletion (kindOf e) || is Delins (kindOf e) || is Substitution (kindOf e))
-    && ltb (startIndex r e) (r .ce)
-    && ltb (r .ce) (endIndex r e)
+leavesCds r e = isReplacing (kindOf e) && ltb (startIndex r e) (r .ce) && ltb (r .ce) (endIndex r e)
 
 -- the replaced bases equal the new ones
 unfoldable pub putsBack : Reference → Asked → Bool

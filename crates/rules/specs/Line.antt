@@ -5,6 +5,7 @@ use mathlib.Core.Bool.{Bool, false, _&&_}
 use mathlib.Core.Option.{Option, none, some}
 use lib.Dec.{eqb, leb}
 use lib.ListN.{length, take, drop}
+use Rattle.rules.specs.declared.Limits.{Limits}
 use Rattle.rules.specs.declared.Position.{Position}
 use Rattle.rules.specs.declared.Position.the-variants.{Plus, Minus, Star}
 use Rattle.rules.specs.declared.Kind.{Kind}
@@ -114,6 +115,10 @@ referenceLine s =
     if areCapitals (t .rest)
     then some (record { letters = t .rest; cs = cs .number; ce = ce .number; table = t .number; exceptions = [] })
     else none))))
+
+-- what the program takes: transcripts of 1 to 16,384 bases, 1 to 4,096 new ones
+abbrev pub textLimits : Limits
+textLimits = record { longest = 16384; most = 4096 }
 
 -- lines above 20,480 bytes are 30; so are empty ones, which no form takes
 unfoldable pub fitsLine : List ℕ → Bool

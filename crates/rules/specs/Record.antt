@@ -5,6 +5,7 @@ use mathlib.Core.Bool.{Bool, true, false, _&&_, _||_}
 use lib.Dec.{eqb, ltb}
 use lib.ListN.{length, take, drop, getD}
 use Rattle.rules.specs.declared.Kind.the-variants as kind
+use Rattle.rules.specs.declared.Edit.{Edit}
 use Rattle.rules.specs.declared.Class.{Class}
 use Rattle.rules.specs.declared.Class.the-variants.{StartLost, Extension, StopGained, Frameshift, Substitution, Deletion, Duplication, Insertion, Delins}
 use Rattle.rules.specs.declared.Part.{Part}
@@ -15,7 +16,7 @@ use Rattle.rules.specs.Bytes.{byte, if_then_else_, same, isNone, count}
 use Rattle.rules.specs.Trims.{commonPrefix, commonSuffix}
 use Rattle.rules.specs.Reference.{Reference, referenceProtein}
 use Rattle.rules.specs.Position.{counted}
-use Rattle.rules.specs.Edit.{Asked, is, kindOf, endsPast}
+use Rattle.rules.specs.Edit.{Asked, is, endsPast}
 use Rattle.rules.specs.Altered.{frameshift}
 use Rattle.rules.specs.Protein.{alteredProtein}
 
@@ -27,11 +28,14 @@ isUnknown r e = ltb 1 (count (byte "*") (referenceProtein r)) || endsPast r e
 unfoldable pub within : ℕ → ℕ → ℕ
 within n k = max 1 (min k n)
 
--- ceil(s/3) for start s (1 where s < 0), but floor(e/3)+1 for a duplication with end e, brought into 1..length of R
+-- ceil(s/3) for start s (1 where s < 0), but floor(e/3)+1 for a duplication with end e, brought into 1..n
+unfoldable pub silentWithin : ℕ → Edit → ℕ
+silentWithin n e =
+    within n (if is kind.Duplication (e .kind) then counted (e .end) / 3 + 1 else (counted (e .start) + 2) / 3)
+
+-- into 1..length of R
 unfoldable pub silentNumber : Reference → Asked → ℕ
-silentNumber r e =
-    within (length (referenceProtein r))
-    (if is kind.Duplication (kindOf e) then counted (e .edit .end) / 3 + 1 else (counted (e .edit .start) + 2) / 3)
+silentNumber r e = silentWithin (length (referenceProtein r)) (e .edit)
 
 -- both stop before the longest ending that R and A share behind s; with the flag there is none
 unfoldable pub ending : Bool → ℕ → List ℕ → List ℕ → ℕ

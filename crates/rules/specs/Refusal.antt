@@ -12,7 +12,7 @@ use Rattle.rules.specs.Edit.{Asked, editTests}
 use Rattle.rules.specs.Altered.{alteredLength}
 use Rattle.rules.specs.Record.{recordOf}
 
--- transcripts of 1 to 16,384 bases, 1 to 4,096 new ones
+-- what the library takes: transcripts of 1 to 16,384 bases, 1 to 4,096 new ones
 abbrev pub limits : Limits
 limits = record { longest = 16384; most = 4096 }
 
@@ -31,14 +31,14 @@ pub record Room : Type 0 where
   pub altered : ℕ
 
 -- 11: transcript buffer shorter than the altered length; 12: a protein buffer shorter than CDS/3 or ceil((altered length-cs+1)/3)
-unfoldable pub roomTests : Reference → Asked → Room → List Test
-roomTests r e room =
-    ltb (room .transcript) (alteredLength r e) ↯ 11
-    ∷ (ltb (room .reference) (residueCount (cdsSize r)) || ltb (room .altered) (residueCount (alteredLength r e + 1 - r .cs))) ↯ 12
+unfoldable pub roomTests : ℕ → ℕ → ℕ → Room → List Test
+roomTests coding cs altered room =
+    ltb (room .transcript) altered ↯ 11
+    ∷ (ltb (room .reference) (residueCount coding) || ltb (room .altered) (residueCount (altered + 1 - cs))) ↯ 12
     ∷ []
 
 unfoldable pub roomRefusal : Reference → Asked → Room → ℕ
-roomRefusal r e room = firstOf (roomTests r e room)
+roomRefusal r e room = firstOf (roomTests (cdsSize r) (r .cs) (alteredLength r e) room)
 
 -- 1 to 10, else the record: what is answered where every buffer has room
 unfoldable pub recordUnless : Limits → Reference → Asked → Result Record

@@ -14,8 +14,8 @@ use Rattle.rules.specs.Reference.{Reference, referenceProtein}
 use Rattle.rules.specs.Edit.{Asked}
 use Rattle.rules.specs.Protein.{alteredProtein}
 use Rattle.rules.specs.Record.{partOf}
-use Rattle.rules.specs.Refusal.{limits, referenceRefusal, recordUnless}
-use Rattle.rules.specs.Line.{editLine, referenceLine, fitsLine}
+use Rattle.rules.specs.Refusal.{referenceRefusal, recordUnless}
+use Rattle.rules.specs.Line.{textLimits, editLine, referenceLine, fitsLine}
 
 -- the decimal digits of a number, no leading zero; `fuel` is at least their number
 unfoldable pub decimalOf : ℕ → ℕ → List ℕ
@@ -71,7 +71,7 @@ answerLine (refused n) R A = refusedLine n
 -- an edit's answer; a line not in the form is 30
 unfoldable pub editAnswer : Reference → Option Asked → List ℕ
 editAnswer r none = refusedLine 30
-editAnswer r (some e) = answerLine (recordUnless limits r e) (referenceProtein r) (alteredProtein r e)
+editAnswer r (some e) = answerLine (recordUnless textLimits r e) (referenceProtein r) (alteredProtein r e)
 
 unfoldable pub editLineAnswer : Reference → List ℕ → List ℕ
 editLineAnswer r s = editAnswer r (if fitsLine s then editLine s else none)
@@ -83,7 +83,7 @@ answersFrom (suc n) r lines = refusedLine (suc n) ∷ []
 
 unfoldable pub answersOf : Option Reference → List (List ℕ) → List (List ℕ)
 answersOf none lines = refusedLine 30 ∷ []
-answersOf (some r) lines = answersFrom (referenceRefusal (limits .longest) r) r lines
+answersOf (some r) lines = answersFrom (referenceRefusal (textLimits .longest) r) r lines
 
 -- what the lines of an input are answered
 unfoldable pub answers : List (List ℕ) → List (List ℕ)

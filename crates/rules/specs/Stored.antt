@@ -1,7 +1,7 @@
 -- "Stored reference": fields of a one-byte tag, a two-byte length (high byte first) and the content.
 use Prim.Native.Nat.{ℕ, zero, suc, _+_, _*_, _%_}
 use mathlib.Core.List.{List, [], _∷_}
-use mathlib.Core.Bool.{Bool, _&&_, _||_, not}
+use mathlib.Core.Bool.{Bool, true, _&&_, _||_, not}
 use mathlib.Core.Option.{Option, none, some}
 use lib.Dec.{eqb, leb, ltb}
 use lib.ListN.{length, take, drop, getD}
@@ -27,14 +27,18 @@ field (tag ∷ high ∷ []) = cut tag
 field (tag ∷ high ∷ low ∷ s) =
     if leb (twoBytes high low) (length s) then whole tag (take (twoBytes high low) s) (drop (twoBytes high low) s) else cut tag
 
--- 21: tag unknown, repeated or not rising; `last` is the tag before it
-unfoldable pub isWrongTag : ℕ → ℕ → Bool
-isWrongTag last tag = not (ltb last tag) || ltb 4 tag
+-- a form: which tags it knows, and which content fits a tag
+pub record Form : Type 0 where
+  pub knows : ℕ → Bool
+  pub fits : ℕ → List ℕ → Bool
 
--- 23: field length wrong for its tag: 1 letters; 2 bounds, two bytes each; 3 table, one byte; 4 exceptions, three bytes each
-unfoldable pub isWrongLength : ℕ → ℕ → Bool
-isWrongLength tag n =
-    (eqb tag 2 && not (eqb n 4)) || (eqb tag 3 && not (eqb n 1)) || (eqb tag 4 && not (eqb (n % 3) 0))
+-- 21: tag unknown, repeated or not rising; `last` is the tag before it
+unfoldable pub isWrongTag : Form → ℕ → ℕ → Bool
+isWrongTag form last tag = not (form .knows tag) || not (ltb last tag)
+
+-- 23: field length wrong for its tag, and whatever else a form asks of the content
+unfoldable pub isWrongContent : Form → ℕ → List ℕ → Bool
+isWrongContent form tag content = not (form .fits tag content)
 
 pub record Tagged : Type 0 where
   pub tag : ℕ
@@ -45,26 +49,38 @@ withField tag content (given fs) = given (record { tag = tag; content = content 
 withField tag content (refused n) = refused n
 
 -- in one field 21 before 20 before 23; `more` is what the bytes behind it give
-unfoldable pub met : ℕ → Field → (ℕ → List ℕ → Result (List Tagged)) → Result (List Tagged)
-met last ended more = given []
-met last (cut tag) more = refused (if isWrongTag last tag then 21 else 20)
-met last (whole tag content rest) more =
-    if isWrongTag last tag then refused 21
-    else if isWrongLength tag (length content) then refused 23
+unfoldable pub met : Form → ℕ → Field → (ℕ → List ℕ → Result (List Tagged)) → Result (List Tagged)
+met form last ended more = given []
+met form last (cut tag) more = refused (if isWrongTag form last tag then 21 else 20)
+met form last (whole tag content rest) more =
+    if isWrongTag form last tag then refused 21
+    else if isWrongContent form tag content then refused 23
     else withField tag content (more tag rest)
 
 -- 20, 21 and 23 are met in field order; `fuel` is at least the number of fields
-unfoldable pub fieldsFrom : ℕ → ℕ → List ℕ → Result (List Tagged)
-fieldsFrom zero last s = given []
-fieldsFrom (suc fuel) last s = met last (field s) (λ tag rest. fieldsFrom fuel tag rest)
+unfoldable pub fieldsFrom : Form → ℕ → ℕ → List ℕ → Result (List Tagged)
+fieldsFrom form zero last s = given []
+fieldsFrom form (suc fuel) last s = met form last (field s) (λ tag rest. fieldsFrom form fuel tag rest)
 
-unfoldable pub fields : List ℕ → Result (List Tagged)
-fields s = fieldsFrom (length s) 0 s
+unfoldable pub fields : Form → List ℕ → Result (List Tagged)
+fields form s = fieldsFrom form (length s) 0 s
 
 -- the content of the field with a tag
 unfoldable pub contentOf : ℕ → List Tagged → Option (List ℕ)
 contentOf t [] = none
 contentOf t (f ∷ fs) = if eqb (f .tag) t then some (f .content) else contentOf t fs
+
+-- tags 1 to 4: 1 letters; 2 bounds, two bytes each; 3 table, one byte; 4 exceptions, three bytes each
+unfoldable pub referenceForm : Form
+referenceForm =
+    record {
+      knows = λ tag. leb 1 tag && leb tag 4;
+      fits = λ tag content.
+          if eqb tag 2 then eqb (length content) 4
+          else if eqb tag 3 then eqb (length content) 1
+          else if eqb tag 4 then eqb (length content % 3) 0
+          else true;
+    }
 
 -- codon, two bytes; residue
 unfoldable pub exceptionsIn : List ℕ → List Exception
@@ -92,16 +108,16 @@ assembled (some letters) (some bounds) (some table) exceptions =
       exceptions = exceptionsIn exceptions;
     })
 
+-- the reference that fields hold, or their refusal; 1 to 6 aren't judged
+unfoldable pub assembledIn : Result (List Tagged) → Result Reference
+assembledIn (refused n) = refused n
+assembledIn (given fs) = assembled (contentOf 1 fs) (contentOf 2 fs) (contentOf 3 fs) (orEmpty (contentOf 4 fs))
+
 -- then 1 to 6
 unfoldable pub checked : ℕ → Result Reference → Result Reference
 checked longest (refused n) = refused n
 checked longest (given r) = unless (referenceRefusal longest r) r
 
-unfoldable pub storedIn : ℕ → Result (List Tagged) → Result Reference
-storedIn longest (refused n) = refused n
-storedIn longest (given fs) =
-    checked longest (assembled (contentOf 1 fs) (contentOf 2 fs) (contentOf 3 fs) (orEmpty (contentOf 4 fs)))
-
 -- the reference that bytes store, or the one refusal; `longest` is refusal 1's limit
 unfoldable pub storedReference : ℕ → List ℕ → Result Reference
-storedReference longest s = storedIn longest (fields s)
+storedReference longest s = checked longest (assembledIn (fields referenceForm s))

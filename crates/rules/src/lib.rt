@@ -45,6 +45,13 @@ pub struct Cds {
     pub table: usize,
 }
 
+// The longest transcript that the library takes, the residues of its protein, and the most new bases of an edit.
+pub const LONGEST: usize = 16384;
+
+pub const LONGEST_PROTEIN: usize = 5462;
+
+pub const MOST: usize = 4096;
+
 // The longest transcript, and the most new bases.
 pub struct Limits {
     pub longest: usize,
@@ -69,7 +76,7 @@ pub enum Class {
     Delins,
 }
 
-// `len` residues of a protein, behind the first `at`.
+// `len` bytes or residues, behind the first `at`.
 pub struct Part {
     pub at: usize,
     pub len: usize,

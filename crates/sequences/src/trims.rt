@@ -1,16 +1,11 @@
 // The number of equal first, or equal last, bytes of two byte strings, and whether they are the same.
+use numbers::least;
 ghost use mathlib.Core.Path.{_≡_};
-ghost use Prim.Native.Nat.{_+_, _-_, _≤_, min};
+ghost use Prim.Native.Nat.{_+_, _-_, _≤_};
 ghost use lib.Dec.{eqb};
 ghost use lib.ListN.{length, take, drop};
 ghost use Rattle.rules.specs.Bytes.{same};
 ghost use Rattle.rules.specs.Trims.{commonPrefix, commonSuffix};
-
-pub(crate) fn least(a: usize, b: usize) -> usize
-    ensures { λ r. ⌜ r ≡ min a b ⌝ }
-{
-    if a < b { a } else { b }
-}
 
 fn same_byte(a: u8, b: u8) -> bool
     ensures { λ r. ⌜ r ≡ eqb a b ⌝ }

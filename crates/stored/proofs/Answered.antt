@@ -5,55 +5,77 @@ use mathlib.Core.List.{List}
 use Prim.Native.Nat.{ℕ, zero, suc}
 use native.Mathlib.Omega.{arith}
 use Rattle.rules.specs.declared.Exceptions.{Exceptions}
+use Rattle.rules.specs.declared.Change.{Change}
 use Rattle.rules.specs.declared.Limits.{Limits}
+use Rattle.rules.specs.declared.Record.the-variants.{Changed}
+use Rattle.rules.specs.declared.Report.{Report}
 use Rattle.rules.specs.declared.Answer.{Answer}
 use Rattle.rules.specs.declared.Answer.the-variants as answer
-use Rattle.rules.specs.Bytes.{Result, refused}
+use Rattle.rules.specs.Bytes.{Result, given, refused, unless}
 use Rattle.rules.specs.Reference.{Reference}
 use Rattle.rules.specs.Edit.{Asked}
+use Rattle.rules.specs.Record.{partOf}
 use Rattle.rules.specs.Refusal.{referenceRefusal, Room}
-use Rattle.rules.specs.Stored.{fields, storedReference}
-use Rattle.rules.specs.Answer.{Outcome, outcome, Answers}
+use Rattle.rules.specs.Stored.{referenceForm, fields, assembledIn, storedReference}
+use Rattle.rules.specs.Answer.{Outcome, writesNothing, outcome, Answers}
+use Rattle.rules.specs.Views.{referenceOf}
 use Rattle.rules.proofs.Refusal.{refused-reference}
 use Rattle.rules.proofs.Answers.{refused-by, Alike, single}
-use Rattle.fields.specs.declared.reference.StoredAt.{StoredAt}
-use Rattle.fields.specs.declared.reference.Stored.{Stored}
-use Rattle.fields.specs.declared.reference.Stored.the-variants.{At}
-use Rattle.fields.specs.Places.{bytesAt}
-use Rattle.fields.specs.Held.{exceptionsOf}
-use Rattle.fields.specs.Reading.{referenceAt, Reads, assembledIn}
-use Rattle.rules.specs.Views.{cdsOf, referenceOf}
 use Rattle.altseq.proofs.Answering.{writes-nothing}
+use Rattle.altseq.proofs.Promised as promised
+use Rattle.altseq.proofs.Promised.{Replays}
+use Rattle.stored.specs.declared.places.StoredAt.{StoredAt}
+use Rattle.stored.specs.declared.places.Stored.{Stored}
+use Rattle.stored.specs.declared.places.Stored.the-variants.{At}
+use Rattle.stored.specs.Held.{exceptionsOf}
 use Rattle.stored.specs.Outcomes.{outcomeOf}
-use Rattle.stored.proofs.Judged.{takenAt, taken-refusal, taken-same, refused-at, given-at}
+use Rattle.stored.specs.Reading.{placedReference, Placed, Reads}
+use Rattle.stored.proofs.Judged.{takenAt, taken-refusal, taken-same, taken, is-checked}
 
 pub refuses : (m : Limits) (x : Result Reference) (a : Asked) (room : Room) (t p q : List ℕ) (n : ℕ) → x ≡ refused n
     → Answers (outcomeOf m x a room) (answer.Refused n) t t p p q q
 unfolding outcomeOf
 refuses m x a room t p q n h = writes-nothing (outcomeOf m x a room) (answer.Refused n) t p q (rw h)
 
--- the reference as a call takes it has the outcome of the reference that is stored
-module _ (m : Limits) (s : List ℕ) (r : Stored) (found : Reads s (assembledIn (fields s)) r) (p : StoredAt) (h : r ≡ At p) (a : Asked) (room : Room) where
-  taken-outcome : outcome m (takenAt s p) a room ≡ outcomeOf m (storedReference (m .longest) s) a room
-  unfolding outcomeOf
-  taken-outcome = by (referenceRefusal (m .longest) (referenceAt s p)) refl
-    where
-      by : (n : ℕ) → n ≡ referenceRefusal (m .longest) (referenceAt s p) → outcome m (takenAt s p) a room ≡ outcomeOf m (storedReference (m .longest) s) a room
-      by zero e =
-          rw (given-at (m .longest) s r found p h e)
-          (ap (λ (r : Reference). outcome m r a room) (taken-same s p (found .stands p h) (m .longest) (sym e)))
-      by (suc n) e =
-          rw (refused-at (m .longest) s r found p h (suc n) e (λ z. omega arith))
-          (refused-by m (takenAt s p) a room n (refused-reference m (takenAt s p) a n (taken-refusal s p (found .stands p h) (m .longest) ∙ sym e)))
+module _ (m : Limits) (s : List ℕ) (p : StoredAt) (a : Asked) (room : Room) where
+  refused-outcome : (r : Reference) (n : ℕ) → referenceRefusal (m .longest) r ≡ suc n → outcome m r a room ≡ writesNothing (answer.Refused (suc n))
+  refused-outcome r n h = refused-by m r a room n (refused-reference m r a n h)
 
-  pub answers : (letters : List ℕ) (e : Exceptions) (x : Answer) (t t′ q q′ u u′ : List ℕ) → letters ≡ bytesAt s (p .letters) → e ≡ exceptionsOf (bytesAt s (p .exceptions))
-      → Answers (outcome m (referenceOf letters (cdsOf (p .cs) (p .ce) (p .table)) e) a room) x t t′ q q′ u u′
-      → Answers (outcomeOf m (storedReference (m .longest) s) a room) x t t′ q q′ u u′
-  answers letters e x t t′ q q′ u u′ are is k =
-      let same : referenceOf letters (cdsOf (p .cs) (p .ce) (p .table)) e ≡ takenAt s p = rw (are, is) in
-      subst (λ (o : Outcome). Answers o x t t′ q q′ u u′) (ap (λ (r : Reference). outcome m r a room) same ∙ taken-outcome) k
+  -- the reference as a call takes it has the outcome of the reference that stands there
+  taken-outcome : Placed s p → outcome m (takenAt s p) a room ≡ outcome m (placedReference s p) a room
+  taken-outcome in-place = by (referenceRefusal (m .longest) (placedReference s p)) refl
+    where
+      by : (n : ℕ) → referenceRefusal (m .longest) (placedReference s p) ≡ n → outcome m (takenAt s p) a room ≡ outcome m (placedReference s p) a room
+      by zero e = ap (λ (r : Reference). outcome m r a room) (taken-same (m .longest) s p in-place e)
+      by (suc n) e = refused-outcome (takenAt s p) n (taken-refusal (m .longest) s p in-place ∙ e) ∙ sym (refused-outcome (placedReference s p) n e)
+
+  pub answers : Placed s p → (letters : List ℕ) (e : Exceptions) (x : Answer) (t t′ q q′ u u′ : List ℕ) → letters ≡ partOf (p .letters) s → e ≡ exceptionsOf (partOf (p .exceptions) s)
+      → Answers (outcome m (referenceOf letters (p .cds) e) a room) x t t′ q q′ u u′ → Answers (outcome m (placedReference s p) a room) x t t′ q q′ u u′
+  answers in-place letters e x t t′ q q′ u u′ are is k =
+      subst (λ (o : Outcome). Answers o x t t′ q q′ u u′)
+      (ap (λ (r : Reference). outcome m r a room) (taken (m .longest) s p in-place letters e are is) ∙ taken-outcome in-place) k
+
+  -- which is that of the reference that is stored
+  stored-outcome : (r : Stored) → Reads s (assembledIn (fields referenceForm s)) r → r ≡ At p → outcome m (placedReference s p) a room ≡ outcomeOf m (storedReference (m .longest) s) a room
+  unfolding outcomeOf unless
+  stored-outcome r found h = rw (is-checked (m .longest) s r found p h) (by (referenceRefusal (m .longest) (placedReference s p)) refl)
+    where
+      by : (n : ℕ) → referenceRefusal (m .longest) (placedReference s p) ≡ n → outcome m (placedReference s p) a room ≡ outcomeOf m (unless n (placedReference s p)) a room
+      by zero e = refl
+      by (suc n) e = refused-outcome (placedReference s p) n e
+
+  pub stored-answers : (r : Stored) → Reads s (assembledIn (fields referenceForm s)) r → r ≡ At p → (x : Answer) (t t′ q q′ u u′ : List ℕ)
+      → Answers (outcome m (placedReference s p) a room) x t t′ q q′ u u′ → Answers (outcomeOf m (storedReference (m .longest) s) a room) x t t′ q q′ u u′
+  stored-answers r found h x t t′ q q′ u u′ k = subst (λ (o : Outcome). Answers o x t t′ q q′ u u′) (stored-outcome r found h) k
 
 -- two answers to one call, with the same buffers lent, are the same, and so is every byte that they leave
 pub single-answer : (m : Limits) (x : Result Reference) (a : Asked) (room : Room) (a₁ a₂ : Answer) (t t₁ t₂ p p₁ p₂ q q₁ q₂ : List ℕ)
     → Answers (outcomeOf m x a room) a₁ t t₁ p p₁ q q₁ → Answers (outcomeOf m x a room) a₂ t t₂ p p₂ q q₂ → Alike a₁ a₂ t₁ t₂ p₁ p₂ q₁ q₂
 single-answer m x a room a₁ a₂ t t₁ t₂ p p₁ p₂ q q₁ q₂ h k = single (outcomeOf m x a room) a₁ a₂ t t₁ t₂ p p₁ p₂ q q₁ q₂ h k
+
+-- demand 3, of the bytes in the buffers of an edit of a stored reference that is answered Changed
+pub demanded : (m : Limits) (x : Result Reference) (a : Asked) (room : Room) (p : Report) (c : Change) (t t′ q q′ s s′ : List ℕ)
+    → Answers (outcomeOf m x a room) (answer.Reported p) t t′ q q′ s s′ → p .found ≡ Changed c → Replays p c q′ s′
+unfolding outcomeOf writesNothing
+demanded m (refused n) a room p c t t′ q q′ s s′ h f = let z : _≡_ {A = ℕ} 0 1 = cc in absurd (omega arith)
+demanded m (given r) a room p c t t′ q q′ s s′ h f = promised.demanded m r a room p c t t′ q q′ s s′ h f

@@ -1,44 +1,36 @@
 -- Laws of judging a stored reference: 1 to 6 of what stands in the bytes, and what an answer tells then.
 -- Assumes nothing.
 use mathlib.Core.Path.{_≡_, refl, sym, ap, _∙_}
-use mathlib.Core.Bool.{Bool, true, false}
+use mathlib.Core.Bool.{Bool}
 use mathlib.Core.List.{List}
 use Prim.Native.Nat.{ℕ, zero, suc, _%_, _≤_, _<_}
 use native.Mathlib.Decide.{decLt}
 use native.Mathlib.Omega.{arith}
 use lib.ListN.{length}
 use borrow.Author.Tests.{lt-leb}
+use Rattle.rules.specs.declared.Cds.{Cds}
 use Rattle.rules.specs.declared.Exception.{Exception}
 use Rattle.rules.specs.declared.Exceptions.{Exceptions}
-use Rattle.rules.specs.Bytes.{if_then_else_, firstOf, given, refused, unless}
+use Rattle.rules.specs.Bytes.{all, firstOf, given, refused, unless}
 use Rattle.rules.specs.Translation.{exceptionList}
-use Rattle.rules.specs.Reference.{Reference, size, cdsSize, areBounds, fitExceptions, endsInStop, referenceTests}
+use Rattle.rules.specs.Reference.{Reference, size, cdsSize, areBounds, fitExceptions, referenceTests}
+use Rattle.rules.specs.Record.{partOf}
 use Rattle.rules.specs.Refusal.{referenceRefusal}
-use Rattle.rules.specs.Stored.{fields, exceptionsIn, checked, storedReference}
+use Rattle.rules.specs.Stored.{referenceForm, fields, exceptionsIn, assembledIn, checked, storedReference}
+use Rattle.rules.specs.Views.{referenceOf}
 use Rattle.rules.proofs.Reference.{accepted}
-use Rattle.fields.specs.declared.reference.StoredAt.{StoredAt}
-use Rattle.fields.specs.declared.reference.Stored.{Stored}
-use Rattle.fields.specs.declared.reference.Stored.the-variants.{Refused, At}
-use Rattle.fields.specs.Places.{bytesAt}
-use Rattle.fields.specs.Held.{exceptionsOf}
-use Rattle.fields.specs.Reading.{referenceAt, referenceIn, Placed, Reads, assembledIn}
-use Rattle.fields.proofs.Contents.{length-bytes}
-use Rattle.fields.proofs.Held.{list-few, list-length}
-use Rattle.fields.proofs.Reading.{stored-is}
-use Rattle.rules.specs.declared.Cds.{Cds}
-use Rattle.rules.specs.Views.{cdsOf, referenceOf}
-use Rattle.altseq.specs.Known.{earlyRefusal, knownOf, readOf}
-use Rattle.altseq.proofs.References.{read-refused, read-accepted}
-
--- 6, where none of 1 to 5 applies
-module _ (longest : ℕ) (s : List ℕ) (c : Cds) (e : Exceptions) (none : earlyRefusal longest (referenceOf s c e) ≡ 0) (stop : Bool) (is : stop ≡ endsInStop (referenceOf s c e)) where
-  pub stops : stop ≡ true → 0 ≡ referenceRefusal longest (referenceOf s c e)
-  unfolding readOf
-  stops h = sym (read-accepted longest s c e none (readOf s c e) refl (knownOf s c e) (rw (sym is ∙ h)) .0)
-
-  pub stopless : stop ≡ false → 6 ≡ referenceRefusal longest (referenceOf s c e)
-  unfolding readOf
-  stopless h = sym (read-refused longest s c e none (readOf s c e) refl 6 (rw (sym is ∙ h)) .0)
+use Rattle.codons.specs.Tables.{isBase}
+use Rattle.reference.specs.declared.Judged.{Judged}
+use Rattle.reference.specs.declared.Judged.the-variants as judged
+use Rattle.reference.specs.Known.{judgedOf}
+use Rattle.reference.proofs.Judging.{was-refused, was-clear}
+use Rattle.fields.proofs.Places.{length-of-part}
+use Rattle.stored.specs.declared.places.StoredAt.{StoredAt}
+use Rattle.stored.specs.declared.places.Stored.{Stored}
+use Rattle.stored.specs.declared.places.Stored.the-variants.{Refused, At}
+use Rattle.stored.specs.Held.{exceptionsOf}
+use Rattle.stored.specs.Reading.{placedReference, toldReference, Placed, Reads}
+use Rattle.stored.proofs.Held.{list-few, list-length}
 
 -- a reference with other exceptions
 abbrev withExceptions : List ℕ → Cds → List Exception → Reference
@@ -52,52 +44,64 @@ too-many longest s c es fs h k = rw (lt-leb (length es) 16 h, lt-leb (length fs)
 
 -- the reference as a call takes it
 abbrev pub takenAt : List ℕ → StoredAt → Reference
-takenAt s p = referenceOf (bytesAt s (p .letters)) (cdsOf (p .cs) (p .ce) (p .table)) (exceptionsOf (bytesAt s (p .exceptions)))
+takenAt s p = referenceOf (partOf (p .letters) s) (p .cds) (exceptionsOf (partOf (p .exceptions) s))
 
-module _ (s : List ℕ) (p : StoredAt) (in-place : Placed s p) where
-  threes : length (bytesAt s (p .exceptions)) % 3 ≡ 0
-  threes = rw (length-bytes s (p .exceptions) (in-place .exceptions-within)) (in-place .threes)
+module _ (longest : ℕ) (s : List ℕ) (p : StoredAt) (in-place : Placed s p) where
+  threes : length (partOf (p .exceptions) s) % 3 ≡ 0
+  threes = rw (length-of-part s (p .exceptions) (in-place .exceptions-within)) (in-place .threes)
 
-  few-same : length (exceptionsIn (bytesAt s (p .exceptions))) ≤ 16 → takenAt s p ≡ referenceAt s p
-  few-same h = rw (list-few (bytesAt s (p .exceptions)) threes h)
+  few-same : length (exceptionsIn (partOf (p .exceptions) s)) ≤ 16 → takenAt s p ≡ placedReference s p
+  few-same h = rw (list-few (partOf (p .exceptions) s) threes h)
 
   -- 1 to 6 are the same
-  pub taken-refusal : (longest : ℕ) → referenceRefusal longest (takenAt s p) ≡ referenceRefusal longest (referenceAt s p)
-  taken-refusal longest = by (decLt 16 (length (exceptionsIn (bytesAt s (p .exceptions)))))
+  pub taken-refusal : referenceRefusal longest (takenAt s p) ≡ referenceRefusal longest (placedReference s p)
+  taken-refusal = by (decLt 16 (length (exceptionsIn (partOf (p .exceptions) s))))
     where
-      by : Dec (16 < length (exceptionsIn (bytesAt s (p .exceptions)))) → referenceRefusal longest (takenAt s p) ≡ referenceRefusal longest (referenceAt s p)
+      by : Dec (16 < length (exceptionsIn (partOf (p .exceptions) s))) → referenceRefusal longest (takenAt s p) ≡ referenceRefusal longest (placedReference s p)
       by (yes h) =
-          too-many longest (bytesAt s (p .letters)) (cdsOf (p .cs) (p .ce) (p .table)) (exceptionList (exceptionsOf (bytesAt s (p .exceptions)))) (exceptionsIn (bytesAt s (p .exceptions)))
-          (rw (list-length (bytesAt s (p .exceptions)) threes) h) h
+          too-many longest (partOf (p .letters) s) (p .cds) (exceptionList (exceptionsOf (partOf (p .exceptions) s))) (exceptionsIn (partOf (p .exceptions) s))
+          (rw (list-length (partOf (p .exceptions) s) threes) h) h
       by (no h) = ap (referenceRefusal longest) (few-same (omega arith))
 
   -- and so is the reference, where none applies
-  pub taken-same : (longest : ℕ) → referenceRefusal longest (referenceAt s p) ≡ 0 → takenAt s p ≡ referenceAt s p
-  taken-same longest h = few-same (accepted longest (referenceAt s p) h .few)
+  pub taken-same : referenceRefusal longest (placedReference s p) ≡ 0 → takenAt s p ≡ placedReference s p
+  taken-same h = few-same (accepted longest (placedReference s p) h .few)
+
+  module _ (letters : List ℕ) (e : Exceptions) (are : letters ≡ partOf (p .letters) s) (is : e ≡ exceptionsOf (partOf (p .exceptions) s)) where
+    pub taken : referenceOf letters (p .cds) e ≡ takenAt s p
+    taken = rw (are, is)
+
+    same-refusal : referenceRefusal longest (referenceOf letters (p .cds) e) ≡ referenceRefusal longest (placedReference s p)
+    same-refusal = ap (referenceRefusal longest) taken ∙ taken-refusal
+
+    module _ (x : Judged) (h : x ≡ judgedOf longest letters (p .cds) e) where
+      pub judged-refused : (n : ℕ) → x ≡ judged.Refused n → n ≡ referenceRefusal longest (placedReference s p)
+      unfolding judgedOf
+      judged-refused n k = sym (was-refused (referenceRefusal longest (referenceOf letters (p .cds) e)) (all isBase letters) x h n k .0) ∙ same-refusal
+
+      pub judged-clear : (plain : Bool) → x ≡ judged.Clear plain → 0 ≡ referenceRefusal longest (placedReference s p)
+      unfolding judgedOf
+      judged-clear plain k = sym (was-clear (referenceRefusal longest (referenceOf letters (p .cds) e)) (all isBase letters) x h plain k .0) ∙ same-refusal
 
 -- what is told of a reference that is found
-module _ (longest : ℕ) (s : List ℕ) (r : Stored) (found : Reads s (assembledIn (fields s)) r) where
+module _ (longest : ℕ) (s : List ℕ) (r : Stored) (found : Reads s (assembledIn (fields referenceForm s)) r) where
   pub unfound : (n : ℕ) → r ≡ Refused n → storedReference longest s ≡ refused n
-  unfolding referenceIn checked
-  unfound n h = stored-is longest s ∙ ap (checked longest) (sym (found .says) ∙ ap (referenceIn s) h)
+  unfolding toldReference checked storedReference
+  unfound n h = ap (checked longest) (sym (found .says) ∙ ap (toldReference s) h)
 
   module _ (p : StoredAt) (h : r ≡ At p) where
-    is-checked : storedReference longest s ≡ unless (referenceRefusal longest (referenceAt s p)) (referenceAt s p)
-    unfolding referenceIn checked
-    is-checked = stored-is longest s ∙ ap (checked longest) (sym (found .says) ∙ ap (referenceIn s) h)
+    pub is-checked : storedReference longest s ≡ unless (referenceRefusal longest (placedReference s p)) (placedReference s p)
+    unfolding toldReference checked storedReference
+    is-checked = ap (checked longest) (sym (found .says) ∙ ap (toldReference s) h)
 
-    pub refused-at : (n : ℕ) → n ≡ referenceRefusal longest (referenceAt s p) → (n ≡ 0 → ⊥) → storedReference longest s ≡ refused n
+    pub refused-at : (n : ℕ) → n ≡ referenceRefusal longest (placedReference s p) → (n ≡ 0 → ⊥) → storedReference longest s ≡ refused n
     unfolding unless
     refused-at n e k = is-checked ∙ rw (← e) (by n k)
       where
-        by : (n : ℕ) → (n ≡ 0 → ⊥) → unless n (referenceAt s p) ≡ refused n
+        by : (n : ℕ) → (n ≡ 0 → ⊥) → unless n (placedReference s p) ≡ refused n
         by zero k = absurd (k refl)
         by (suc n) k = refl
 
-    pub given-at : 0 ≡ referenceRefusal longest (referenceAt s p) → storedReference longest s ≡ given (referenceAt s p)
-    unfolding unless
-    given-at e = is-checked ∙ rw (← e)
-
-    pub reads-at : 0 ≡ referenceRefusal longest (referenceAt s p) → Reads s (storedReference longest s) (At p)
-    unfolding referenceIn
-    reads-at e = record { says = sym (given-at e); stands = λ q i. found .stands q (h ∙ i) }
+    pub reads-at : 0 ≡ referenceRefusal longest (placedReference s p) → Reads s (storedReference longest s) (At p)
+    unfolding toldReference unless
+    reads-at e = record { says = sym (is-checked ∙ rw (← e)); stands = λ q i. found .stands q (h ∙ i) }

@@ -1,5 +1,7 @@
 -- Laws of stored references.
-pub mod Last
+pub mod Form
+pub mod Held
+pub mod Reading
 pub mod Judged
 pub mod Answered
 pub mod Promised

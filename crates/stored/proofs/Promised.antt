@@ -8,41 +8,30 @@ use native.Mathlib.Omega.{arith}
 use Rattle.rules.specs.Bytes.{Result, given, refused}
 use Rattle.rules.specs.Reference.{Reference}
 use Rattle.rules.specs.Stored.{storedReference}
-use Rattle.fields.specs.declared.reference.StoredAt.{StoredAt}
-use Rattle.fields.specs.declared.reference.Stored.{Stored}
-use Rattle.fields.specs.declared.reference.Stored.the-variants.{Refused, At}
-use Rattle.fields.specs.Reading.{referenceAt, referenceIn, Reads}
-use Rattle.fields.proofs.Reading.{single}
+use Rattle.stored.specs.declared.places.StoredAt.{StoredAt}
+use Rattle.stored.specs.declared.places.Stored.{Stored}
+use Rattle.stored.specs.declared.places.Stored.the-variants.{Refused, At}
+use Rattle.stored.specs.Reading.{placedReference, toldReference, Reads}
+use Rattle.stored.proofs.Reading.{single}
 
 -- the answer isn't a refusal, and tells of this reference
 pub record Accepts (s : List ℕ) (r : Stored) (x : Reference) : Type 0 where
   pub place : StoredAt
   pub is : r ≡ At place
-  pub tells : referenceAt s place ≡ x
+  pub tells : placedReference s place ≡ x
 
 module _ (longest : ℕ) (s : List ℕ) (r : Stored) (h : Reads s (storedReference longest s) r) where
-  pub accepted : (p : StoredAt) → r ≡ At p → storedReference longest s ≡ given (referenceAt s p)
-  unfolding referenceIn
-  accepted p e = sym (h .says) ∙ ap (referenceIn s) e
+  pub accepted : (p : StoredAt) → r ≡ At p → storedReference longest s ≡ given (placedReference s p)
+  unfolding toldReference
+  accepted p e = sym (h .says) ∙ ap (toldReference s) e
 
   pub not-refused : (x : Reference) → storedReference longest s ≡ given x → Accepts s r x
-  unfolding referenceIn
+  unfolding toldReference
   not-refused x e = by r (h .says ∙ e)
     where
-      by : (r : Stored) → referenceIn s r ≡ given x → Accepts s r x
+      by : (r : Stored) → toldReference s r ≡ given x → Accepts s r x
       by (Refused n) q = let z : _≡_ {A = ℕ} 0 1 = cc in absurd (omega arith)
       by (At p) q = record { place = p; is = refl; tells = cc }
-
-  pub same-refusal : (n : ℕ) → storedReference longest s ≡ refused n → r ≡ Refused n
-  unfolding referenceIn
-  same-refusal n e = by r (h .says ∙ e)
-    where
-      by : (r : Stored) → referenceIn s r ≡ refused n → r ≡ Refused n
-      by (Refused m) q = ap Refused (numbers q)
-        where
-          numbers : {a b : ℕ} → _≡_ {A = Result Reference} (refused a) (refused b) → a ≡ b
-          numbers h = cc
-      by (At p) q = let z : _≡_ {A = ℕ} 0 1 = cc in absurd (omega arith)
 
 pub single-answer : (longest : ℕ) (s : List ℕ) (r q : Stored) → Reads s (storedReference longest s) r → Reads s (storedReference longest s) q → r ≡ q
 single-answer longest s r q h k = single s (storedReference longest s) r q h k

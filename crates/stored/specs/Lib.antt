@@ -1,2 +1,4 @@
 -- What only this crate's contracts want said.
+pub mod Held
+pub mod Reading
 pub mod Outcomes

@@ -1,16 +1,46 @@
 // An edit of a stored reference.
+use crate::exceptions::exceptions_in;
+use crate::places::Stored;
+use crate::places::StoredAt;
+use crate::places::find_stored;
 use altseq::build_altseq;
-use fields::Stored;
 use fields::bytes_at;
-use fields::exceptions_in;
-use fields::find_stored;
 use rules::Answer;
 use rules::Edit;
 ghost use Rattle.rules.specs.Refusal.{limits};
 ghost use Rattle.rules.specs.Stored.{storedReference};
-ghost use Rattle.rules.specs.Answer.{Answers};
+ghost use Rattle.rules.specs.Answer.{outcome, Answers};
 ghost use Rattle.rules.specs.Views.{asked, roomOf};
 ghost use Rattle.stored.specs.Outcomes.{outcomeOf};
+ghost use Rattle.stored.specs.Reading.{placedReference, Placed};
+
+// The answer to an edit of a reference that stands in the bytes.
+fn answer_at(
+    s: &[u8],
+    p: StoredAt,
+    edit: Edit,
+    new: &[u8],
+    transcript: &mut [u8],
+    reference: &mut [u8],
+    altered: &mut [u8],
+) -> Answer
+    requires { ⌜ Placed (now s) p ⌝ }
+    ensures { λ r. ⌜ Answers
+        (outcome limits (placedReference (now (s .entry)) p) (asked edit (now (new .entry))) (roomOf (now (transcript .entry)) (now (reference .entry)) (now (altered .entry))))
+        r (now (transcript .entry)) (now (transcript .exit)) (now (reference .entry)) (now (reference .exit)) (now (altered .entry)) (now (altered .exit)) ⌝ }
+{
+    let e = exceptions_in(bytes_at(s, p.exceptions));
+    build_altseq(
+        bytes_at(s, p.letters),
+        p.cds,
+        e,
+        edit,
+        new,
+        transcript,
+        reference,
+        altered,
+    )
+}
 
 // The answer to an edit of the reference that the bytes store: its refusal, 20 to 23 and then 1 to 6, else as `build_altseq` answers, which
 // judges 1 to 6.
@@ -18,30 +48,16 @@ pub fn build_altseq_stored(
     s: &[u8],
     edit: Edit,
     new: &[u8],
-    tx: &mut [u8],
-    rp: &mut [u8],
-    ap: &mut [u8],
+    transcript: &mut [u8],
+    reference: &mut [u8],
+    altered: &mut [u8],
 ) -> Answer
     ensures { λ r. ⌜ Answers
-        (outcomeOf limits (storedReference 16384 (now (s .entry))) (asked edit (now (new .entry))) (roomOf (now (tx .entry)) (now (rp .entry)) (now (ap .entry))))
-        r (now (tx .entry)) (now (tx .exit)) (now (rp .entry)) (now (rp .exit)) (now (ap .entry)) (now (ap .exit)) ⌝ }
+        (outcomeOf limits (storedReference (limits .longest) (now (s .entry))) (asked edit (now (new .entry))) (roomOf (now (transcript .entry)) (now (reference .entry)) (now (altered .entry))))
+        r (now (transcript .entry)) (now (transcript .exit)) (now (reference .entry)) (now (reference .exit)) (now (altered .entry)) (now (altered .exit)) ⌝ }
 {
     match find_stored(s) {
         Stored::Refused(n) => Answer::Refused(n),
-        Stored::At(p) => {
-            let e = exceptions_in(bytes_at(s, p.exceptions));
-            build_altseq(
-                bytes_at(s, p.letters),
-                p.cs,
-                p.ce,
-                p.table,
-                e,
-                edit,
-                new,
-                tx,
-                rp,
-                ap,
-            )
-        }
+        Stored::At(p) => answer_at(s, p, edit, new, transcript, reference, altered),
     }
 }

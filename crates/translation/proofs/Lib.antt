@@ -4,5 +4,6 @@ pub mod Residues
 pub mod Places
 pub mod Excepted
 pub mod Walks
+pub mod PlainWalks
 pub mod Answers
 pub mod Strict

@@ -1,10 +1,13 @@
 -- Laws of a walk to the first stop, a turn at a time. Assumes nothing.
 use mathlib.Core.Path.{_≡_, refl, sym, ap, _∙_}
+use mathlib.Core.Bool.{Bool, true, _&&_, and-eq-true-iff}
 use mathlib.Core.List.{List, [], _∷_, _++_, map, append-assoc, append-nil}
 use Prim.Native.Nat.{ℕ, zero, suc, _+_, _-_, _*_, _/_, _%_, _≤_, _<_}
 use native.Mathlib.Omega.{arith}
+use lib.Dec.{eqb}
 use lib.ListN.{length, getD, take, drop, set, length-set, length-drop, drop-of-length-le}
 use lib.Seq.{getD-take, length-take-le, take-append-add, drop-append-add}
+use borrow.Author.Tests.{eqb-true}
 use borrow.Rule.Slice.PartMut.{putMid}
 use Rattle.rules.specs.declared.Exception.{Exception}
 use Rattle.rules.specs.declared.Exceptions.{Exceptions}
@@ -172,6 +175,12 @@ module _ (t : ℕ) (es : List Exception) (s : List ℕ) where
       omega (arith, ap beforeStop e)
 
 -- no exceptions are given
-pub listed-none : (e : Exceptions) → e .count ≡ 0 → exceptionList e ≡ []
+listed-none : (e : Exceptions) → e .count ≡ 0 → exceptionList e ≡ []
 unfolding exceptionList
 listed-none e z = rw z
+
+-- the faster way: all letters are bases, and there are no exceptions
+pub both : (plain : Bool) (e : Exceptions) → plain && eqb (e .count) 0 ≡ true → (plain ≡ true) × (exceptionList e ≡ [])
+both plain e h =
+    let each = and-eq-true-iff plain (eqb (e .count) 0) .0 h in
+    (each .0, listed-none e (eqb-true (e .count) 0 (each .1)))

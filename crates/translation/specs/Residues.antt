@@ -1,14 +1,15 @@
--- Codons by index, exceptions put over residues, plain codons by the numbers of their letters, and what a walk to the first stop leaves.
+-- Codons by index, exceptions put over residues, plain codons by the numbers of their letters, what a walk to the first stop leaves, and what a caller has looked at.
 use Prim.Native.Nat.{ℕ, zero, suc, _+_, _*_, _/_, _%_, _<_, _≤_}
 use mathlib.Core.Path.{_≡_}
-use mathlib.Core.Bool.{Bool, _&&_}
+use mathlib.Core.Bool.{Bool, true, _&&_}
 use mathlib.Core.List.{List, [], _∷_}
 use lib.Dec.{leb, ltb}
 use lib.ListN.{length, getD}
 use Rattle.rules.specs.declared.Exception.{Exception}
+use Rattle.rules.specs.declared.Exceptions.{Exceptions}
 use Rattle.rules.specs.Bytes.{if_then_else_, all, over}
 use Rattle.rules.specs.Codons.{codon}
-use Rattle.rules.specs.Translation.{excepted, wholeCodons}
+use Rattle.rules.specs.Translation.{excepted, wholeCodons, residueCount, foldToLetters}
 use Rattle.rules.proofs.Over.{overFrom}
 use Rattle.rules.proofs.Reading.{restOf}
 use Rattle.codons.specs.Tables.{foldsToBase}
@@ -55,3 +56,15 @@ pub record WalkedTo (A : List ℕ) (n : ℕ) (old out : List ℕ) (r : ℕ) : Ty
   pub within : r ≤ n / 3
   pub stopped : r < n / 3 → (r + 1 ≡ length A) × (out ≡ over A old)
   pub ended : n / 3 ≤ r → ((n + 2) / 3 ≡ length A) × (overFrom (n / 3) (restOf (n % 3)) out ≡ over A old)
+
+-- letters that were looked at, a table, and exceptions that were judged
+pub record Reads (table : ℕ) (plain : Bool) (s : List ℕ) (e : Exceptions) : Type 0 where
+  pub code : table < 3
+  pub letters : foldToLetters s ≡ true
+  pub bases : plain ≡ true → foldToBases s ≡ true
+  pub few : e .count ≤ 16
+
+-- the same, with room for the residues
+pub record Walks (table : ℕ) (plain : Bool) (s : List ℕ) (e : Exceptions) (out : List ℕ) : Type 0 where
+  pub reads : Reads table plain s e
+  pub room : residueCount (length s) ≤ length out

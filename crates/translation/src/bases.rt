@@ -2,9 +2,9 @@
 use codons::letters::folds_to_base;
 use codons::letters::folds_to_letter;
 use codons::letters::is_base;
+use numbers::least;
 ghost use mathlib.Core.Path.{_≡_};
 ghost use mathlib.Core.List.{map};
-ghost use Prim.Native.Nat.{min};
 ghost use Rattle.rules.specs.Bytes.{all};
 ghost use Rattle.rules.specs.Letters.{isLetter, folded};
 ghost use Rattle.codons.specs.Tables.{foldsToBase, isBase};
@@ -33,12 +33,6 @@ fn block_folds_to_bases(s: &[u8]) -> bool
         i += 1;
     }
     good
-}
-
-fn least(a: usize, b: usize) -> usize
-    ensures { λ r. ⌜ r ≡ min a b ⌝ }
-{
-    if a < b { a } else { b }
 }
 
 // Whether each byte is a base of plain translation: A, C, G, T, U, of either case. The first block with another letter ends it.

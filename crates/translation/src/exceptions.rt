@@ -1,4 +1,5 @@
 // Exceptions: which are taken, and the residues that they replace.
+use codons::letters::is_residue;
 use rules::Exception;
 use rules::Exceptions;
 ghost use mathlib.Core.Path.{_≡_};
@@ -14,8 +15,7 @@ ghost use Rattle.translation.specs.Residues.{exceptedFrom, nearer, nextF
 fn is_exception(x: Exception) -> bool
     ensures { λ r. ⌜ r ≡ leb 1 (x .codon) && isResidue (x .residue) ⌝ }
 {
-    let r = x.residue;
-    (1 <= x.codon) & (((b'A' <= r) & (r <= b'Z')) | (r == b'*'))
+    (1 <= x.codon) & is_residue(x.residue)
 }
 
 // Whether plain translation takes the exceptions.

@@ -1,6 +1,10 @@
 // Codons read by the tables, without exceptions.
 use codons::letters::folded_set;
+use codons::letters::folded_sets;
+use codons::tables::plain_code;
 use codons::tables::residue_in;
+use codons::tables::residues_of;
+use numbers::wide;
 ghost use mathlib.Core.Path.{_≡_};
 ghost use mathlib.Core.Bool.{true};
 ghost use mathlib.Core.List.{[], map};
@@ -13,9 +17,15 @@ ghost use Rattle.codons.specs.Tables.{HoldsCode, HoldsPlain, HoldsSets, foldedS
 ghost use Rattle.translation.specs.Residues.{codonAt, placeAt, foldToBases, fourAt};
 
 // The residue of codon i, counted from 0, by the tables of sets and of residues.
-pub(crate) fn codon_at(seq: &[u8], table: usize, sets: &[u8; 256], lut: &[u8; 4096], i: usize) -> u8
+pub(crate) fn codon_at(
+    seq: &[u8],
+    table: usize,
+    sets: &[u8; 256],
+    residues: &[u8; 4096],
+    i: usize,
+) -> u8
     requires { ⌜ HoldsSets foldedSet (now sets) ⌝ }
-    requires { ⌜ HoldsCode table (now lut) ⌝ }
+    requires { ⌜ HoldsCode table (now residues) ⌝ }
     requires { ⌜ foldToLetters (now seq) ≡ true ⌝ }
     requires { ⌜ i < length (now seq) / 3 ⌝ }
     ensures { λ r. ⌜ r ≡ codonAt table (map folded (now (seq .entry))) i ⌝ }
@@ -23,7 +33,7 @@ pub(crate) fn codon_at(seq: &[u8], table: usize, sets: &[u8; 256], lut: &[u8; 40
     let a = folded_set(sets, seq[i * 3]);
     let b = folded_set(sets, seq[i * 3 + 1]);
     let c = folded_set(sets, seq[i * 3 + 2]);
-    residue_in(table, lut, a, b, c)
+    residue_in(table, residues, a, b, c)
 }
 
 // Writes the residues of any letters, without exceptions, to the buffer's start.
@@ -31,11 +41,11 @@ pub(crate) fn write_any(
     seq: &[u8],
     table: usize,
     sets: &[u8; 256],
-    lut: &[u8; 4096],
+    residues: &[u8; 4096],
     out: &mut [u8],
 )
     requires { ⌜ HoldsSets foldedSet (now sets) ⌝ }
-    requires { ⌜ HoldsCode table (now lut) ⌝ }
+    requires { ⌜ HoldsCode table (now residues) ⌝ }
     requires { ⌜ foldToLetters (now seq) ≡ true ⌝ }
     requires { ⌜ residueCount (length (now seq)) ≤ length (now out) ⌝ }
     ensures { λ _. ⌜ now (out .exit) ≡ over (foldedTranslated table [] (now (seq .entry))) (now (out .entry)) ⌝ }
@@ -43,19 +53,12 @@ pub(crate) fn write_any(
     let whole = seq.len() / 3;
     let mut i = 0;
     while i < whole {
-        out[i] = codon_at(seq, table, sets, lut, i);
+        out[i] = codon_at(seq, table, sets, residues, i);
         i += 1;
     }
     if seq.len() % 3 != 0 {
         out[whole] = b'X';
     }
-}
-
-fn wide(b: u8) -> usize
-    ensures { λ r. ⌜ r ≡ b ⌝ }
-    ensures small { λ r. ⌜ r < 256 ⌝ }
-{
-    b as usize
 }
 
 // Four bytes from place k on as one number, the first lowest.
@@ -117,26 +120,19 @@ pub(crate) fn write_plain(seq: &[u8], table: usize, code: &[u8; 64], out: &mut [
 }
 
 // Writes the residues of letters, without exceptions, to the buffer's start, the faster way where all letters are bases.
-pub(crate) fn write_letters(
-    seq: &[u8],
-    table: usize,
-    plain: bool,
-    sets: &[u8; 256],
-    lut: &[u8; 4096],
-    code: &[u8; 64],
-    out: &mut [u8],
-)
-    requires { ⌜ HoldsSets foldedSet (now sets) ⌝ }
-    requires { ⌜ HoldsCode table (now lut) ⌝ }
-    requires { ⌜ HoldsPlain table (now code) ⌝ }
+pub(crate) fn write_letters(seq: &[u8], table: usize, plain: bool, out: &mut [u8])
+    requires { ⌜ table < 3 ⌝ }
     requires { ⌜ foldToLetters (now seq) ≡ true ⌝ }
     requires { ⌜ (plain ≡ true → foldToBases (now seq) ≡ true) ⌝ }
     requires { ⌜ residueCount (length (now seq)) ≤ length (now out) ⌝ }
     ensures { λ _. ⌜ now (out .exit) ≡ over (foldedTranslated table [] (now (seq .entry))) (now (out .entry)) ⌝ }
 {
     if plain {
-        write_plain(seq, table, code, out);
+        let code = plain_code(table);
+        write_plain(seq, table, &code, out);
     } else {
-        write_any(seq, table, sets, lut, out);
+        let sets = folded_sets();
+        let residues = residues_of(table);
+        write_any(seq, table, &sets, &residues, out);
     }
 }

@@ -4,27 +4,30 @@ use crate::exceptions::next_exception;
 use crate::reading::codon_at;
 use crate::reading::pair_at;
 use crate::reading::place_at;
+use codons::letters::folded_sets;
+use codons::tables::plain_code;
+use codons::tables::residues_of;
 use rules::Exceptions;
 ghost use mathlib.Core.Path.{_≡_};
-ghost use mathlib.Core.Bool.{true};
+ghost use mathlib.Core.Bool.{true, false};
 ghost use mathlib.Core.List.{[]};
 ghost use Prim.Native.Nat.{_≤_};
 ghost use lib.ListN.{length};
 ghost use Rattle.rules.specs.Bytes.{over};
 ghost use Rattle.rules.specs.Translation.{exceptionList, residueCount, beforeStop, throughStop, wholeCodons, foldToLetters, foldedTranslated};
 ghost use Rattle.codons.specs.Tables.{HoldsCode, HoldsPlain, HoldsSets, foldedSet};
-ghost use Rattle.translation.specs.Residues.{foldToBases, WalkedTo};
+ghost use Rattle.translation.specs.Residues.{foldToBases, WalkedTo, Reads, Walks};
 
 // The index of the first codon that reads `*`, exceptions applied, or the number of whole codons.
-pub fn first_stop(
+fn stop_by_sets(
     seq: &[u8],
     table: usize,
     sets: &[u8; 256],
-    lut: &[u8; 4096],
+    residues: &[u8; 4096],
     e: Exceptions,
 ) -> usize
     requires { ⌜ HoldsSets foldedSet (now sets) ⌝ }
-    requires { ⌜ HoldsCode table (now lut) ⌝ }
+    requires { ⌜ HoldsCode table (now residues) ⌝ }
     requires { ⌜ foldToLetters (now seq) ≡ true ⌝ }
     requires { ⌜ e .count ≤ 16 ⌝ }
     ensures { λ r. ⌜ r ≡ beforeStop (foldedTranslated table (exceptionList e) (wholeCodons (now (seq .entry)))) ⌝ }
@@ -36,7 +39,7 @@ pub fn first_stop(
         if whole <= i {
             break whole;
         }
-        let mut r = codon_at(seq, table, sets, lut, i);
+        let mut r = codon_at(seq, table, sets, residues, i);
         if i + 1 == next {
             r = excepted_at(e, next, r);
             next = next_exception(e, next + 1, whole + 1);
@@ -49,21 +52,55 @@ pub fn first_stop(
     stop
 }
 
+// The same of bases without exceptions.
+fn stop_by_places(seq: &[u8], table: usize, code: &[u8; 64]) -> usize
+    requires { ⌜ HoldsPlain table (now code) ⌝ }
+    requires { ⌜ foldToBases (now seq) ≡ true ⌝ }
+    ensures { λ r. ⌜ r ≡ beforeStop (foldedTranslated table [] (wholeCodons (now (seq .entry)))) ⌝ }
+{
+    let whole = seq.len() / 3;
+    let mut i = 0;
+    let stop = loop {
+        if whole <= i {
+            break whole;
+        }
+        let place = place_at(seq, i);
+        if code[place] == b'*' {
+            break i;
+        }
+        i += 1;
+    };
+    stop
+}
+
+// The index of the first codon that reads `*`, exceptions applied, or the number of whole codons, the faster way where all letters are bases
+// and there are no exceptions.
+pub fn first_stop(seq: &[u8], table: usize, plain: bool, e: Exceptions) -> usize
+    requires { ⌜ Reads table plain (now seq) e ⌝ }
+    ensures { λ r. ⌜ r ≡ beforeStop (foldedTranslated table (exceptionList e) (wholeCodons (now (seq .entry)))) ⌝ }
+{
+    if plain & (e.count == 0) {
+        let code = plain_code(table);
+        return stop_by_places(seq, table, &code);
+    }
+    let sets = folded_sets();
+    let residues = residues_of(table);
+    stop_by_sets(seq, table, &sets, &residues, e)
+}
+
 // Writes the residues of any letters, exceptions applied, to the buffer's start, through the first `*`, and answers its codon's index, or the
 // number of whole codons.
 fn write_to_stop(
     seq: &[u8],
     table: usize,
     sets: &[u8; 256],
-    lut: &[u8; 4096],
+    residues: &[u8; 4096],
     e: Exceptions,
     out: &mut [u8],
 ) -> usize
     requires { ⌜ HoldsSets foldedSet (now sets) ⌝ }
-    requires { ⌜ HoldsCode table (now lut) ⌝ }
-    requires { ⌜ foldToLetters (now seq) ≡ true ⌝ }
-    requires { ⌜ e .count ≤ 16 ⌝ }
-    requires { ⌜ residueCount (length (now seq)) ≤ length (now out) ⌝ }
+    requires { ⌜ HoldsCode table (now residues) ⌝ }
+    requires { ⌜ Walks table false (now seq) e (now out) ⌝ }
     ensures { λ r. ⌜ WalkedTo (throughStop (foldedTranslated table (exceptionList e) (now (seq .entry)))) (length (now (seq .entry))) (now (out .entry)) (now (out .exit)) r ⌝ }
 {
     let whole = seq.len() / 3;
@@ -73,7 +110,7 @@ fn write_to_stop(
         if whole <= i {
             break whole;
         }
-        let mut r = codon_at(seq, table, sets, lut, i);
+        let mut r = codon_at(seq, table, sets, residues, i);
         if i + 1 == next {
             r = excepted_at(e, next, r);
             next = next_exception(e, next + 1, whole + 1);
@@ -119,50 +156,41 @@ fn write_plain_to_stop(seq: &[u8], table: usize, code: &[u8; 64], out: &mut [u8]
     ensures { λ r. ⌜ WalkedTo (throughStop (foldedTranslated table [] (now (seq .entry)))) (length (now (seq .entry))) (now (out .entry)) (now (out .exit)) r ⌝ }
 {
     let mut i = 0;
-    while i * 3 + 8 <= seq.len() {
+    let stop = loop {
+        if seq.len() < i * 3 + 8 {
+            let at = i * 3;
+            break i + write_codons_to_stop(&seq[at..], table, code, &mut out[i..]);
+        }
         let pair = pair_at(seq, i);
         let first = pair / 131072 % 64;
         let r = code[first];
         out[i] = r;
         if r == b'*' {
-            return i;
+            break i;
         }
         let second = pair / 2199023255552 % 64;
         let next = code[second];
         out[i + 1] = next;
         if next == b'*' {
-            return i + 1;
+            break i + 1;
         }
         i += 2;
-    }
-    let at = i * 3;
-    i + write_codons_to_stop(&seq[at..], table, code, &mut out[i..])
+    };
+    stop
 }
 
 // The walk to the first stop, the faster way where all letters are bases and there are no exceptions.
-fn write_walk(
-    seq: &[u8],
-    table: usize,
-    plain: bool,
-    sets: &[u8; 256],
-    lut: &[u8; 4096],
-    code: &[u8; 64],
-    e: Exceptions,
-    out: &mut [u8],
-) -> usize
-    requires { ⌜ HoldsSets foldedSet (now sets) ⌝ }
-    requires { ⌜ HoldsCode table (now lut) ⌝ }
-    requires { ⌜ HoldsPlain table (now code) ⌝ }
-    requires { ⌜ foldToLetters (now seq) ≡ true ⌝ }
-    requires { ⌜ (plain ≡ true → foldToBases (now seq) ≡ true) ⌝ }
-    requires { ⌜ e .count ≤ 16 ⌝ }
-    requires { ⌜ residueCount (length (now seq)) ≤ length (now out) ⌝ }
+fn write_walk(seq: &[u8], table: usize, plain: bool, e: Exceptions, out: &mut [u8]) -> usize
+    requires { ⌜ Walks table plain (now seq) e (now out) ⌝ }
     ensures { λ r. ⌜ WalkedTo (throughStop (foldedTranslated table (exceptionList e) (now (seq .entry)))) (length (now (seq .entry))) (now (out .entry)) (now (out .exit)) r ⌝ }
 {
     if plain & (e.count == 0) {
-        return write_plain_to_stop(seq, table, code, out);
+        let code = plain_code(table);
+        return write_plain_to_stop(seq, table, &code, out);
     }
-    write_to_stop(seq, table, sets, lut, e, out)
+    let sets = folded_sets();
+    let residues = residues_of(table);
+    write_to_stop(seq, table, &sets, &residues, e, out)
 }
 
 // Writes the residues of letters that were looked at, exceptions applied, to the buffer's start: through the first `*`; with none, to the end,
@@ -171,23 +199,14 @@ pub fn write_through_stop(
     seq: &[u8],
     table: usize,
     plain: bool,
-    sets: &[u8; 256],
-    lut: &[u8; 4096],
-    code: &[u8; 64],
     e: Exceptions,
     out: &mut [u8],
 ) -> usize
-    requires { ⌜ HoldsSets foldedSet (now sets) ⌝ }
-    requires { ⌜ HoldsCode table (now lut) ⌝ }
-    requires { ⌜ HoldsPlain table (now code) ⌝ }
-    requires { ⌜ foldToLetters (now seq) ≡ true ⌝ }
-    requires { ⌜ (plain ≡ true → foldToBases (now seq) ≡ true) ⌝ }
-    requires { ⌜ e .count ≤ 16 ⌝ }
-    requires { ⌜ residueCount (length (now seq)) ≤ length (now out) ⌝ }
+    requires { ⌜ Walks table plain (now seq) e (now out) ⌝ }
     ensures { λ r. ⌜ r ≡ length (throughStop (foldedTranslated table (exceptionList e) (now (seq .entry)))) ⌝ }
     ensures written { λ _. ⌜ now (out .exit) ≡ over (throughStop (foldedTranslated table (exceptionList e) (now (seq .entry)))) (now (out .entry)) ⌝ }
 {
-    let stop = write_walk(seq, table, plain, sets, lut, code, e, out);
+    let stop = write_walk(seq, table, plain, e, out);
     let whole = seq.len() / 3;
     if stop < whole {
         return stop + 1;

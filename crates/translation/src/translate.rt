@@ -3,46 +3,24 @@ use crate::bases::all_fold_to_bases;
 use crate::bases::all_fold_to_letters;
 use crate::exceptions::are_exceptions;
 use crate::exceptions::put_exceptions;
-use crate::reading::write_any;
 use crate::reading::write_letters;
-use crate::reading::write_plain;
-use codons::letters::folded_sets;
-use codons::tables::plain_code;
-use codons::tables::residues_of;
+use numbers::thirds;
 use rules::Exceptions;
 use rules::Written;
 ghost use mathlib.Core.Path.{_≡_};
-ghost use mathlib.Core.Bool.{true};
 ghost use mathlib.Core.List.{[]};
-ghost use Prim.Native.Nat.{_≤_};
 ghost use lib.ListN.{length};
 ghost use Rattle.rules.specs.Bytes.{over};
-ghost use Rattle.rules.specs.Translation.{exceptionList, residueCount, foldToLetters, foldedTranslated, translation};
+ghost use Rattle.rules.specs.Translation.{exceptionList, foldedTranslated, translation};
 ghost use Rattle.rules.specs.Answer.{writtenOf, bytesOf};
-ghost use Rattle.codons.specs.Tables.{HoldsCode, HoldsPlain, HoldsSets, foldedSet};
-ghost use Rattle.translation.specs.Residues.{foldToBases};
+ghost use Rattle.translation.specs.Residues.{Walks};
 
 // Writes the translation of letters that were looked at to the buffer's start.
-pub fn write_translated(
-    seq: &[u8],
-    table: usize,
-    plain: bool,
-    sets: &[u8; 256],
-    lut: &[u8; 4096],
-    code: &[u8; 64],
-    e: Exceptions,
-    out: &mut [u8],
-)
-    requires { ⌜ HoldsSets foldedSet (now sets) ⌝ }
-    requires { ⌜ HoldsCode table (now lut) ⌝ }
-    requires { ⌜ HoldsPlain table (now code) ⌝ }
-    requires { ⌜ foldToLetters (now seq) ≡ true ⌝ }
-    requires { ⌜ (plain ≡ true → foldToBases (now seq) ≡ true) ⌝ }
-    requires { ⌜ e .count ≤ 16 ⌝ }
-    requires { ⌜ residueCount (length (now seq)) ≤ length (now out) ⌝ }
+pub fn write_translated(seq: &[u8], table: usize, plain: bool, e: Exceptions, out: &mut [u8])
+    requires { ⌜ Walks table plain (now seq) e (now out) ⌝ }
     ensures { λ _. ⌜ now (out .exit) ≡ over (foldedTranslated table (exceptionList e) (now (seq .entry))) (now (out .entry)) ⌝ }
 {
-    write_letters(seq, table, plain, sets, lut, code, out);
+    write_letters(seq, table, plain, out);
     let whole = seq.len() / 3;
     put_exceptions(e, whole, out);
 }
@@ -59,20 +37,17 @@ pub fn translate_cds(seq: &[u8], table: usize, full: bool, out: &mut [u8]) -> Wr
     if full & (0 < seq.len() % 3) {
         return Written::Refused(14);
     }
-    let n = (seq.len() + 2) / 3;
+    let n = thirds(seq.len());
     if out.len() < n {
         return Written::Refused(15);
     }
     let end = seq.len() - seq.len() % 3;
     if all_fold_to_bases(&seq[..end]) {
-        let code = plain_code(table);
-        write_plain(seq, table, &code, out);
+        write_letters(seq, table, true, out);
         return Written::Bytes(n);
     }
     if all_fold_to_letters(&seq[..end]) {
-        let sets = folded_sets();
-        let lut = residues_of(table);
-        write_any(seq, table, &sets, &lut, out);
+        write_letters(seq, table, false, out);
         return Written::Bytes(n);
     }
     Written::Refused(2)

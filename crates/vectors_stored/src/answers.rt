@@ -1,7 +1,7 @@
 // What is read, as text.
-use fields::Span;
-use fields::Stored;
-use fields::StoredAt;
+use rules::Part;
+use stored::Stored;
+use stored::StoredAt;
 use stored::read_stored;
 
 pub fn print_number(before: &[u8], n: usize) {
@@ -9,17 +9,17 @@ pub fn print_number(before: &[u8], n: usize) {
     io::print_decimal(1, n as u64);
 }
 
-fn print_span(before: &[u8], p: Span) {
+fn print_part(before: &[u8], p: Part) {
     print_number(before, p.at);
     print_number(b"+", p.len);
 }
 
 fn print_reference(p: StoredAt) {
-    print_number(b": cs ", p.cs);
-    print_number(b" ce ", p.ce);
-    print_number(b" table ", p.table);
-    print_span(b" letters ", p.letters);
-    print_span(b" exceptions ", p.exceptions);
+    print_number(b": cs ", p.cds.cs);
+    print_number(b" ce ", p.cds.ce);
+    print_number(b" table ", p.cds.table);
+    print_part(b" letters ", p.letters);
+    print_part(b" exceptions ", p.exceptions);
 }
 
 pub fn print_stored(s: &[u8]) {

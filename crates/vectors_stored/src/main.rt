@@ -7,9 +7,9 @@
 mod answers;
 mod edits;
 
+use answers::print_stored;
 use edits::print_edit;
-use fields::reader::two_bytes;
-use text_answers::print_stored;
+use fields::two_bytes;
 ghost use Prim.Native.Nat.{_≤_};
 ghost use lib.ListN.{length};
 

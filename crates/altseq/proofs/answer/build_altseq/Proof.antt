@@ -1,129 +1,135 @@
 -- `altseq::answer::build_altseq` meets its contract. Assumes nothing.
-use mathlib.Core.Path.{_≡_, sym, subst, _∙_}
-use Prim.Native.Nat.{ℕ, _≤_}
+use mathlib.Core.Path.{_≡_, sym, _∙_}
 use native.Mathlib.Omega.{arith}
 use borrow.Author.Needs.{needs}
 use lib.ListN.{length}
 use lib.Seq.{length-take-le}
-use Rattle.rules.specs.Refusal.{limits}
 use Rattle.rules.specs.Translation.{residueCount}
-use Rattle.codons.specs.Tables.{HoldsCode, HoldsPlain}
-use Rattle.rules.specs.declared.Cds.{Cds}
-use Rattle.rules.specs.Views.{asked, cdsOf, referenceOf, roomOf}
-use Rattle.altseq.proofs.References.{readable, protein-room, was-refused, was-clear, refused-early, read-refused, read-accepted, cds-known, residues-within, knows}
-use Rattle.altseq.proofs.Answering.{reference-refused, answers-cds}
+use Rattle.rules.specs.Refusal.{limits}
+use Rattle.rules.specs.Views.{asked, referenceOf, roomOf}
+use Rattle.reference.proofs.Checking.{checked-refused, checked-accepted, protein-held, cds-known, residues-within, knows}
+use Rattle.altseq.proofs.Answering.{reference-refused}
+use Rattle.altseq.proofs.Whole.{carries, copies, answers, answers-cds}
 use Rattle.altseq.proofs.answer.build_altseq.Statement.{statement}
 use Rattle.altseq.proofs.answer.build_altseq.Tie as tie
 
-returns : tie.Need-returns
-returns c =
-    let a = c .before .before .before .before .before .before .before .before .before .args in
-    let k = cdsOf (a .cs) (a .ce) (a .table) in
-    let refused = was-refused 16384 (a .letters .now) k (a .e) (c .before .before .before .early-refusal .result) (c .before .before .before .early-refusal .ensures) (c .before .n .given .0 .0) (c .before .n .given .1) in
-    reference-refused limits (referenceOf (a .letters .now) k (a .e)) (asked (a .edit) (a .new .now)) (a .tx .now) (a .rp .now) (a .ap .now) (c .before .n .given .0 .0)
-    (refused-early 16384 (a .letters .now) k (a .e) (c .before .n .given .0 .0) (refused .0) (refused .1)) (refused .1)
+-- where the edit was decided
+abbrev decided-before : tie.After-copy-reference-arg → tie.After-decide-in
+decided-before c = c .before .before .before .before .before .before .before .before .before .before
 
-residues-of-requires : tie.Need-residues-of-requires
-residues-of-requires c κs =
-    let a = c .before .before .before .before .before .before .before .before .before .before .args in
-    let k = cdsOf (a .cs) (a .ce) (a .table) in
-    let none = was-clear 16384 (a .letters .now) k (a .e) (c .before .before .before .before .early-refusal .result) (c .before .before .before .before .early-refusal .ensures) (c .before .before .plain .given .0 .0) (c .before .before .plain .given .1) .0 in
-    readable 16384 (a .letters .now) k (a .e) none (omega arith) .sound .table
+abbrev decided-at : tie.After-slice-known6 → tie.After-decide-in
+decided-at c = c .before .before .before .before .before .before .before .before .before .before .before .before .before
 
-plain-code-requires : tie.Need-plain-code-requires
-plain-code-requires c κs =
-    let a = c .before .before .before .before .before .before .before .before .before .before .before .args in
-    let k = cdsOf (a .cs) (a .ce) (a .table) in
-    let none = was-clear 16384 (a .letters .now) k (a .e) (c .before .before .before .before .before .early-refusal .result) (c .before .before .before .before .before .early-refusal .ensures) (c .before .before .before .plain .given .0 .0) (c .before .before .before .plain .given .1) .0 in
-    readable 16384 (a .letters .now) k (a .e) none (omega arith) .sound .table
-
-read-reference-requires : tie.Need-read-reference-requires
+check-reference-requires : tie.Need-check-reference-requires
 unfolding residueCount
-read-reference-requires c κs =
-    let a = c .before .before .before .before .before .before .before .before .before .before .before .before .before .before .before .before .before .args in
-    let k = cdsOf (a .cs) (a .ce) (a .table) in
-    let clear = was-clear 16384 (a .letters .now) k (a .e) (c .before .before .before .before .before .before .before .before .before .before .before .early-refusal .result) (c .before .before .before .before .before .before .before .before .before .before .before .early-refusal .ensures) (c .before .before .before .before .before .before .before .before .before .plain .given .0 .0) (c .before .before .before .before .before .before .before .before .before .plain .given .1) in (
-      readable 16384 (a .letters .now) k (a .e) (clear .0) (omega arith),
-      (clear .1, (protein-room 16384 (a .letters .now) k (a .e) 5462 (clear .0) (omega arith) (omega arith), (search needs, (search needs, search needs)))),
-    )
+check-reference-requires c κs = (omega arith, omega arith)
+
+decide-in-requires : tie.Need-decide-in-requires
+decide-in-requires c κs =
+    let a = c .before .before .before .before .before .before .before .before .before .before .before .args in
+    let x = c .before .before .before .before .check-reference in
+    let k = c .before .known .given .0 .0 in
+    let ok = checked-accepted 16384 (a .letters .now) (a .cds) (a .e) (x .result) (x .ensures .0) k (c .before .known .given .1) in
+    let held = protein-held 16384 (a .letters .now) (a .cds) (a .e) _ _ (ok .0) (x .ensures .1) in
+    record { exceptions = a .e; protein = _; known = knows limits (a .letters .now) (a .cds) (a .e) k (ok .0) (ok .1) _ _ held (omega arith) }
 
 array-share-prefix-protein : tie.Need-array-share-prefix-protein
 array-share-prefix-protein c =
-    let a = c .before .before .before .before .before .before .before .before .before .before .before .before .before .before .before .before .before .before .before .before .before .before .args in
-    let k = cdsOf (a .cs) (a .ce) (a .table) in
-    let none = was-clear 16384 (a .letters .now) k (a .e) (c .before .before .before .before .before .before .before .before .before .before .before .before .before .before .before .before .early-refusal .result) (c .before .before .before .before .before .before .before .before .before .before .before .before .before .before .before .before .early-refusal .ensures) (c .before .before .before .before .before .before .before .before .before .before .before .before .before .before .plain .given .0 .0) (c .before .before .before .before .before .before .before .before .before .before .before .before .before .before .plain .given .1) .0 in
-    let read = c .before .before .before .before .read-reference in
-    let known = read-accepted 16384 (a .letters .now) k (a .e) none (read .result) (read .ensures .0) (c .before .known .given .0 .0) (c .before .known .given .1) in
-    residues-within limits (a .letters .now) k (a .e) (c .before .known .given .0 .0) (known .0) (known .1) _ _ (read .ensures .1)
+    let a = c .before .before .before .before .before .before .before .before .before .before .before .before .args in
+    let x = c .before .before .before .before .before .check-reference in
+    let k = c .before .before .known .given .0 .0 in
+    let ok = checked-accepted 16384 (a .letters .now) (a .cds) (a .e) (x .result) (x .ensures .0) k (c .before .before .known .given .1) in
+    let held = protein-held 16384 (a .letters .now) (a .cds) (a .e) _ _ (ok .0) (x .ensures .1) in
+    residues-within limits (a .letters .now) (a .cds) (a .e) k (ok .0) (ok .1) _ _ held
 
-slice-aggregate-build-altseq-in : tie.Need-slice-aggregate-build-altseq-in
-slice-aggregate-build-altseq-in c =
-    let a = c .before .before .before .before .before .before .before .before .before .before .before .before .before .before .before .before .before .before .before .before .before .before .before .args in
-    let k = cdsOf (a .cs) (a .ce) (a .table) in
-    let none = was-clear 16384 (a .letters .now) k (a .e) (c .before .before .before .before .before .before .before .before .before .before .before .before .before .before .before .before .before .early-refusal .result) (c .before .before .before .before .before .before .before .before .before .before .before .before .before .before .before .before .before .early-refusal .ensures) (c .before .before .before .before .before .before .before .before .before .before .before .before .before .before .before .plain .given .0 .0) (c .before .before .before .before .before .before .before .before .before .before .before .before .before .before .before .plain .given .1) .0 in
-    let read = c .before .before .before .before .before .read-reference in
-    let known = read-accepted 16384 (a .letters .now) k (a .e) none (read .result) (read .ensures .0) (c .before .before .known .given .0 .0) (c .before .before .known .given .1) in
-    sym (length-take-le (c .before .before .known .given .0 .0 .residues) _ (residues-within limits (a .letters .now) k (a .e) (c .before .before .known .given .0 .0) (known .0) (known .1) _ _ (read .ensures .1)))
+slice-aggregate-answer-decided : tie.Need-slice-aggregate-answer-decided
+slice-aggregate-answer-decided c =
+    let a = c .before .before .before .before .before .before .before .before .before .before .before .before .before .args in
+    let x = c .before .before .before .before .before .before .check-reference in
+    let k = c .before .before .before .known .given .0 .0 in
+    let ok = checked-accepted 16384 (a .letters .now) (a .cds) (a .e) (x .result) (x .ensures .0) k (c .before .before .before .known .given .1) in
+    let held = protein-held 16384 (a .letters .now) (a .cds) (a .e) _ _ (ok .0) (x .ensures .1) in
+    sym (length-take-le (k .residues) _ (residues-within limits (a .letters .now) (a .cds) (a .e) k (ok .0) (ok .1) _ _ held))
 
-build-altseq-in-requires : tie.Need-build-altseq-in-requires
-build-altseq-in-requires c κs =
-    let a = c .before .before .before .before .before .before .before .before .before .before .before .before .before .before .before .before .before .before .before .before .before .before .before .before .before .before .before .before .before .before .args in
-    let k = cdsOf (a .cs) (a .ce) (a .table) in
-    let none = was-clear 16384 (a .letters .now) k (a .e) (c .before .before .before .before .before .before .before .before .before .before .before .before .before .before .before .before .before .before .before .before .before .before .before .before .early-refusal .result) (c .before .before .before .before .before .before .before .before .before .before .before .before .before .before .before .before .before .before .before .before .before .before .before .before .early-refusal .ensures) (c .before .before .before .before .before .before .before .before .before .before .before .before .before .before .before .before .before .before .before .before .before .before .plain .given .0 .0) (c .before .before .before .before .before .before .before .before .before .before .before .before .before .before .before .before .before .before .before .before .before .before .plain .given .1) .0 in
-    let read = c .before .before .before .before .before .before .before .before .before .before .before .before .read-reference in
-    let known = read-accepted 16384 (a .letters .now) k (a .e) none (read .result) (read .ensures .0) (c .before .before .before .before .before .before .before .before .before .known .given .0 .0) (c .before .before .before .before .before .before .before .before .before .known .given .1) in
-    let cds = sym (cds-known limits (a .letters .now) k (a .e) (c .before .before .before .before .before .before .before .before .before .known .given .0 .0) (known .0) (known .1)) in (
-      knows limits (a .letters .now) k (a .e) (c .before .before .before .before .before .before .before .before .before .known .given .0 .0) (known .0) (known .1) _ _ (read .ensures .1) (omega arith),
-      (
-        c .before .before .before .before .before .before .before .before .before .before .before .before .before .before .before .before .before .before .before .before .folded-sets .ensures,
-        (
-          subst (λ (d : Cds). HoldsCode (d .table) (c .before .before .before .before .before .before .before .before .before .before .before .before .before .before .before .before .before .before .before .residues-of .result)) cds (c .before .before .before .before .before .before .before .before .before .before .before .before .before .before .before .before .before .before .before .residues-of .ensures),
-          (subst (λ (d : Cds). HoldsPlain (d .table) (c .before .before .before .before .before .before .before .before .before .before .before .before .before .before .before .before .before .before .plain-code .result)) cds (c .before .before .before .before .before .before .before .before .before .before .before .before .before .before .before .before .before .before .plain-code .ensures), c .before .before .before .before .before .before .before .before .before .before .before .before .before .before .before .before .before .complements .ensures),
-        ),
-      ),
-    )
+answer-decided-requires : tie.Need-answer-decided-requires
+answer-decided-requires c κs =
+    let a = c .before .before .before .before .before .before .before .before .before .before .before .before .before .before .before .args in
+    let x = c .before .before .before .before .before .before .before .before .check-reference in
+    let k = c .before .before .before .before .before .known .given .0 .0 in
+    let ok = checked-accepted 16384 (a .letters .now) (a .cds) (a .e) (x .result) (x .ensures .0) k (c .before .before .before .before .before .known .given .1) in
+    let held = protein-held 16384 (a .letters .now) (a .cds) (a .e) _ _ (ok .0) (x .ensures .1) in
+    carries (a .letters .now) k (a .e) _ (knows limits (a .letters .now) (a .cds) (a .e) k (ok .0) (ok .1) _ _ held (omega arith)) (a .edit) (a .new .now) (a .transcript .now) (a .reference .now) (a .altered .now)
+    (c .before .before .before .decide-in .result) (c .before .before .before .decide-in .ensures)
+
+array-share-prefix-protein-2 : tie.Need-array-share-prefix-protein-2
+array-share-prefix-protein-2 c =
+    let a = c .before .before .before .before .before .before .before .before .before .before .before .before .before .before .before .before .before .before .before .before .args in
+    let x = c .before .before .before .before .before .before .before .before .before .before .before .before .before .check-reference in
+    let k = c .before .before .before .before .before .before .before .before .before .before .known .given .0 .0 in
+    let ok = checked-accepted 16384 (a .letters .now) (a .cds) (a .e) (x .result) (x .ensures .0) k (c .before .before .before .before .before .before .before .before .before .before .known .given .1) in
+    let held = protein-held 16384 (a .letters .now) (a .cds) (a .e) _ _ (ok .0) (x .ensures .1) in
+    residues-within limits (a .letters .now) (a .cds) (a .e) k (ok .0) (ok .1) _ _ held
+
+slice-aggregate-copy-reference : tie.Need-slice-aggregate-copy-reference
+slice-aggregate-copy-reference c =
+    let d = c .before .before .before .before .before .before .before .before .before in
+    let a = d .before .before .before .before .before .before .before .before .before .before .before .before .args in
+    let x = d .before .before .before .before .before .check-reference in
+    let k = d .before .before .known .given .0 .0 in
+    let ok = checked-accepted 16384 (a .letters .now) (a .cds) (a .e) (x .result) (x .ensures .0) k (d .before .before .known .given .1) in
+    let held = protein-held 16384 (a .letters .now) (a .cds) (a .e) _ _ (ok .0) (x .ensures .1) in
+    sym (length-take-le (k .residues) _ (residues-within limits (a .letters .now) (a .cds) (a .e) k (ok .0) (ok .1) _ _ held))
+
+copy-reference-requires : tie.Need-copy-reference-requires
+copy-reference-requires c κs =
+    let d = decided-before c in
+    let a = d .before .before .before .before .before .before .before .before .before .before .before .before .args in
+    let x = d .before .before .before .before .before .check-reference in
+    let k = d .before .before .known .given .0 .0 in
+    let ok = checked-accepted 16384 (a .letters .now) (a .cds) (a .e) (x .result) (x .ensures .0) k (d .before .before .known .given .1) in
+    let held = protein-held 16384 (a .letters .now) (a .cds) (a .e) _ _ (ok .0) (x .ensures .1) in
+    copies (a .letters .now) k (a .e) _ (knows limits (a .letters .now) (a .cds) (a .e) k (ok .0) (ok .1) _ _ held (omega arith)) (a .edit) (a .new .now) (a .transcript .now) (a .reference .now) (a .altered .now)
+    (d .decide-in .result) (d .decide-in .ensures) (c .before .before .before .before .before .before .answer-decided .result) (c .before .before .before .before .before .before .answer-decided .ensures .0)
+
+returns : tie.Need-returns
+returns c =
+    let a = c .before .before .before .before .before .before .before .before .before .before .before .args in
+    let x = c .before .before .before .before .check-reference in
+    let n = c .before .n .given .0 .0 in
+    let no = checked-refused 16384 (a .letters .now) (a .cds) (a .e) (x .result) (x .ensures .0) n (c .before .n .given .1) in
+    reference-refused limits (referenceOf (a .letters .now) (a .cds) (a .e)) (asked (a .edit) (a .new .now)) (a .transcript .now) (a .reference .now) (a .altered .now) n (no .0) (no .1)
 
 returns-2 : tie.Need-returns-2
 returns-2 c =
-    let a = c .before .before .before .before .before .before .before .before .before .before .before .before .before .before .before .before .before .before .before .before .before .before .args in
-    let k = cdsOf (a .cs) (a .ce) (a .table) in
-    let none = was-clear 16384 (a .letters .now) k (a .e) (c .before .before .before .before .before .before .before .before .before .before .before .before .before .before .before .before .early-refusal .result) (c .before .before .before .before .before .before .before .before .before .before .before .before .before .before .before .before .early-refusal .ensures) (c .before .before .before .before .before .before .before .before .before .before .before .before .before .before .plain .given .0 .0) (c .before .before .before .before .before .before .before .before .before .before .before .before .before .before .plain .given .1) .0 in
-    let read = c .before .before .before .before .read-reference in
-    let refused = read-refused 16384 (a .letters .now) k (a .e) none (read .result) (read .ensures .0) (c .before .n2 .given .0 .0) (c .before .n2 .given .1) in
-    reference-refused limits (referenceOf (a .letters .now) k (a .e)) (asked (a .edit) (a .new .now)) (a .tx .now) (a .rp .now) (a .ap .now) (c .before .n2 .given .0 .0) (refused .0) (refused .1)
-
-returns-3 : tie.Need-returns-3
-returns-3 c =
-    let a = c .before .before .before .before .before .before .before .before .before .before .before .before .before .before .before .before .before .before .before .before .before .before .before .before .before .before .before .before .before .before .before .before .before .before .before .before .before .args in
-    let k = cdsOf (a .cs) (a .ce) (a .table) in
-    let none = was-clear 16384 (a .letters .now) k (a .e) (c .before .before .before .before .before .before .before .before .before .before .before .before .before .before .before .before .before .before .before .before .before .before .before .before .before .before .before .before .before .before .before .early-refusal .result) (c .before .before .before .before .before .before .before .before .before .before .before .before .before .before .before .before .before .before .before .before .before .before .before .before .before .before .before .before .before .before .before .early-refusal .ensures) (c .before .before .before .before .before .before .before .before .before .before .before .before .before .before .before .before .before .before .before .before .before .before .before .before .before .before .before .before .before .plain .given .0 .0) (c .before .before .before .before .before .before .before .before .before .before .before .before .before .before .before .before .before .before .before .before .before .before .before .before .before .before .before .before .before .plain .given .1) .0 in
-    let read = c .before .before .before .before .before .before .before .before .before .before .before .before .before .before .before .before .before .before .before .read-reference in
-    let known = read-accepted 16384 (a .letters .now) k (a .e) none (read .result) (read .ensures .0) (c .before .before .before .before .before .before .before .before .before .before .before .before .before .before .before .before .known .given .0 .0) (c .before .before .before .before .before .before .before .before .before .before .before .before .before .before .before .before .known .given .1) in
-    let cds = cds-known limits (a .letters .now) k (a .e) (c .before .before .before .before .before .before .before .before .before .before .before .before .before .before .before .before .known .given .0 .0) (known .0) (known .1) in
-    answers-cds limits (a .letters .now) _ k (a .e) (asked (a .edit) (a .new .now)) (roomOf (a .tx .now) (a .rp .now) (a .ap .now)) _ (a .tx .now) _ (a .rp .now) _ (a .ap .now) _ cds
-    (c .before .before .before .before .before .before .build-altseq-in .ensures)
+    let d = decided-at c in
+    let a = d .before .before .before .before .before .before .before .before .before .before .before .before .args in
+    let x = d .before .before .before .before .before .check-reference in
+    let k = d .before .before .known .given .0 .0 in
+    let ok = checked-accepted 16384 (a .letters .now) (a .cds) (a .e) (x .result) (x .ensures .0) k (d .before .before .known .given .1) in
+    let held = protein-held 16384 (a .letters .now) (a .cds) (a .e) _ _ (ok .0) (x .ensures .1) in
+    let said = c .before .before .before .before .before .before .before .before .before .answer-decided in
+    answers-cds (a .letters .now) (k .cds) (a .cds) (a .e) (asked (a .edit) (a .new .now)) (roomOf (a .transcript .now) (a .reference .now) (a .altered .now)) _ (a .transcript .now) _ (a .reference .now) _ (a .altered .now) _
+    (cds-known limits (a .letters .now) (a .cds) (a .e) k (ok .0) (ok .1))
+    (answers (a .letters .now) k (a .e) _ (knows limits (a .letters .now) (a .cds) (a .e) k (ok .0) (ok .1) _ _ held (omega arith)) (a .edit) (a .new .now) (a .transcript .now) (a .reference .now) (a .altered .now)
+    (d .decide-in .result) (d .decide-in .ensures) (said .result) _ _ _ (said .ensures .0) (said .ensures .1 .0) (said .ensures .1 .1) (c .before .before .copy-reference .ensures))
 
 pub build-altseq-spec : {M : Type 1} → statement M
 build-altseq-spec =
     tie.close
     (tie.spec
-    (λ c κs. search needs)
+    (λ c. search needs)
+    check-reference-requires
     (λ c. search needs)
     (λ c. search needs)
-    (λ c κs. search needs)
-    residues-of-requires
-    plain-code-requires
-    (λ c κs. search needs)
-    (λ c. search needs)
-    read-reference-requires
-    (λ c. search needs)
-    (λ c. search needs)
+    decide-in-requires
     array-share-prefix-protein
-    slice-aggregate-build-altseq-in
-    build-altseq-in-requires
+    slice-aggregate-answer-decided
+    answer-decided-requires
+    array-share-prefix-protein-2
+    slice-aggregate-copy-reference
+    copy-reference-requires
     returns
-    returns-2
     (λ c. search needs)
     (λ c. search needs)
     (λ c. search needs)
-    returns-3)
+    returns-2)

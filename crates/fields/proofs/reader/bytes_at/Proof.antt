@@ -3,10 +3,12 @@ use mathlib.Core.Path.{_≡_}
 use Prim.Native.Nat.{_+_, _-_}
 use native.Mathlib.Omega.{arith}
 use borrow.Author.Needs.{needs}
+use Rattle.rules.specs.Record.{partOf}
 use Rattle.fields.proofs.reader.bytes_at.Statement.{statement}
 use Rattle.fields.proofs.reader.bytes_at.Tie as tie
 
 returns : tie.Need-returns
+unfolding partOf
 returns c =
     let p = c .before .before .args .p in
     let few : p .at + p .len - p .at ≡ p .len = omega arith in

@@ -14,7 +14,7 @@ returns-2 c = rw (c .before .enum-told2 .given .1) (c .alone2 .ensures)
 
 returns-3 : tie.Need-returns-3
 unfolding toldBy
-returns-3 c = rw (c .before .before .before .before .found .given .1, c .before .before .alone3 .ensures, c .wide .ensures, c .before .place-of .ensures)
+returns-3 c = rw (c .before .before .before .before .found .given .1, c .before .before .alone3 .ensures, c .wide .ensures, c .before .residue-place .ensures)
 
 returns-4 : tie.Need-returns-4
 unfolding toldBy

@@ -1,6 +1,8 @@
 -- `positions::refusals::edit_refusal` meets its contract. Assumes nothing.
+use Prim.Native.Nat.{ℕ}
 use mathlib.Core.Path.{sym, _∙_}
 use borrow.Author.Needs.{needs}
+use lib.ListN.{replicate, length-replicate}
 use Rattle.rules.specs.Bytes.{firstOf}
 use Rattle.rules.specs.Edit.{editTests}
 use Rattle.rules.specs.Views.{bare, asked}
@@ -11,41 +13,43 @@ use Rattle.positions.proofs.refusals.edit_refusal.Tie as tie
 returns : tie.Need-returns
 unfolding firstOf editTests
 returns c =
-    let a = c .before .before .before .before .args in
-    rw (sym (c .before .is-misplaced .ensures (a .new .now)) ∙ c .if1 .taken)
+    let a = c .before .before .before .args in
+    λ s h. rw (sym (c .before .is-misplaced .ensures s (a .new .now) h) ∙ c .if1 .taken)
 
 is-disordered-requires : tie.Need-is-disordered-requires
 is-disordered-requires c κs =
-    let a = c .before .before .before .before .args in
-    let inside = both-inside (bare (a .letters .now) (a .c)) (asked (a .edit) (a .new .now)) (sym (c .before .is-misplaced .ensures (a .new .now)) ∙ c .if1 .left) in
+    let a = c .before .before .before .args in
+    let any = replicate {A = ℕ} (a .size) 0 in
+    let here = c .before .is-misplaced .ensures any (a .new .now) (length-replicate (a .size) 0) in
+    let inside = both-inside (bare any (a .c)) (asked (a .edit) (a .new .now)) (sym here ∙ c .if1 .left) in
     (search needs, (inside .0, inside .1))
 
 returns-2 : tie.Need-returns-2
 unfolding firstOf editTests
 returns-2 c =
-    let a = c .before .before .before .before .before .before .args in
-    rw (
-      sym (c .before .before .before .is-misplaced .ensures (a .new .now)) ∙ c .before .before .if1 .left,
-      sym (c .before .is-disordered .ensures (a .letters .now) (a .new .now)) ∙ c .if2 .taken,
+    let a = c .before .before .before .before .before .args in
+    λ s h. rw (
+      sym (c .before .before .before .is-misplaced .ensures s (a .new .now) h) ∙ c .before .before .if1 .left,
+      sym (c .before .is-disordered .ensures s (a .new .now)) ∙ c .if2 .taken,
     )
 
 returns-3 : tie.Need-returns-3
 unfolding firstOf editTests
 returns-3 c =
-    let a = c .before .before .before .before .before .before .before .before .args in
-    rw (
-      sym (c .before .before .before .before .before .is-misplaced .ensures (a .new .now)) ∙ c .before .before .before .before .if1 .left,
-      sym (c .before .before .before .is-disordered .ensures (a .letters .now) (a .new .now)) ∙ c .before .before .if2 .left,
+    let a = c .before .before .before .before .before .before .before .args in
+    λ s h. rw (
+      sym (c .before .before .before .before .before .is-misplaced .ensures s (a .new .now) h) ∙ c .before .before .before .before .if1 .left,
+      sym (c .before .before .before .is-disordered .ensures s (a .new .now)) ∙ c .before .before .if2 .left,
       sym (c .before .is-out-of-cds .ensures (a .new .now)) ∙ c .if3 .taken,
     )
 
 returns-4 : tie.Need-returns-4
 unfolding firstOf editTests
 returns-4 c =
-    let a = c .before .before .before .before .before .before .before .before .before .before .args in
-    rw (
-      sym (c .before .before .before .before .before .before .before .is-misplaced .ensures (a .new .now)) ∙ c .before .before .before .before .before .before .if1 .left,
-      sym (c .before .before .before .before .before .is-disordered .ensures (a .letters .now) (a .new .now)) ∙ c .before .before .before .before .if2 .left,
+    let a = c .before .before .before .before .before .before .before .before .before .args in
+    λ s h. rw (
+      sym (c .before .before .before .before .before .before .before .is-misplaced .ensures s (a .new .now) h) ∙ c .before .before .before .before .before .before .if1 .left,
+      sym (c .before .before .before .before .before .is-disordered .ensures s (a .new .now)) ∙ c .before .before .before .before .if2 .left,
       sym (c .before .before .before .is-out-of-cds .ensures (a .new .now)) ∙ c .before .before .if3 .left,
       sym (c .before .fit-bases .ensures) ∙ c .if4 .taken,
     )
@@ -53,10 +57,10 @@ returns-4 c =
 returns-5 : tie.Need-returns-5
 unfolding firstOf editTests
 returns-5 c =
-    let a = c .before .before .before .before .before .before .before .before .before .before .args in
-    rw (
-      sym (c .before .before .before .before .before .before .before .is-misplaced .ensures (a .new .now)) ∙ c .before .before .before .before .before .before .if1 .left,
-      sym (c .before .before .before .before .before .is-disordered .ensures (a .letters .now) (a .new .now)) ∙ c .before .before .before .before .if2 .left,
+    let a = c .before .before .before .before .before .before .before .before .before .args in
+    λ s h. rw (
+      sym (c .before .before .before .before .before .before .before .is-misplaced .ensures s (a .new .now) h) ∙ c .before .before .before .before .before .before .if1 .left,
+      sym (c .before .before .before .before .before .is-disordered .ensures s (a .new .now)) ∙ c .before .before .before .before .if2 .left,
       sym (c .before .before .before .is-out-of-cds .ensures (a .new .now)) ∙ c .before .before .if3 .left,
       sym (c .before .fit-bases .ensures) ∙ c .if4 .left,
     )

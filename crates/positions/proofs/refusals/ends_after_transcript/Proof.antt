@@ -7,7 +7,7 @@ use Rattle.positions.proofs.refusals.ends_after_transcript.Tie as tie
 
 returns : tie.Need-returns
 unfolding size endPlace endsPast
-returns c = λ new. rw (c .place-of .ensures .0)
+returns c = λ s new h. rw (h, c .place-of .ensures .0)
 
 pub ends-after-transcript-spec : {M : Type 1} → statement M
 ends-after-transcript-spec = tie.close (tie.spec (λ c κs. search needs) returns)

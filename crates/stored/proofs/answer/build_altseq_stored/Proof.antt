@@ -1,34 +1,31 @@
 -- `stored::answer::build_altseq_stored` meets its contract. Assumes nothing.
-use mathlib.Core.Path.{ap, _∙_}
 use borrow.Author.Needs.{needs}
 use Rattle.rules.specs.Refusal.{limits}
-use Rattle.fields.specs.Held.{exceptionsOf}
 use Rattle.rules.specs.Views.{asked, roomOf}
 use Rattle.stored.proofs.Judged.{unfound}
-use Rattle.stored.proofs.Answered.{refuses, answers}
+use Rattle.stored.proofs.Answered.{refuses, stored-answers}
 use Rattle.stored.proofs.answer.build_altseq_stored.Statement.{statement}
 use Rattle.stored.proofs.answer.build_altseq_stored.Tie as tie
 
-bytes-at-requires : tie.Need-bytes-at-requires
-bytes-at-requires c κs =
-    c .before .before .before .find-stored .ensures .stands _ (c .before .p .given .1) .exceptions-within
-
-bytes-at-requires-2 : tie.Need-bytes-at-requires-2
-bytes-at-requires-2 c κs =
-    c .before .before .before .before .before .find-stored .ensures .stands _ (c .before .before .before .p .given .1) .letters-within
+answer-at-requires : tie.Need-answer-at-requires
+answer-at-requires c κs =
+    c .before .before .before .before .before .before .find-stored .ensures .stands _ (c .before .before .before .before .p .given .1)
 
 returns : tie.Need-returns
 returns c =
-    let a = c .before .before .before .before .before .before .before .before .before .args in
-    refuses limits _ (asked (a .edit) (a .new .now)) (roomOf (a .tx .now) (a .rp .now) (a .ap .now)) (a .tx .now) (a .rp .now) (a .ap .now) _
-    (unfound 16384 (a .s .now) (c .before .before .before .find-stored .result) (c .before .before .before .find-stored .ensures) _ (c .before .n .given .1))
+    let found = c .before .before .before in
+    let a = found .before .before .before .before .before .before .args in
+    refuses limits _ (asked (a .edit) (a .new .now)) (roomOf (a .transcript .now) (a .reference .now) (a .altered .now)) (a .transcript .now) (a .reference .now) (a .altered .now) _
+    (unfound (limits .longest) (a .s .now) (found .find-stored .result) (found .find-stored .ensures) _ (c .before .n .given .1))
 
 returns-2 : tie.Need-returns-2
 returns-2 c =
-    let a = c .before .before .before .before .before .before .before .before .before .before .before .before .before .before .before .before .before .before .before .before .before .before .args in
-    answers limits (a .s .now) (c .before .before .before .before .before .before .before .before .before .before .before .before .before .before .before .before .find-stored .result) (c .before .before .before .before .before .before .before .before .before .before .before .before .before .before .before .before .find-stored .ensures) (c .before .before .before .before .before .before .before .before .before .before .before .before .before .before .p .given .0 .0) (c .before .before .before .before .before .before .before .before .before .before .before .before .before .before .p .given .1) (asked (a .edit) (a .new .now)) (roomOf (a .tx .now) (a .rp .now) (a .ap .now))
-    (c .before .before .before .before .before .before .before .before .before .before .bytes-at2 .result .now) (c .before .before .before .before .before .before .before .before .before .before .before .exceptions-in .result) (c .before .before .before .before .before .before .build-altseq .result) (a .tx .now) _ (a .rp .now) _ (a .ap .now) _
-    (c .before .before .before .before .before .before .before .before .before .before .bytes-at2 .ensures) (c .before .before .before .before .before .before .before .before .before .before .before .exceptions-in .ensures ∙ ap exceptionsOf (c .before .before .before .before .before .before .before .before .before .before .before .before .bytes-at .ensures)) (c .before .before .before .before .before .before .build-altseq .ensures)
+    let answered = c .before .before .before .before .before .before in
+    let p = answered .before .before .before .before .before in
+    let found = p .before .before in
+    let a = found .before .before .before .before .before .before .args in
+    stored-answers limits (a .s .now) _ (asked (a .edit) (a .new .now)) (roomOf (a .transcript .now) (a .reference .now) (a .altered .now)) (found .find-stored .result) (found .find-stored .ensures) (p .p .given .1) (answered .answer-at .result)
+    (a .transcript .now) _ (a .reference .now) _ (a .altered .now) _ (answered .answer-at .ensures)
 
 pub build-altseq-stored-spec : {M : Type 1} → statement M
 build-altseq-stored-spec =
@@ -37,10 +34,7 @@ build-altseq-stored-spec =
     (λ c κs. search needs)
     (λ c. search needs)
     (λ c. search needs)
-    bytes-at-requires
-    (λ c κs. search needs)
-    bytes-at-requires-2
-    (λ c κs. search needs)
+    answer-at-requires
     returns
     (λ c. search needs)
     (λ c. search needs)

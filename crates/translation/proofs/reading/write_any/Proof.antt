@@ -14,14 +14,14 @@ use Rattle.translation.proofs.reading.write_any.Statement.{statement}
 use Rattle.translation.proofs.reading.write_any.Tie as tie
 
 abbrev Inv-loop : tie.InvT-loop
-Inv-loop seq table sets lut out₀ whole i₀ out i =
+Inv-loop seq table sets residues out₀ whole i₀ out i =
     (i ≤ whole)
     × (whole ≡ length seq / 3)
     × (length out ≡ length out₀)
     × (overFrom i (leftFrom table [] seq i) out ≡ over (foldedTranslated table [] seq) out₀)
 
 abbrev μ-loop : tie.MeasureT-loop
-μ-loop seq table sets lut out₀ whole i₀ out i = whole - i
+μ-loop seq table sets residues out₀ whole i₀ out i = whole - i
 
 loop-holds : tie.Need-loop-holds Inv-loop μ-loop
 loop-holds c =

@@ -5,9 +5,18 @@ use Rattle.translation.proofs.reading.write_letters.Tie as tie
 
 write-plain-requires : tie.Need-write-plain-requires
 write-plain-requires c κs =
-    (search needs, (c .before .before .before .before .pre .1 .1 .1 .1 .0 (c .before .if1 .taken), search needs))
+    (search needs, (c .before .before .before .before .before .before .pre .1 .1 .0 (c .before .before .before .if1 .taken), search needs))
 
 pub write-letters-spec : {M : Type 1} → statement M
 write-letters-spec =
     tie.close
-    (tie.spec write-plain-requires (λ c κs. search needs) (λ c. search needs) (λ c. search needs) (λ c. search needs) (λ c. search needs))
+    (tie.spec
+    (λ c κs. search needs)
+    write-plain-requires
+    (λ c κs. search needs)
+    (λ c κs. search needs)
+    (λ c κs. search needs)
+    (λ c. search needs)
+    (λ c. search needs)
+    (λ c. search needs)
+    (λ c. search needs))

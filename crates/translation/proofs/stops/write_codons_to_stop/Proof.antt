@@ -1,14 +1,14 @@
 -- `translation::write_codons_to_stop` meets its contract. The invariant: writing what is left gives the protein.
 -- Assumes nothing.
-use mathlib.Core.Path.{_≡_, ap, _∙_}
 use mathlib.Core.List.{[]}
-use Prim.Native.Nat.{ℕ, _-_, _≤_}
+use Prim.Native.Nat.{_-_, _≤_}
 use native.Mathlib.Omega.{arith}
 use borrow.Author.Needs.{needs}
-use lib.ListN.{length, getD, length-set}
-use Rattle.rules.specs.Translation.{excepted, residueCount, foldedTranslated, throughStop}
-use Rattle.translation.proofs.Places.{place-small, place-residue}
-use Rattle.translation.proofs.Walks.{residueAt, Walk, walk-start, walk-more, walk-stop, walk-end}
+use lib.ListN.{length-set}
+use Rattle.rules.specs.Translation.{foldedTranslated, throughStop}
+use Rattle.translation.proofs.Places.{place-small}
+use Rattle.translation.proofs.Walks.{Walk, walk-start, walk-end}
+use Rattle.translation.proofs.PlainWalks.{fits, place-more, place-stop}
 use Rattle.translation.proofs.stops.write_codons_to_stop.Statement.{statement}
 use Rattle.translation.proofs.stops.write_codons_to_stop.Tie as tie
 
@@ -29,18 +29,18 @@ element-copy-out-r c =
     rw (c .place-at .ensures) (place-small (args .seq .now) (c .before .before .loop .i))
 
 slice-write-out : tie.Need-slice-write-out Inv-loop μ-loop
-unfolding residueCount
 slice-write-out c =
-    omega (arith, c .before .before .before .loop .inv .1 .same, c .before .before .if1 .left, c .before .before .before .before .before .before .pre .1 .1)
+    let args = c .before .before .before .before .before .before .args in
+    let pre = c .before .before .before .before .before .before .pre in
+    let loop = c .before .before .before .loop in
+    fits (args .table) (args .code .now) (args .seq .now) (pre .0) (pre .1 .0) _ (args .out .now) (pre .1 .1) (loop .out) (loop .i) _ (loop .inv .1) (search needs) (c .before .place-at .ensures)
 
 loop-again : tie.Need-loop-again Inv-loop μ-loop
-unfolding excepted residueAt residueCount
 loop-again c =
     let args = c .before .before .before .before .before .before .before .args in
-    let loop = c .before .before .before .before .loop in
     let pre = c .before .before .before .before .before .before .before .pre in
-    let is = ap (λ (n : ℕ). getD (args .code .now) n 0) (c .before .before .place-at .ensures) ∙ place-residue (args .table) (args .code .now) (args .seq .now) (loop .i) (pre .0) (pre .1 .0) (search needs) in
-    (search needs, walk-more (args .table) [] (args .seq .now) _ (args .out .now) (loop .out) (loop .i) _ (loop .inv .1) (search needs) (omega (arith, loop .inv .1 .same, c .before .before .before .if1 .left, pre .1 .1)) is (c .if2 .left))
+    let loop = c .before .before .before .before .loop in
+    (search needs, place-more (args .table) (args .code .now) (args .seq .now) (pre .0) (pre .1 .0) _ (args .out .now) (pre .1 .1) (loop .out) (loop .i) _ (loop .inv .1) (search needs) (c .before .before .place-at .ensures) (c .if2 .left))
 
 same-length : tie.Need-same-length Inv-loop μ-loop
 same-length c =
@@ -57,13 +57,11 @@ same-length-2 c =
     simp length-set (c .before .before .before .before .loop .inv .1 .same)
 
 returns-2 : tie.Need-returns-2 Inv-loop μ-loop
-unfolding excepted residueAt residueCount
 returns-2 c =
     let args = c .before .before .before .before .before .before .before .args in
-    let loop = c .before .before .before .before .loop in
     let pre = c .before .before .before .before .before .before .before .pre in
-    let is = ap (λ (n : ℕ). getD (args .code .now) n 0) (c .before .before .place-at .ensures) ∙ place-residue (args .table) (args .code .now) (args .seq .now) (loop .i) (pre .0) (pre .1 .0) (search needs) in
-    walk-stop (args .table) [] (args .seq .now) _ (args .out .now) (loop .out) (loop .i) _ (loop .inv .1) (search needs) (omega (arith, loop .inv .1 .same, c .before .before .before .if1 .left, pre .1 .1)) is (c .if2 .taken)
+    let loop = c .before .before .before .before .loop in
+    place-stop (args .table) (args .code .now) (args .seq .now) (pre .0) (pre .1 .0) _ (args .out .now) (pre .1 .1) (loop .out) (loop .i) _ (loop .inv .1) (search needs) (c .before .before .place-at .ensures) (c .if2 .taken)
 
 pub write-codons-to-stop-spec : {M : Type 1} → statement M
 write-codons-to-stop-spec =

@@ -1,17 +1,17 @@
 -- `translation::write_plain_to_stop` meets its contract. The invariant: writing what is left gives the protein.
 -- Assumes nothing.
-use mathlib.Core.Path.{_≡_, ap, _∙_}
+use mathlib.Core.Path.{_≡_, _∙_}
 use mathlib.Core.List.{[]}
-use Prim.Native.Nat.{ℕ, _+_, _-_, _*_, _/_, _≤_}
+use Prim.Native.Nat.{_+_, _-_, _*_, _/_, _≤_}
 use native.Mathlib.Omega.{arith}
 use borrow.Author.Needs.{needs}
 use borrow.Rule.Slice.PartMut.{same-len-mid}
-use lib.ListN.{length, getD, length-set}
-use Rattle.rules.specs.Translation.{excepted, residueCount, foldedTranslated, throughStop}
+use lib.ListN.{length, length-set}
+use Rattle.rules.specs.Translation.{residueCount, foldedTranslated, throughStop}
 use Rattle.rules.proofs.Over.{tail-is}
 use Rattle.translation.proofs.Residues.{bases-part}
-use Rattle.translation.proofs.Places.{place-residue}
-use Rattle.translation.proofs.Walks.{residueAt, Walk, walk-start, walk-more, walk-stop, walk-on}
+use Rattle.translation.proofs.Walks.{Walk, walk-start, walk-on}
+use Rattle.translation.proofs.PlainWalks.{place-more, place-stop}
 use Rattle.translation.proofs.stops.write_plain_to_stop.Statement.{statement}
 use Rattle.translation.proofs.stops.write_plain_to_stop.Tie as tie
 
@@ -26,55 +26,6 @@ loop-holds c =
     let args = c .before .before .args in
     (search needs, walk-start (args .table) [] (args .seq .now) (args .out .now))
 
-slice-write-out : tie.Need-slice-write-out Inv-loop μ-loop
-unfolding residueCount
-slice-write-out c = omega (arith, c .before .before .before .loop .inv .1 .same, c .before .before .before .before .before .before .pre .1 .1)
-
-same-length : tie.Need-same-length Inv-loop μ-loop
-same-length c = simp length-set (c .before .before .before .before .loop .inv .1 .same)
-
-returns : tie.Need-returns Inv-loop μ-loop
-unfolding excepted residueAt residueCount
-returns c =
-    let args = c .before .before .before .before .before .before .before .args in
-    let loop = c .before .before .before .before .loop in
-    let pre = c .before .before .before .before .before .before .before .pre in
-    let s = args .seq .now in
-    let is = ap (λ (n : ℕ). getD (args .code .now) n 0) (c .before .before .pair-at .ensures .0) ∙ place-residue (args .table) (args .code .now) s (loop .i) (pre .0) (pre .1 .0) (omega arith) in
-    walk-stop (args .table) [] s _ (args .out .now) (loop .out) (loop .i) _ (loop .inv .1) (omega arith) (omega (arith, loop .inv .1 .same, pre .1 .1)) is (c .if1 .taken)
-
-slice-write-out-2 : tie.Need-slice-write-out-2 Inv-loop μ-loop
-unfolding residueCount
-slice-write-out-2 c = simp length-set (omega (arith, c .before .before .before .before .before .loop .inv .1 .same, c .before .before .before .before .before .before .before .before .pre .1 .1))
-
-same-length-2 : tie.Need-same-length-2 Inv-loop μ-loop
-same-length-2 c = simp length-set (c .before .before .before .before .before .before .loop .inv .1 .same)
-
-returns-2 : tie.Need-returns-2 Inv-loop μ-loop
-unfolding excepted residueAt residueCount
-returns-2 c =
-    let args = c .before .before .before .before .before .before .before .before .before .args in
-    let loop = c .before .before .before .before .before .before .loop in
-    let pre = c .before .before .before .before .before .before .before .before .before .pre in
-    let s = args .seq .now in
-    let is = ap (λ (n : ℕ). getD (args .code .now) n 0) (c .before .before .before .before .pair-at .ensures .0) ∙ place-residue (args .table) (args .code .now) s (loop .i) (pre .0) (pre .1 .0) (omega arith) in
-    let is′ = ap (λ (n : ℕ). getD (args .code .now) n 0) (c .before .before .before .before .pair-at .ensures .1) ∙ place-residue (args .table) (args .code .now) s (loop .i + 1) (pre .0) (pre .1 .0) (omega arith) in
-    let w = walk-more (args .table) [] s _ (args .out .now) (loop .out) (loop .i) _ (loop .inv .1) (omega arith) (omega (arith, loop .inv .1 .same, pre .1 .1)) is (c .before .before .if1 .left) in
-    walk-stop (args .table) [] s _ (args .out .now) _ (loop .i + 1) _ w (omega arith) (simp length-set (omega (arith, loop .inv .1 .same, pre .1 .1))) is′ (c .if2 .taken)
-
-loop-again : tie.Need-loop-again Inv-loop μ-loop
-unfolding excepted residueAt residueCount
-loop-again c =
-    let args = c .before .before .before .before .before .before .before .before .before .args in
-    let loop = c .before .before .before .before .before .before .loop in
-    let pre = c .before .before .before .before .before .before .before .before .before .pre in
-    let s = args .seq .now in
-    let is = ap (λ (n : ℕ). getD (args .code .now) n 0) (c .before .before .before .before .pair-at .ensures .0) ∙ place-residue (args .table) (args .code .now) s (loop .i) (pre .0) (pre .1 .0) (omega arith) in
-    let is′ = ap (λ (n : ℕ). getD (args .code .now) n 0) (c .before .before .before .before .pair-at .ensures .1) ∙ place-residue (args .table) (args .code .now) s (loop .i + 1) (pre .0) (pre .1 .0) (omega arith) in
-    let w = walk-more (args .table) [] s _ (args .out .now) (loop .out) (loop .i) _ (loop .inv .1) (omega arith) (omega (arith, loop .inv .1 .same, pre .1 .1)) is (c .before .before .if1 .left) in
-    let two : loop .i + 2 ≡ loop .i + 1 + 1 = omega arith in
-    (search needs, rw two (walk-more (args .table) [] s _ (args .out .now) _ (loop .i + 1) _ w (omega arith) (simp length-set (omega (arith, loop .inv .1 .same, c .before .before .before .before .before .before .before .before .before .pre .1 .1))) is′ (c .if2 .left)))
-
 write-codons-to-stop-requires : tie.Need-write-codons-to-stop-requires Inv-loop μ-loop
 unfolding residueCount
 write-codons-to-stop-requires c κs =
@@ -83,22 +34,62 @@ write-codons-to-stop-requires c κs =
     let pre = c .before .before .before .before .before .before .pre in
     (pre .0, (rw (tail-is (loop .i * 3) (args .seq .now)) (bases-part (args .seq .now) (loop .i) (loop .inv .0) (pre .1 .0)), omega (arith, loop .inv .1 .same, pre .1 .1)))
 
-add-result-2 : tie.Need-add-result-2 Inv-loop μ-loop
-add-result-2 c = omega (arith, c .before .before .write-codons-to-stop .ensures .within)
+add-stop : tie.Need-add-stop Inv-loop μ-loop
+add-stop c = omega (arith, c .before .before .write-codons-to-stop .ensures .within)
 
-same-length-3 : tie.Need-same-length-3 Inv-loop μ-loop
-same-length-3 c =
+slice-write-out : tie.Need-slice-write-out Inv-loop μ-loop
+unfolding residueCount
+slice-write-out c = omega (arith, c .before .before .before .loop .inv .1 .same, c .before .before .before .before .before .before .pre .1 .1)
+
+slice-write-out-2 : tie.Need-slice-write-out-2 Inv-loop μ-loop
+unfolding residueCount
+slice-write-out-2 c = simp length-set (omega (arith, c .before .before .before .before .before .loop .inv .1 .same, c .before .before .before .before .before .before .before .before .pre .1 .1))
+
+loop-again : tie.Need-loop-again Inv-loop μ-loop
+loop-again c =
+    let args = c .before .before .before .before .before .before .before .before .before .args in
+    let loop = c .before .before .before .before .before .before .loop in
+    let pre = c .before .before .before .before .before .before .before .before .before .pre in
+    let pair-at = c .before .before .before .before .pair-at in
+    let two : loop .i + 2 ≡ loop .i + 1 + 1 = omega arith in
+    let w = place-more (args .table) (args .code .now) (args .seq .now) (pre .0) (pre .1 .0) _ (args .out .now) (pre .1 .1) (loop .out) (loop .i) _ (loop .inv .1) (omega arith) (pair-at .ensures .0) (c .before .before .if2 .left) in
+    (search needs, rw two (place-more (args .table) (args .code .now) (args .seq .now) (pre .0) (pre .1 .0) _ (args .out .now) (pre .1 .1) _ (loop .i + 1) _ w (omega arith) (pair-at .ensures .1) (c .if3 .left)))
+
+same-length : tie.Need-same-length Inv-loop μ-loop
+same-length c =
     let loop = c .before .before .before .before .before .before .loop in
     let rest = c .before .before .write-codons-to-stop in
     same-len-mid (loop .i) (length (loop .out) - loop .i) (loop .out) (rest .last .1 .1 .1 .0) (rest .kept .1 .1 .1 .0) ∙ loop .inv .1 .same
 
-returns-3 : tie.Need-returns-3 Inv-loop μ-loop
+returns : tie.Need-returns Inv-loop μ-loop
 unfolding residueCount
-returns-3 c =
+returns c =
     let args = c .before .before .before .before .before .before .before .before .before .args in
     let loop = c .before .before .before .before .before .before .loop in
     let rest = c .before .before .write-codons-to-stop in
     walk-on (args .table) (args .seq .now) _ (args .out .now) (loop .out) (loop .i) (loop .inv .1) (loop .inv .0) (omega (arith, loop .inv .1 .same, c .before .before .before .before .before .before .before .before .before .pre .1 .1)) _ (rest .result) (rest .ensures)
+
+same-length-2 : tie.Need-same-length-2 Inv-loop μ-loop
+same-length-2 c = simp length-set (c .before .before .before .before .loop .inv .1 .same)
+
+returns-2 : tie.Need-returns-2 Inv-loop μ-loop
+returns-2 c =
+    let args = c .before .before .before .before .before .before .before .args in
+    let loop = c .before .before .before .before .loop in
+    let pre = c .before .before .before .before .before .before .before .pre in
+    place-stop (args .table) (args .code .now) (args .seq .now) (pre .0) (pre .1 .0) _ (args .out .now) (pre .1 .1) (loop .out) (loop .i) _ (loop .inv .1) (omega arith) (c .before .before .pair-at .ensures .0) (c .if2 .taken)
+
+same-length-3 : tie.Need-same-length-3 Inv-loop μ-loop
+same-length-3 c = simp length-set (c .before .before .before .before .before .before .loop .inv .1 .same)
+
+returns-3 : tie.Need-returns-3 Inv-loop μ-loop
+returns-3 c =
+    let args = c .before .before .before .before .before .before .before .before .before .args in
+    let loop = c .before .before .before .before .before .before .loop in
+    let pre = c .before .before .before .before .before .before .before .before .before .pre in
+    let pair-at = c .before .before .before .before .pair-at in
+    let w = place-more (args .table) (args .code .now) (args .seq .now) (pre .0) (pre .1 .0) _ (args .out .now) (pre .1 .1) (loop .out) (loop .i) _ (loop .inv .1) (omega arith) (pair-at .ensures .0) (c .before .before .if2 .left) in
+    place-stop (args .table) (args .code .now) (args .seq .now) (pre .0) (pre .1 .0) _ (args .out .now) (pre .1 .1) _ (loop .i + 1) _ w (omega arith) (pair-at .ensures .1) (c .if3 .taken)
 
 pub write-plain-to-stop-spec : {M : Type 1} → statement M
 unfolding residueCount
@@ -110,20 +101,6 @@ write-plain-to-stop-spec =
     loop-holds
     (λ c. search needs)
     (λ c. search needs)
-    (λ c κs. search needs)
-    (λ c. search needs)
-    slice-write-out
-    same-length
-    returns
-    (λ c. search needs)
-    (λ c. search needs)
-    slice-write-out-2
-    (λ c. search needs)
-    same-length-2
-    returns-2
-    (λ c. search needs)
-    (λ c. search needs)
-    loop-again
     (λ c. search needs)
     (λ c. search needs)
     (λ c. search needs)
@@ -132,6 +109,20 @@ write-plain-to-stop-spec =
     (λ c. search needs)
     (λ c. search needs)
     write-codons-to-stop-requires
-    add-result-2
+    add-stop
+    (λ c κs. search needs)
+    (λ c. search needs)
+    slice-write-out
+    (λ c. search needs)
+    (λ c. search needs)
+    slice-write-out-2
+    (λ c. search needs)
+    (λ c. search needs)
+    (λ c. search needs)
+    loop-again
+    same-length
+    returns
+    same-length-2
+    returns-2
     same-length-3
     returns-3)

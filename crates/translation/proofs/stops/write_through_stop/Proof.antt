@@ -16,7 +16,7 @@ returns c =
 slice-write-out : tie.Need-slice-write-out
 unfolding residueCount
 slice-write-out c =
-    omega (arith, c .if2 .taken, c .before .before .before .before .write-walk .kept .1 .1 .1 .1 .1 .1 .1 .0, c .before .before .before .before .before .before .before .before .pre .1 .1 .1 .1 .1 .1)
+    omega (arith, c .if2 .taken, c .before .before .before .before .write-walk .kept .1 .1 .1 .1 .0, c .before .before .before .before .before .before .before .before .pre .room)
 
 returns-2 : tie.Need-returns-2
 unfolding residueCount
@@ -26,7 +26,7 @@ returns-2 c =
     let if2 = c .if2 in
     let n = length (args .seq .now) in
     let done = write-walk .ensures .ended (c .before .if1 .left) in
-    (omega (arith, done .0, if2 .taken), with-rest (n / 3) (n % 3) _ _ (done .1) (if2 .taken) (omega (arith, if2 .taken, write-walk .kept .1 .1 .1 .1 .1 .1 .1 .0, c .before .before .before .before .before .before .before .before .pre .1 .1 .1 .1 .1 .1)))
+    (omega (arith, done .0, if2 .taken), with-rest (n / 3) (n % 3) _ _ (done .1) (if2 .taken) (omega (arith, if2 .taken, write-walk .kept .1 .1 .1 .1 .0, c .before .before .before .before .before .before .before .before .pre .room)))
 
 returns-3 : tie.Need-returns-3
 returns-3 c =

@@ -13,13 +13,13 @@ use Rattle.translation.proofs.stops.write_to_stop.Statement.{statement}
 use Rattle.translation.proofs.stops.write_to_stop.Tie as tie
 
 abbrev Inv-loop : tie.InvT-loop
-Inv-loop seq table sets lut e out₀ whole next₀ i₀ out next i =
+Inv-loop seq table sets residues e out₀ whole next₀ i₀ out next i =
     (i ≤ whole)
     × Clear (exceptionList e) i next
     × Walk table (exceptionList e) seq (throughStop (foldedTranslated table (exceptionList e) seq)) out₀ out i
 
 abbrev μ-loop : tie.MeasureT-loop
-μ-loop seq table sets lut e out₀ whole next₀ i₀ out next i = whole - i
+μ-loop seq table sets residues e out₀ whole next₀ i₀ out next i = whole - i
 
 loop-holds : tie.Need-loop-holds Inv-loop μ-loop
 loop-holds c =
@@ -31,7 +31,7 @@ loop-holds c =
 slice-write-out : tie.Need-slice-write-out Inv-loop μ-loop
 unfolding residueCount
 slice-write-out c =
-    omega (arith, c .before .before .before .loop .inv .2 .same, c .before .before .if1 .left, c .before .before .before .before .before .before .before .pre .1 .1 .1 .1)
+    omega (arith, c .before .before .before .loop .inv .2 .same, c .before .before .if1 .left, c .before .before .before .before .before .before .before .pre .1 .1 .room)
 
 loop-again : tie.Need-loop-again Inv-loop μ-loop
 unfolding residueCount
@@ -47,7 +47,7 @@ loop-again c =
     (λ w. at-exception (args .table) es at (loop .i) (loop .next) (codon-at .result) (codon-at .ensures) (length at / 3 + 1) (if2 .r) (if2 .next) (omega arith) (w .0 .taken) (w .4 ∙ w .1 .ensures) (w .3 ∙ w .2 .ensures))
     (λ w. at-no-exception (args .table) es at (loop .i) (loop .next) (codon-at .result) (codon-at .ensures) (if2 .r) (if2 .next) (loop .inv .1) (w .0 .left) (w .2) (w .1))
     (if2 .came) in
-    (search needs, turn .1, walk-more (args .table) es at _ (args .out .now) (loop .out) (loop .i) (if2 .r) (loop .inv .2) (search needs) (omega (arith, loop .inv .2 .same, c .before .before .before .if1 .left, c .before .before .before .before .before .before .before .before .pre .1 .1 .1 .1)) (turn .0) (c .if3 .left))
+    (search needs, turn .1, walk-more (args .table) es at _ (args .out .now) (loop .out) (loop .i) (if2 .r) (loop .inv .2) (search needs) (omega (arith, loop .inv .2 .same, c .before .before .before .if1 .left, c .before .before .before .before .before .before .before .before .pre .1 .1 .room)) (turn .0) (c .if3 .left))
 
 same-length : tie.Need-same-length Inv-loop μ-loop
 same-length c =
@@ -77,7 +77,7 @@ returns-2 c =
     (λ w. at-exception (args .table) es at (loop .i) (loop .next) (codon-at .result) (codon-at .ensures) (length at / 3 + 1) (if2 .r) (if2 .next) (omega arith) (w .0 .taken) (w .4 ∙ w .1 .ensures) (w .3 ∙ w .2 .ensures))
     (λ w. at-no-exception (args .table) es at (loop .i) (loop .next) (codon-at .result) (codon-at .ensures) (if2 .r) (if2 .next) (loop .inv .1) (w .0 .left) (w .2) (w .1))
     (if2 .came) in
-    walk-stop (args .table) es at _ (args .out .now) (loop .out) (loop .i) (if2 .r) (loop .inv .2) (search needs) (omega (arith, loop .inv .2 .same, c .before .before .before .if1 .left, c .before .before .before .before .before .before .before .before .pre .1 .1 .1 .1)) (turn .0) (c .if3 .taken)
+    walk-stop (args .table) es at _ (args .out .now) (loop .out) (loop .i) (if2 .r) (loop .inv .2) (search needs) (omega (arith, loop .inv .2 .same, c .before .before .before .if1 .left, c .before .before .before .before .before .before .before .before .pre .1 .1 .room)) (turn .0) (c .if3 .taken)
 
 pub write-to-stop-spec : {M : Type 1} → statement M
 write-to-stop-spec =

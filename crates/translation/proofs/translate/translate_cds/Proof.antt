@@ -1,8 +1,8 @@
 -- `translation::translate_cds` meets its contract: each way out is a case of the answer. Assumes nothing.
-use mathlib.Core.Path.{_≡_, refl, sym, _∙_}
+use mathlib.Core.Path.{_≡_, sym, _∙_}
 use mathlib.Core.Bool.{true}
 use mathlib.Core.List.{[]}
-use Prim.Native.Nat.{_-_, _/_, _%_}
+use Prim.Native.Nat.{_-_, _%_}
 use native.Mathlib.Omega.{arith}
 use borrow.Author.Needs.{needs}
 use lib.ListN.{length}
@@ -10,6 +10,7 @@ use lib.Seq.{length-take-le}
 use Rattle.rules.specs.Translation.{wholeCodons, foldToLetters, residueCount, foldedTranslated, translation}
 use Rattle.rules.proofs.Fills.{refuses, gives}
 use Rattle.translation.specs.Residues.{foldToBases}
+use Rattle.translation.proofs.Blocks.{never}
 use Rattle.translation.proofs.Residues.{length-plain}
 use Rattle.translation.proofs.Answers.{no-table, not-full, no-room, no-letter, all-fold-to-letters, bases-letters, none-taken}
 use Rattle.translation.proofs.translate.translate_cds.Statement.{statement}
@@ -27,55 +28,56 @@ returns-2 c =
 
 returns-3 : tie.Need-returns-3
 returns-3 c =
-    let args = c .before .before .before .before .before .args in
-    refuses (translation (args .table) [] (args .full) (args .seq .now) (length (args .out .now))) 15 (args .out .now) (no-room (args .table) [] (args .full) (args .seq .now) (length (args .out .now)) (c .before .before .if1 .left) none-taken (c .before .if2 .left) (c .if3 .taken))
+    let args = c .before .before .before .before .before .before .args in
+    refuses (translation (args .table) [] (args .full) (args .seq .now) (length (args .out .now))) 15 (args .out .now) (no-room (args .table) [] (args .full) (args .seq .now) (length (args .out .now)) (c .before .before .before .if1 .left) none-taken (c .before .before .if2 .left) (omega (arith, c .if3 .taken, c .before .thirds .ensures)))
 
 slice-aggregate-all-fold-to-bases : tie.Need-slice-aggregate-all-fold-to-bases
 slice-aggregate-all-fold-to-bases c =
-    let args = c .before .before .before .before .before .before .args in
+    let args = c .before .before .before .before .before .before .before .args in
     sym (length-take-le (length (args .seq .now) - length (args .seq .now) % 3) (args .seq .now) (omega arith))
 
-write-plain-requires : tie.Need-write-plain-requires
+write-letters-requires : tie.Need-write-letters-requires
 unfolding wholeCodons foldToBases residueCount
-write-plain-requires c κs =
-    (search needs, (sym (c .before .before .before .before .all-fold-to-bases .ensures) ∙ c .before .before .before .if4 .taken, search needs))
+write-letters-requires c κs =
+    let bases : foldToBases (c .before .before .before .before .before .before .before .before .before .before .args .seq .now) ≡ true = sym (c .before .before .all-fold-to-bases .ensures) ∙ c .before .if4 .taken in
+    (search needs, (bases-letters (c .before .before .before .before .before .before .before .before .before .before .args .seq .now) bases, ((λ _. bases), omega (arith, c .before .before .before .before .if3 .left, c .before .before .before .before .before .thirds .ensures))))
 
 returns-4 : tie.Need-returns-4
 unfolding wholeCodons foldToBases
 returns-4 c =
-    let args = c .before .before .before .before .before .before .before .before .before .before .before .before .before .before .args in
-    let bases : foldToBases (args .seq .now) ≡ true = sym (c .before .before .before .before .before .before .before .all-fold-to-bases .ensures) ∙ c .before .before .before .before .before .before .if4 .taken in
+    let args = c .before .before .before .before .before .before .before .before .before .before .before .before .before .args in
+    let bases : foldToBases (args .seq .now) ≡ true = sym (c .before .before .before .before .before .all-fold-to-bases .ensures) ∙ c .before .before .before .before .if4 .taken in
     gives (translation (args .table) [] (args .full) (args .seq .now) (length (args .out .now))) (foldedTranslated (args .table) [] (args .seq .now)) _ _ (args .out .now)
-    (all-fold-to-letters (args .table) [] (args .full) (args .seq .now) (length (args .out .now)) (c .before .before .before .before .before .before .before .before .before .before .before .if1 .left) none-taken (c .before .before .before .before .before .before .before .before .before .before .if2 .left) (c .before .before .before .before .before .before .before .before .before .if3 .left) (bases-letters (args .seq .now) bases))
-    (sym (length-plain (args .table) [] (args .seq .now)))
-    (c .before .before .write-plain .ensures)
+    (all-fold-to-letters (args .table) [] (args .full) (args .seq .now) (length (args .out .now)) (c .before .before .before .before .before .before .before .before .before .before .if1 .left) none-taken (c .before .before .before .before .before .before .before .before .before .if2 .left) (omega (arith, c .before .before .before .before .before .before .before .if3 .left, c .before .before .before .before .before .before .before .before .thirds .ensures)) (bases-letters (args .seq .now) bases))
+    (c .before .before .before .before .before .before .before .before .thirds .ensures ∙ sym (length-plain (args .table) [] (args .seq .now)))
+    (c .before .before .write-letters .ensures)
 
 slice-aggregate-all-fold-to-letters : tie.Need-slice-aggregate-all-fold-to-letters
 slice-aggregate-all-fold-to-letters c =
-    let args = c .before .before .before .before .before .before .before .before .before .args in
+    let args = c .before .before .before .before .before .before .before .before .before .before .args in
     sym (length-take-le (length (args .seq .now) - length (args .seq .now) % 3) (args .seq .now) (omega arith))
 
-write-any-requires : tie.Need-write-any-requires
+write-letters-requires-2 : tie.Need-write-letters-requires-2
 unfolding wholeCodons foldToLetters residueCount
-write-any-requires c κs =
-    (search needs, (search needs, (sym (c .before .before .before .before .before .before .all-fold-to-letters .ensures) ∙ c .before .before .before .before .before .if5 .taken, search needs)))
+write-letters-requires-2 c κs =
+    (search needs, (sym (c .before .before .all-fold-to-letters .ensures) ∙ c .before .if5 .taken, ((λ e. absurd (never e)), omega (arith, c .before .before .before .before .before .before .before .if3 .left, c .before .before .before .before .before .before .before .before .thirds .ensures))))
 
 returns-5 : tie.Need-returns-5
 unfolding wholeCodons foldToLetters
 returns-5 c =
-    let args = c .before .before .before .before .before .before .before .before .before .before .before .before .before .before .before .before .before .before .before .args in
-    let letters : foldToLetters (args .seq .now) ≡ true = sym (c .before .before .before .before .before .before .before .before .before .all-fold-to-letters .ensures) ∙ c .before .before .before .before .before .before .before .before .if5 .taken in
+    let args = c .before .before .before .before .before .before .before .before .before .before .before .before .before .before .before .before .args in
+    let letters : foldToLetters (args .seq .now) ≡ true = sym (c .before .before .before .before .before .all-fold-to-letters .ensures) ∙ c .before .before .before .before .if5 .taken in
     gives (translation (args .table) [] (args .full) (args .seq .now) (length (args .out .now))) (foldedTranslated (args .table) [] (args .seq .now)) _ _ (args .out .now)
-    (all-fold-to-letters (args .table) [] (args .full) (args .seq .now) (length (args .out .now)) (c .before .before .before .before .before .before .before .before .before .before .before .before .before .before .before .before .if1 .left) none-taken (c .before .before .before .before .before .before .before .before .before .before .before .before .before .before .before .if2 .left) (c .before .before .before .before .before .before .before .before .before .before .before .before .before .before .if3 .left) letters)
-    (sym (length-plain (args .table) [] (args .seq .now)))
-    (c .before .before .write-any .ensures)
+    (all-fold-to-letters (args .table) [] (args .full) (args .seq .now) (length (args .out .now)) (c .before .before .before .before .before .before .before .before .before .before .before .before .before .if1 .left) none-taken (c .before .before .before .before .before .before .before .before .before .before .before .before .if2 .left) (omega (arith, c .before .before .before .before .before .before .before .before .before .before .if3 .left, c .before .before .before .before .before .before .before .before .before .before .before .thirds .ensures)) letters)
+    (c .before .before .before .before .before .before .before .before .before .before .before .thirds .ensures ∙ sym (length-plain (args .table) [] (args .seq .now)))
+    (c .before .before .write-letters2 .ensures)
 
 returns-6 : tie.Need-returns-6
 unfolding wholeCodons foldToLetters
 returns-6 c =
-    let args = c .before .before .before .before .before .before .before .before .before .before .before .args in
+    let args = c .before .before .before .before .before .before .before .before .before .before .before .before .args in
     let letters = sym (c .before .all-fold-to-letters .ensures) ∙ c .if5 .left in
-    refuses (translation (args .table) [] (args .full) (args .seq .now) (length (args .out .now))) 2 (args .out .now) (no-letter (args .table) [] (args .full) (args .seq .now) (length (args .out .now)) (c .before .before .before .before .before .before .before .before .if1 .left) none-taken (c .before .before .before .before .before .before .before .if2 .left) (c .before .before .before .before .before .before .if3 .left) letters)
+    refuses (translation (args .table) [] (args .full) (args .seq .now) (length (args .out .now))) 2 (args .out .now) (no-letter (args .table) [] (args .full) (args .seq .now) (length (args .out .now)) (c .before .before .before .before .before .before .before .before .before .if1 .left) none-taken (c .before .before .before .before .before .before .before .before .if2 .left) (omega (arith, c .before .before .before .before .before .before .if3 .left, c .before .before .before .before .before .before .before .thirds .ensures)) letters)
 
 pub translate-cds-spec : {M : Type 1} → statement M
 translate-cds-spec =
@@ -83,20 +85,17 @@ translate-cds-spec =
     (tie.spec
     returns
     returns-2
-    (λ c. search needs)
+    (λ c κs. search needs)
     returns-3
     (λ c. search needs)
     slice-aggregate-all-fold-to-bases
     (λ c κs. search needs)
-    (λ c κs. search needs)
-    write-plain-requires
+    write-letters-requires
     (λ c. search needs)
     returns-4
     slice-aggregate-all-fold-to-letters
     (λ c κs. search needs)
-    (λ c κs. search needs)
-    (λ c κs. search needs)
-    write-any-requires
+    write-letters-requires-2
     (λ c. search needs)
     returns-5
     returns-6)

@@ -8,15 +8,10 @@ use Rattle.translation.proofs.Excepted.{excepted-over}
 use Rattle.translation.proofs.translate.write_translated.Statement.{statement}
 use Rattle.translation.proofs.translate.write_translated.Tie as tie
 
-write-letters-requires : tie.Need-write-letters-requires
-write-letters-requires c κs =
-    let pre = c .before .before .before .pre in
-    (pre .0, (pre .1 .0, (pre .1 .1 .0, (pre .1 .1 .1 .0, (pre .1 .1 .1 .1 .0, pre .1 .1 .1 .1 .1 .1)))))
-
 put-exceptions-requires : tie.Need-put-exceptions-requires
 unfolding residueCount
 put-exceptions-requires c κs =
-    (search needs, omega (arith, c .before .before .before .write-letters .kept .1 .1 .1 .1 .1 .1 .0, c .before .before .before .before .before .before .before .pre .1 .1 .1 .1 .1 .1))
+    (search needs, omega (arith, c .before .before .before .write-letters .kept .1 .1 .1 .0, c .before .before .before .before .before .before .before .pre .room))
 
 returns : tie.Need-returns
 returns c =
@@ -25,4 +20,4 @@ returns c =
 
 pub write-translated-spec : {M : Type 1} → statement M
 write-translated-spec =
-    tie.close (tie.spec write-letters-requires put-exceptions-requires (λ c. search needs) returns)
+    tie.close (tie.spec (λ c κs. search needs) put-exceptions-requires (λ c. search needs) returns)

@@ -1,0 +1,66 @@
+// The altered transcript alone.
+use edits::decision::Decision;
+use edits::decision::decide;
+use edits::plans::Plan;
+use reference::Checked;
+use reference::check_reference;
+use rules::Cds;
+use rules::Edit;
+use rules::Exceptions;
+use rules::LONGEST;
+use rules::LONGEST_PROTEIN;
+use rules::MOST;
+use transcript::write_transcript;
+ghost use mathlib.Core.Path.{_≡_};
+ghost use lib.ListN.{length};
+ghost use Rattle.rules.specs.Bytes.{over};
+ghost use Rattle.rules.specs.Refusal.{limits};
+ghost use Rattle.rules.specs.Views.{asked, referenceOf};
+ghost use Rattle.transcript.specs.Carrying.{Fits};
+ghost use Rattle.altseq.specs.Transcribing.{edited, madeBy};
+
+// A refusal's number, Unknown, or how many bases were written, and the frameshift flag.
+pub enum Transcribed {
+    Refused(usize),
+    Unknown,
+    Written { length: usize, frameshift: bool },
+}
+
+// Writes the transcript that a plan makes, where there is room for it.
+fn write_alone(letters: &[u8], plan: Plan, new: &[u8], transcript: &mut [u8]) -> Transcribed
+    requires { ⌜ Fits plan (now letters) (now new) (plan .length) ⌝ }
+    ensures { λ r. ⌜ r ≡ madeBy plan (now (letters .entry)) (now (new .entry)) (length (now (transcript .entry))) .answer ⌝ }
+    ensures { λ _. ⌜ now (transcript .exit) ≡ over (madeBy plan (now (letters .entry)) (now (new .entry)) (length (now (transcript .entry))) .transcript) (now (transcript .entry)) ⌝ }
+{
+    if transcript.len() < plan.length {
+        return Transcribed::Refused(11);
+    }
+    let length = write_transcript(letters, plan, new, transcript);
+    Transcribed::Written {
+        length,
+        frameshift: plan.shift,
+    }
+}
+
+// The altered transcript of an edit of a reference: refusals 1 to 11, Unknown, or what the buffer holds.
+pub fn build_transcript(
+    letters: &[u8],
+    cds: Cds,
+    e: Exceptions,
+    edit: Edit,
+    new: &[u8],
+    transcript: &mut [u8],
+) -> Transcribed
+    ensures { λ r. ⌜ r ≡ edited limits (referenceOf (now (letters .entry)) cds e) (asked edit (now (new .entry))) (length (now (transcript .entry))) .answer ⌝ }
+    ensures { λ _. ⌜ now (transcript .exit) ≡ over (edited limits (referenceOf (now (letters .entry)) cds e) (asked edit (now (new .entry))) (length (now (transcript .entry))) .transcript) (now (transcript .entry)) ⌝ }
+{
+    let mut protein = [0u8; LONGEST_PROTEIN];
+    match check_reference(letters, cds, e, LONGEST, &mut protein) {
+        Checked::Refused(n) => Transcribed::Refused(n),
+        Checked::Known(known) => match decide(letters, known, MOST, edit, new) {
+            Decision::Refused(n) => Transcribed::Refused(n),
+            Decision::Unknown => Transcribed::Unknown,
+            Decision::Goes(plan) => write_alone(letters, plan, new, transcript),
+        },
+    }
+}

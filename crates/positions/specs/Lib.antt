@@ -1,2 +1,0 @@
--- What only this crate's contracts, and those above it, want said.
-pub mod Views

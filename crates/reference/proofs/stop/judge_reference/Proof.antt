@@ -1,0 +1,54 @@
+-- `reference::stop::judge_reference` meets its contract. Assumes nothing.
+use mathlib.Core.Path.{sym, _∙_}
+use borrow.Author.Needs.{needs}
+use Rattle.rules.specs.Bytes.{all}
+use Rattle.rules.specs.Views.{referenceOf}
+use Rattle.codons.specs.Tables.{isBase}
+use Rattle.reference.specs.Known.{earlyRefusal, earlyOf}
+use Rattle.reference.proofs.Judging.{was-refused, was-clear, readable, judged-early, judged-clear, judged-stopless}
+use Rattle.reference.proofs.stop.judge_reference.Statement.{statement}
+use Rattle.reference.proofs.stop.judge_reference.Tie as tie
+
+ends-in-stop-requires : tie.Need-ends-in-stop-requires
+unfolding earlyOf
+ends-in-stop-requires c κs =
+    let a = c .before .before .before .before .before .args in
+    let early = c .before .before .before .early-refusal in
+    let clear = was-clear (earlyRefusal (a .longest) (referenceOf (a .letters .now) (a .c) (a .e))) (all isBase (a .letters .now)) (early .result) (early .ensures) (c .before .plain .given .0 .0) (c .before .plain .given .1) in
+    readable (a .longest) (a .letters .now) (a .c) (a .e) (clear .0) (c .before .before .before .before .before .pre)
+
+returns : tie.Need-returns
+unfolding earlyOf
+returns c =
+    let a = c .before .before .before .before .before .before .before .args in
+    let early = c .before .before .before .before .before .early-refusal in
+    let clear = was-clear (earlyRefusal (a .longest) (referenceOf (a .letters .now) (a .c) (a .e))) (all isBase (a .letters .now)) (early .result) (early .ensures) (c .before .before .before .plain .given .0 .0) (c .before .before .before .plain .given .1) in
+    judged-clear (a .longest) (a .letters .now) (a .c) (a .e) (clear .0) (c .before .ends-in-stop .result) (c .before .ends-in-stop .ensures) _ (clear .1) (c .if1 .taken)
+
+returns-2 : tie.Need-returns-2
+unfolding earlyOf
+returns-2 c =
+    let a = c .before .before .before .before .before .args in
+    let early = c .before .before .before .early-refusal in
+    let refused = was-refused (earlyRefusal (a .longest) (referenceOf (a .letters .now) (a .c) (a .e))) (all isBase (a .letters .now)) (early .result) (early .ensures) (c .before .n .given .0 .0) (c .before .n .given .1) in
+    judged-early (a .longest) (a .letters .now) (a .c) (a .e) (c .before .n .given .0 .0) (refused .0) (refused .1)
+
+returns-3 : tie.Need-returns-3
+unfolding earlyOf
+returns-3 c =
+    let a = c .before .before .before .before .before .before .before .args in
+    let early = c .before .before .before .before .before .early-refusal in
+    let clear = was-clear (earlyRefusal (a .longest) (referenceOf (a .letters .now) (a .c) (a .e))) (all isBase (a .letters .now)) (early .result) (early .ensures) (c .before .before .before .plain .given .0 .0) (c .before .before .before .plain .given .1) in
+    judged-stopless (a .longest) (a .letters .now) (a .c) (a .e) (clear .0) (c .before .ends-in-stop .result) (c .before .ends-in-stop .ensures) (c .if1 .left)
+
+pub judge-reference-spec : {M : Type 1} → statement M
+judge-reference-spec =
+    tie.close
+    (tie.spec
+    (λ c κs. search needs)
+    (λ c. search needs)
+    (λ c. search needs)
+    ends-in-stop-requires
+    returns
+    returns-2
+    returns-3)

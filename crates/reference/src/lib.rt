@@ -1,0 +1,58 @@
+// "Reference": refusals 1 to 6, and the reference protein R, read once.
+mod protein;
+mod stop;
+mod tests;
+
+use protein::read_reference;
+use rules::Cds;
+use rules::Exceptions;
+ghost use mathlib.Core.Path.{_≡_};
+ghost use Prim.Native.Nat.{_≤_, _<_};
+ghost use lib.ListN.{length};
+ghost use Rattle.rules.specs.Bytes.{over};
+ghost use Rattle.rules.specs.Translation.{residueCount};
+ghost use Rattle.rules.specs.Refusal.{referenceRefusal};
+ghost use Rattle.rules.specs.Views.{referenceOf};
+ghost use Rattle.reference.specs.Known.{proteinUnless, checkedOf};
+pub use stop::judge_reference;
+
+// What is known of a reference that isn't refused; its letters, its exceptions and R are lent beside it. `residues` is R's length. The letters
+// are plain if each is one base. `several` is whether R has more than one stop.
+pub struct Known {
+    pub cds: Cds,
+    pub residues: usize,
+    pub plain: bool,
+    pub several: bool,
+}
+
+// What the tests leave: a refusal, or whether the letters are plain.
+pub enum Judged {
+    Refused(usize),
+    Clear { plain: bool },
+}
+
+pub enum Checked {
+    Refused(usize),
+    Known(Known),
+}
+
+// 1 to 6, or what is known of the reference from then on. R is in the buffer unless the reference is refused.
+pub fn check_reference(
+    letters: &[u8],
+    cds: Cds,
+    e: Exceptions,
+    longest: usize,
+    protein: &mut [u8],
+) -> Checked
+    requires { ⌜ longest < 4294967296 ⌝ }
+    requires { ⌜ residueCount longest ≤ length (now protein) ⌝ }
+    ensures { λ r. ⌜ r ≡ checkedOf longest (now (letters .entry)) cds e ⌝ }
+    ensures { λ _. ⌜ now (protein .exit) ≡ over (proteinUnless (referenceRefusal longest (referenceOf (now (letters .entry)) cds e)) (referenceOf (now (letters .entry)) cds e)) (now (protein .entry)) ⌝ }
+{
+    match judge_reference(letters, cds, e, longest) {
+        Judged::Refused(n) => Checked::Refused(n),
+        Judged::Clear { plain } => {
+            Checked::Known(read_reference(letters, cds, e, plain, protein))
+        }
+    }
+}

@@ -1,0 +1,93 @@
+// Refusals 1 to 5: what is judged of a reference before a codon is read.
+use crate::Judged;
+use rules::Cds;
+use rules::Exception;
+use rules::Exceptions;
+use sequences::all_letters;
+use translation::all_bases;
+ghost use mathlib.Core.Path.{_≡_};
+ghost use mathlib.Core.Bool.{_&&_};
+ghost use lib.Dec.{leb};
+ghost use lib.ListN.{length};
+ghost use Rattle.rules.specs.Bytes.{all};
+ghost use Rattle.rules.specs.Letters.{isLetter};
+ghost use Rattle.rules.specs.Translation.{exceptionList};
+ghost use Rattle.rules.specs.Reference.{areBounds, areRising};
+ghost use Rattle.rules.specs.Views.{bare};
+ghost use Rattle.codons.specs.Tables.{isBase};
+ghost use Rattle.reference.specs.Known.{isException, earlyOf};
+
+// 1 <= cs <= ce <= L; ce-cs+1 is divisible by 3 and at least 6.
+fn are_bounds(letters: &[u8], c: Cds) -> bool
+    ensures { λ r. ⌜ r ≡ areBounds (bare (now (letters .entry)) c) ⌝ }
+{
+    if (c.cs < 1) | (c.ce < c.cs) | (letters.len() < c.ce) {
+        return false;
+    }
+    let size = c.ce - (c.cs - 1);
+    (size % 3 == 0) & (6 <= size)
+}
+
+// A codon number above `last` and at most `most`, and a residue A to Z or `*`.
+fn is_exception(x: Exception, last: usize, most: usize) -> bool
+    ensures { λ r. ⌜ r ≡ isException last most x ⌝ }
+{
+    let r = x.residue;
+    (last < x.codon) & (x.codon <= most) & (((b'A' <= r) & (r <= b'Z')) | (r == b'*'))
+}
+
+// At most 16, strictly rising, of `most` codons.
+fn fit_exceptions(e: Exceptions, most: usize) -> bool
+    ensures { λ r. ⌜ r ≡ (leb (length (exceptionList e)) 16 && areRising 0 most (exceptionList e)) ⌝ }
+{
+    let count = e.count;
+    if 16 < count {
+        return false;
+    }
+    let all = e.all;
+    let mut last = 0;
+    let mut i = 0;
+    while i < count {
+        let x = all[i];
+        if !is_exception(x, last, most) {
+            return false;
+        }
+        last = x.codon;
+        i += 1;
+    }
+    true
+}
+
+// Whether each letter is of the fifteen. Plain ones are, and needn't be looked at again.
+fn are_letters(letters: &[u8], plain: bool) -> bool
+    requires { ⌜ plain ≡ all isBase (now letters) ⌝ }
+    ensures { λ r. ⌜ r ≡ all isLetter (now (letters .entry)) ⌝ }
+{
+    if plain {
+        return true;
+    }
+    all_letters(letters)
+}
+
+// The lowest of 1 to 5 that applies, or whether the letters are plain.
+pub(crate) fn early_refusal(letters: &[u8], c: Cds, e: Exceptions, longest: usize) -> Judged
+    ensures { λ r. ⌜ r ≡ earlyOf longest (now (letters .entry)) c e ⌝ }
+{
+    if (letters.len() < 1) | (longest < letters.len()) {
+        return Judged::Refused(1);
+    }
+    let plain = all_bases(letters);
+    if !are_letters(letters, plain) {
+        return Judged::Refused(2);
+    }
+    if !are_bounds(letters, c) {
+        return Judged::Refused(3);
+    }
+    if 2 < c.table {
+        return Judged::Refused(4);
+    }
+    if !fit_exceptions(e, (c.ce - (c.cs - 1)) / 3) {
+        return Judged::Refused(5);
+    }
+    Judged::Clear { plain }
+}

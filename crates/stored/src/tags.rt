@@ -1,0 +1,85 @@
+// The form of a stored reference: its tags, what content fits each, and 20, 21 and 23.
+use fields::Field;
+use fields::bytes_at;
+use fields::next_field;
+ghost use mathlib.Core.Path.{_≡_};
+ghost use Rattle.rules.specs.Bytes.{if_then_else_};
+ghost use Rattle.rules.specs.Stored.{isWrongTag, isWrongContent, referenceForm, fields};
+ghost use Rattle.fields.specs.Places.{Within};
+ghost use Rattle.fields.specs.Refusals.{fieldRefusal, refusalIn};
+
+pub(crate) const LETTERS: u8 = 1;
+// cs and ce, two bytes each.
+pub(crate) const BOUNDS: u8 = 2;
+// One byte.
+pub(crate) const TABLE: u8 = 3;
+// Three bytes each; may be absent.
+pub(crate) const EXCEPTIONS: u8 = 4;
+
+fn is_tag(tag: u8) -> bool
+    ensures { λ r. ⌜ r ≡ referenceForm .knows tag ⌝ }
+{
+    (LETTERS <= tag) & (tag <= EXCEPTIONS)
+}
+
+// Unknown, repeated or not rising; `last` is the tag before it.
+fn is_wrong_tag(last: u8, tag: u8) -> bool
+    ensures { λ r. ⌜ r ≡ isWrongTag referenceForm last tag ⌝ }
+{
+    !is_tag(tag) | (tag <= last)
+}
+
+fn is_wrong_content(tag: u8, content: &[u8]) -> bool
+    ensures { λ r. ⌜ r ≡ isWrongContent referenceForm tag (now (content .entry)) ⌝ }
+{
+    let len = content.len();
+    match tag {
+        BOUNDS => len != 4,
+        TABLE => len != 1,
+        EXCEPTIONS => len % 3 != 0,
+        _ => false,
+    }
+}
+
+// A number if a test holds, else another.
+fn refused_if(holds: bool, number: usize, other: usize) -> usize
+    ensures { λ r. ⌜ r ≡ (if holds then number else other) ⌝ }
+{
+    if holds { number } else { other }
+}
+
+// 21 before 20 before 23, in a field behind one with the tag `last`; 0 where none applies.
+fn field_refusal(s: &[u8], last: u8, f: Field) -> usize
+    requires { ⌜ Within (now s) f ⌝ }
+    ensures { λ r. ⌜ r ≡ fieldRefusal referenceForm last (now (s .entry)) f ⌝ }
+{
+    match f {
+        Field::End => 0,
+        Field::Cut { tag } => refused_if(is_wrong_tag(last, tag), 21, 20),
+        Field::Whole { tag, content } => {
+            let wrong = is_wrong_tag(last, tag);
+            let unfit = is_wrong_content(tag, bytes_at(s, content));
+            refused_if(wrong, 21, refused_if(unfit, 23, 0))
+        }
+    }
+}
+
+// The first of 20, 21 and 23 that is met in field order, and 0 where none is.
+pub(crate) fn fields_refusal(s: &[u8]) -> usize
+    ensures { λ r. ⌜ r ≡ refusalIn (fields referenceForm (now (s .entry))) ⌝ }
+{
+    let mut at = 0;
+    let mut last = 0;
+    loop {
+        let f = next_field(s, at);
+        let refused = field_refusal(s, last, f);
+        if refused != 0 {
+            return refused;
+        }
+        let Field::Whole { tag, content } = f else {
+            return 0;
+        };
+        last = tag;
+        at = content.at + content.len;
+    }
+}

@@ -1,0 +1,88 @@
+"""Holds the words of include/garumbott.h, as tests/host/words.c prints them, to what they stand for. Prints each fault, and exits 1 if there is one.
+
+    words | python3 tests/host/words.py
+
+Refusals: document 01's table, by its rows in docs/RULES.md. Exactly its numbers have words, no two the same, and the words of a number have every word and
+every number of its row. Where the row points to another sentence (POINTS), they have those of that sentence, which docs/RULES.md must quote.
+Names of classes and answers: what the definitions print, crates/rules/specs.
+"""
+import re
+import sys
+
+# (refusal, the row's words, the sentence that they point to)
+POINTS = [
+    (2, "in plain translation and complement, as above", "Plain translation takes either case, and U as T"),
+    (3, "above", "1 <= cs <= ce <= L; ce-cs+1 is divisible by 3 and at least 6"),
+    (5, "above", "At most 16 exceptions"),
+    (5, "", "each a codon number from 1 to the number of CDS codons, strictly rising, and a residue A to Z or `*`"),
+    (5, "", "Plain translation takes at most 16, codon numbers from 1 in any order"),
+    (7, "outside as said", "past the CDS, or before base 1 of the transcript"),
+    (14, "as above", "With full codons demanded, such a length is refused (14)"),
+    (14, "", "one or two bytes remain"),
+    (15, "as above", "an unknown name or a length not divisible by three"),
+]
+# what the header says otherwise
+OWN = {"L is": "length is", "ce <= L": "ce <= length", "has place L or more": "is behind the transcript", "is refused (14)": ""}
+SMALL = set("a an the is are of or and in it its has whose also if with such each takes".split())
+
+faults = []
+
+
+def text(path):
+    with open(path, encoding="utf-8") as f:
+        return f.read()
+
+
+def wordlist(s):
+    """Words and numbers, small words left out; "16,384" is one, and so is a name's stem."""
+    return {w.removesuffix("'s") for w in re.findall(r"\d[\d,]*\d|[a-z][a-z']*|\d|\*|<=", s.lower())} - SMALL
+
+
+def has(said, word):
+    """A word begins so: "residue" is in "residues". Numbers and single letters stand alone."""
+    return re.search(rf"(?<![\w,]){re.escape(word)}" + (r"(?!\w|,\d)" if len(word) == 1 or word[0].isdigit() else ""), said.lower())
+
+
+said = {}
+for line in sys.stdin.read().splitlines():
+    function, number, words = line.split(" ", 2)
+    said.setdefault(function.removeprefix("garumbott_"), {})[number] = words
+
+rules = text("docs/RULES.md")
+rows = {int(n): row for n, row in re.findall(r'^\| (\d+): "(.*?)" \|', rules, re.M)}
+refusals = said["refusal_words"]
+other, none = refusals.pop("?"), refusals.pop("0", None)
+if len(rows) < 19 or {str(n) for n in rows} != set(refusals):
+    faults.append(f"the refusals with words and those of docs/RULES.md differ in {sorted(set(refusals) ^ {str(n) for n in rows})}")
+if none is None or len({other, none, *refusals.values()}) != 2 + len(refusals):
+    faults.append("two refusals, or none and one, have the same words")
+for number, phrase, quote in POINTS:
+    if phrase not in rows.get(number, ""):
+        faults.append(f'the row of {number} has no "{phrase}"')
+    if quote not in rules:
+        faults.append(f'docs/RULES.md has no "{quote}"')
+for number, row in rows.items():
+    for at, phrase, quote in POINTS:
+        if at == number:
+            row = (row.replace(phrase, "") if phrase else row) + " " + quote
+    for theirs, ours in OWN.items():
+        row = row.replace(theirs, ours)
+    for word in sorted(wordlist(row)):
+        if not has(refusals.get(str(number), ""), word):
+            faults.append(f'the words of refusal {number} have no "{word}"')
+
+values, run = text("crates/rules/specs/Values.antt"), text("crates/rules/specs/Run.antt")
+printed = dict(re.findall(r'^className (\w+) = bytes "(.*)"$', run, re.M))
+classes = {n: printed.get(c) for c, n in re.findall(r"^classNumber (\w+) = (\d+)$", values, re.M)}
+if len(classes) != 9 or said["class_name"] != {"?": "?", **classes}:
+    faults.append(f"the names of classes are {said['class_name']}, and the text program's {classes}")
+printed = dict(re.findall(r'^recordLine \(?(\w+)[^=]*= bytes "([^" ]*) ?"', run, re.M))
+answers = {n: printed.get(r) for r, n in re.findall(r"^toldBy (\w+) = alone (\d+)$", values, re.M)}
+answers |= {n: printed.get(r, "changed") for r, n in re.findall(r"^toldBy \((\w+) [^)]*\) =\s*record \{\s*answer = (\d+);", values, re.M)}
+answers["0"] = re.search(r'^refusedLine n = bytes "(\w+) "', run, re.M).group(1)
+if len(answers) != 5 or said["answer_name"] != {"?": "?", **answers}:
+    faults.append(f"the names of answers are {said['answer_name']}, and the text program's {answers}")
+
+for words in faults:
+    print(f"words: {words}")
+sys.exit(1 if faults else 0)
