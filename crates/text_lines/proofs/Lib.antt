@@ -11,3 +11,4 @@ pub mod Puts
 mod Editing
 mod Beginning
 pub mod Last
+pub mod Rooms

@@ -12,6 +12,10 @@ use Rattle.text_answers.specs.Lines.{stageBy, KnownIn}
 use Rattle.text_lines.specs.declared.State.{State}
 use Rattle.text_lines.specs.Steps.{Moves, Full}
 
+-- before the first byte
+abbrev pub fresh : State
+fresh = record { phase = Opening; held = 0 }
+
 abbrev pub stageOf : State → List ℕ → List ℕ → Stage
 stageOf s line letters = stageBy (s .phase) (take (s .held) line) letters
 

@@ -17,7 +17,7 @@ ghost use Rattle.rules.specs.Answer.{writtenOf, bytesOf};
 ghost use Rattle.text_answers.specs.Rooms.{lineRoom};
 ghost use Rattle.text_answers.specs.Stage.{Stage, isEnded};
 ghost use Rattle.text_lines.specs.Steps.{last, Steps};
-ghost use Rattle.text_lines.specs.Memory.{stageOf, Rooms, Keeps, Begins};
+ghost use Rattle.text_lines.specs.Memory.{fresh, stageOf, Rooms, Keeps, Begins};
 
 // `held` bytes of the line so far are kept, of a refused first line too; one more than the longest line has stands for any larger number.
 pub struct State {
@@ -30,6 +30,16 @@ pub struct Stepped {
     pub state: State,
     pub taken: usize,
     pub used: usize,
+}
+
+// Before the first byte.
+pub fn start() -> State
+    ensures { λ r. ⌜ r ≡ fresh ⌝ }
+{
+    State {
+        phase: Phase::Opening,
+        held: 0,
+    }
 }
 
 // Whether the run has ended: whatever comes is answered nothing.
