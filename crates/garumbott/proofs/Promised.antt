@@ -19,11 +19,11 @@ use Rattle.rules.specs.Reference.{Reference}
 use Rattle.rules.specs.Edit.{Asked}
 use Rattle.rules.specs.Refusal.{Room}
 use Rattle.rules.specs.Answer.{Outcome, outcome}
-use Rattle.rules.specs.Values.{toldBy, valuesOf}
-use Rattle.rules.proofs.Demand as demand
+use Rattle.rules.specs.Values.{flagNumber, toldBy, valuesOf}
+use Rattle.rules.proofs.Demand.{Demand}
 use Rattle.altseq.proofs.Promised as promised
 use Rattle.garumbott.specs.declared.numbers.GarumbottAnswer.{GarumbottAnswer}
-use Rattle.garumbott.specs.Host.{answerOf, Tells}
+use Rattle.garumbott.specs.Host.{isSet, answerOf, Tells}
 
 -- the change that the numbers tell of; demand 3 doesn't look at its class
 abbrev pub changeIn : GarumbottAnswer → Change
@@ -37,12 +37,33 @@ changeIn x =
     }
 
 -- R and A stand at the start of their buffers, as long as told, and the numbers tell of these bytes what demand 3 says
-pub record Demanded (x : GarumbottAnswer) (reference altered : List ℕ) : Type 0 where
-  pub tells : demand.Tells (take (x .«reference_len») reference) (take (x .«altered_len») altered) (changeIn x)
-  pub least : x .frameshift ≡ 0 → demand.Least (take (x .«reference_len») reference) (take (x .«altered_len») altered) (changeIn x)
+abbrev pub Demanded : GarumbottAnswer → List ℕ → List ℕ → Type 0
+Demanded x reference altered = Demand (isSet (x .frameshift)) (take (x .«reference_len») reference) (take (x .«altered_len») altered) (changeIn x)
 
-never : {A : Type 0} (n : ℕ) → n ≡ 4 → (n ≡ 4 → ⊥) → A
-never n h k = absurd (k h)
+-- whatever the class, and by the flag's number
+by-numbers : (flag : Bool) (R A : List ℕ) (c : Change) → Demand flag R A c
+    → Demand (isSet (flagNumber flag)) R A (record { class = Delins; number = c .number; deleted = c .deleted; inserted = c .inserted; first = c .first })
+by-numbers flag R A c h =
+    rw (is flag)
+    (record {
+      tells =
+          record {
+            number = h .tells .number;
+            deleted-at = h .tells .deleted-at;
+            inserted-at = h .tells .inserted-at;
+            deleted-len = h .tells .deleted-len;
+            inserted-len = h .tells .inserted-len;
+            there = h .tells .there;
+            back = h .tells .back;
+          };
+      differs = h .differs;
+      rest = λ f. record { deleted = h .rest f .deleted; inserted = h .rest f .inserted };
+      least = λ f. record { fewest = h .least f .fewest; latest = h .least f .latest };
+    })
+  where
+    is : (flag : Bool) → isSet (flagNumber flag) ≡ flag
+    is true = refl
+    is false = refl
 
 module _ (m : Limits) (r : Reference) (e : Asked) (room : Room) (t t′ q q′ s s′ : List ℕ) where
   by-record : (found : Record) (flag : Bool) (a b c : ℕ) → (x : GarumbottAnswer) → x ≡ answerOf (Reported (record { found = found; frameshift = flag; transcript = a; reference = b; altered = c }))
@@ -56,24 +77,7 @@ module _ (m : Limits) (r : Reference) (e : Asked) (room : Room) (t t′ q q′ s
       let replays =
       promised.demanded m r e room (record { found = Changed change; frameshift = flag; transcript = a; reference = b; altered = c }) change t t′ q q′ s s′
       (record { says = sym h; holds-transcript = y .holds-transcript; holds-reference = y .holds-reference; holds-altered = y .holds-altered }) refl in
-      subst (λ (x : GarumbottAnswer). Demanded x q′ s′) (sym is)
-      (record {
-        tells =
-            record {
-              number = replays .tells .number;
-              deleted-at = replays .tells .deleted-at;
-              inserted-at = replays .tells .inserted-at;
-              deleted-len = replays .tells .deleted-len;
-              inserted-len = replays .tells .inserted-len;
-              there = replays .tells .there;
-              back = replays .tells .back;
-            };
-        least = λ f. record { fewest = replays .least (off flag f) .fewest; latest = replays .least (off flag f) .latest };
-      })
-    where
-      off : (flag : Bool) → answerOf (Reported (record { found = Changed change; frameshift = flag; transcript = a; reference = b; altered = c })) .frameshift ≡ 0 → flag ≡ false
-      off true f = absurd (omega arith)
-      off false f = refl
+      subst (λ (x : GarumbottAnswer). Demanded x q′ s′) (sym is) (by-numbers flag (take b q′) (take c s′) change replays)
 
   pub demanded : (x : GarumbottAnswer) → Tells (outcome m r e room) x t t′ q q′ s s′ → x .answer ≡ 4 → Demanded x q′ s′
   unfolding valuesOf

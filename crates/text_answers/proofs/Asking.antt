@@ -1,142 +1,172 @@
 -- Laws of an edit line's answer: what the whole answer to an edit prints as, and which lines are in the form.
 -- Assumes nothing.
-use mathlib.Core.Path.{_≡_, refl, ap, subst, _∙_}
-use mathlib.Core.Bool.{Bool, true, false}
+use mathlib.Core.Path.{_≡_, sym, ap, _∙_}
+use mathlib.Core.Bool.{true, false}
 use mathlib.Core.List.{List, [], _∷_, _++_}
 use mathlib.Core.Option.{some}
 use Prim.Native.Nat.{ℕ, zero, suc, _≤_, _<_}
 use native.Mathlib.Omega.{arith}
 use lib.ListN.{length, take, drop}
 use lib.Seq.{length-take-le}
+use Rattle.rules.specs.declared.Cds.{Cds}
 use Rattle.rules.specs.declared.Edit.{Edit}
 use Rattle.rules.specs.declared.Exceptions.{Exceptions}
+use Rattle.rules.specs.declared.Record.{Record}
+use Rattle.rules.specs.declared.Record.the-variants.{Unknown}
 use Rattle.rules.specs.declared.Report.{Report}
-use Rattle.rules.specs.declared.Answer.{Answer}
 use Rattle.rules.specs.declared.Answer.the-variants as answer
-use Rattle.rules.specs.Bytes.{bytes, unless, over}
+use Rattle.rules.specs.Bytes.{firstOf, unless, over}
 use Rattle.rules.specs.Translation.{exceptionList, residueCount}
-use Rattle.rules.specs.Reference.{Reference, size, cdsSize, codons, referenceProtein}
-use Rattle.rules.specs.Edit.{Asked}
+use Rattle.rules.specs.Reference.{Reference, size, cdsSize, codons}
+use Rattle.rules.specs.Edit.{Asked, editTests}
 use Rattle.rules.specs.Protein.{alteredProtein}
-use Rattle.rules.specs.Record.{isUnknown, recordOf}
-use Rattle.rules.specs.Refusal.{limits, refusal, roomRefusal, recordUnless}
-use Rattle.rules.specs.Answer.{Outcome, writesNothing, unknownReport, fullReport, writesAll, outcome, Answers}
-use Rattle.rules.specs.Line.{editLine, fitsLine}
-use Rattle.rules.specs.Run.{refusedLine, recordLine, answerLine, editAnswer, editLineAnswer, lineFeed}
+use Rattle.rules.specs.Record.{recordOf}
+use Rattle.rules.specs.Refusal.{refusal, recordUnless}
+use Rattle.rules.specs.Answer.{Outcome, fullReport, writesAll}
+use Rattle.rules.specs.Line.{textLimits, editLine, fitsLine}
+use Rattle.rules.specs.Run.{refusedLine, recordLine, answerLine, editAnswer, editLineAnswer, lineFeed, unlines}
+use Rattle.rules.specs.Views.{bare, asked, referenceOf}
 use Rattle.rules.proofs.Over.{fits-over, read-back}
 use Rattle.rules.proofs.Records.{record-unknown}
+use Rattle.rules.proofs.Refusal.{reference-accepted}
+use Rattle.rules.proofs.Altered.{altered-fits}
 use Rattle.rules.proofs.Reference.{accepted, protein-read}
-use Rattle.rules.proofs.Answers.{refused-by, unknown-by, all-by, enough}
-use Rattle.rules.specs.Views.{bare, asked, referenceOf, roomOf}
-use Rattle.altseq.specs.declared.reference.Known.{Known}
-use Rattle.altseq.specs.Known.{Knows}
+use Rattle.reference.specs.declared.Known.{Known}
+use Rattle.reference.specs.Known.{Knows}
+use Rattle.edits.specs.declared.plans.Plan.{Plan}
+use Rattle.edits.specs.declared.decision.Decision.{Decision}
+use Rattle.edits.specs.declared.decision.Decision.the-variants as decision
+use Rattle.edits.specs.Plans.{planOf}
+use Rattle.edits.specs.Decisions.{decisionOf}
+use Rattle.edits.proofs.Deciding.{decided-refusal, decided-unknown}
+use Rattle.altseq.specs.Carried.{proteinBy, reportBy, Carries}
+use Rattle.altseq.specs.Decided.{decidedOutcome}
+use Rattle.altseq.proofs.Answering.{goes-all, unknown-is, allowed-is, none-refused, not-unknown, plan-is}
 use Rattle.text_forms.specs.declared.line.EditLine.{EditLine}
 use Rattle.text_forms.specs.declared.line.EditLine.the-variants as edit-line
-use Rattle.text_forms.specs.Views.{askedIn}
+use Rattle.text_forms.specs.Views.{editLineIn}
 use Rattle.text_prints.proofs.Sizes.{record-size}
-use Rattle.text_answers.specs.Lines.{noExceptions, Ample, Line}
+use Rattle.text_answers.specs.Rooms.{lettersRoom, proteinRoom, transcriptRoom, Ample}
+use Rattle.text_answers.specs.Lines.{noExceptions, planLine, Line}
+
+-- a line with its end
+pub one-line : (l k : List ℕ) → l ≡ k → unlines (l ∷ []) ≡ k ++ (lineFeed ∷ [])
+unfolding unlines
+one-line l k is = rw is
 
 -- a line that is written over a buffer
-pub line-of : (l k text old : List ℕ) (n : ℕ) → l ≡ k → n ≡ length (k ++ (lineFeed ∷ [])) → text ≡ over (k ++ (lineFeed ∷ [])) old → Line n text l
+pub line-of : (l k text old : List ℕ) (n : ℕ) → l ≡ k → n ≡ length (k ++ (lineFeed ∷ [])) → text ≡ over (k ++ (lineFeed ∷ [])) old → Line n text (unlines (l ∷ []))
 line-of l k text old n is e q =
     record {
       fits = fits-over (k ++ (lineFeed ∷ [])) old text n e q;
-      holds = rw is (read-back (k ++ (lineFeed ∷ [])) old text n e q);
+      holds = rw (one-line l k is) (read-back (k ++ (lineFeed ∷ [])) old text n e q);
     }
 
 -- a line, known as another
-pub line-as : (n : ℕ) (text l k : List ℕ) → l ≡ k → Line n text k → Line n text l
+pub line-as : (n : ℕ) (text l k : List ℕ) → l ≡ k → Line n text (unlines (k ∷ [])) → Line n text (unlines (l ∷ []))
 line-as n text l k is h = rw is h
 
 -- R of a checked reference is short
-pub protein-short : (s : List ℕ) (k : Known) (protein : List ℕ) → Knows limits s k noExceptions protein → length protein ≤ 5461
+pub protein-short : (s : List ℕ) (k : Known) (protein : List ℕ) → Knows textLimits s k noExceptions protein → length protein < proteinRoom
 unfolding codons cdsSize size
 protein-short s k protein known =
-    let a = accepted 16384 (referenceOf s (k .cds) noExceptions) (known .accepted) in
-    let r = protein-read 16384 (referenceOf s (k .cds) noExceptions) (known .accepted) in
+    let a = accepted lettersRoom (referenceOf s (k .cds) noExceptions) (known .accepted) in
+    let r = protein-read lettersRoom (referenceOf s (k .cds) noExceptions) (known .accepted) in
     omega (arith, ap length (known .read), r .whole, a .fits, a .bounds .first, a .bounds .inside)
 
--- the program's buffers hold the longest answers, so 11 and 12 never occur
-pub roomy : (r : Reference) (e : Asked) (t p q : List ℕ) → Ample t p q → refusal limits r e ≡ 0 → roomRefusal r e (roomOf t p q) ≡ 0
-unfolding residueCount
-roomy r e t p q ample z =
-    enough limits r e (roomOf t p q) z (omega (arith, ample .for-transcript)) (omega (arith, ample .for-reference)) (omega (arith, ample .for-altered))
+-- an edit of a checked reference, as it was decided
+module _ (s : List ℕ) (k : Known) (protein : List ℕ) (known : Knows textLimits s k noExceptions protein) (edit : Edit) (new : List ℕ) (d : Decision)
+    (is : d ≡ decisionOf (textLimits .most) (k .several) (bare s (k .cds)) (asked edit new)) where
+  abbrev r : Reference
+  r = referenceOf s (k .cds) noExceptions
 
--- an edit of a reference, answered with room enough: which answer it is, and what is printed for it
-module _ (r : Reference) (e : Asked) (t p q t′ p′ q′ : List ℕ) (x : Answer) (h : Answers (outcome limits r e (roomOf t p q)) x t t′ p p′ q q′)
-    (roomy : refusal limits r e ≡ 0 → roomRefusal r e (roomOf t p q) ≡ 0) where
-  is-refused : (m : ℕ) → refusal limits r e ≡ suc m → (x ≡ answer.Refused (suc m)) × (editAnswer r (some e) ≡ refusedLine (suc m))
-  unfolding writesNothing editAnswer answerLine recordUnless unless
-  is-refused m z = (h .says ∙ ap (λ (o : Outcome). o .answer) (refused-by limits r e (roomOf t p q) m z), rw z)
+  abbrev a : Asked
+  a = asked edit new
 
-  is-unknown : refusal limits r e ≡ 0 → isUnknown r e ≡ true → (x ≡ answer.Reported unknownReport) × (editAnswer r (some e) ≡ bytes "unknown")
-  unfolding writesNothing editAnswer answerLine recordUnless unless recordLine
-  is-unknown z u = (h .says ∙ ap (λ (o : Outcome). o .answer) (unknown-by limits r e (roomOf t p q) z u), rw (z, record-unknown r e u))
+  allowed : refusal textLimits r a ≡ firstOf (editTests (textLimits .most) (bare s (k .cds)) a)
+  allowed = allowed-is textLimits s k noExceptions protein known a
 
-  is-all : refusal limits r e ≡ 0 → isUnknown r e ≡ false
-      → (x ≡ answer.Reported (fullReport r e)) × (q′ ≡ over (alteredProtein r e) q) × (editAnswer r (some e) ≡ recordLine (recordOf r e) (referenceProtein r) (alteredProtein r e))
-  unfolding writesAll editAnswer answerLine recordUnless unless
-  is-all z u =
-      let all = all-by limits r e (roomOf t p q) z u (roomy z) in
-      (h .says ∙ ap (λ (o : Outcome). o .answer) all, h .holds-altered ∙ ap (λ (o : Outcome). over (o .altered) q) all, rw z)
-
-  pub refused-line : (n : ℕ) → x ≡ answer.Refused n → editAnswer r (some e) ≡ refusedLine n
-  refused-line n is = by (refusal limits r e) refl (isUnknown r e) refl
+  pub asked-refused : (n : ℕ) → d ≡ decision.Refused n → editAnswer (bare s (k .cds)) (some a) ≡ refusedLine n
+  unfolding exceptionList editAnswer answerLine recordUnless unless
+  asked-refused n h =
+      let both = decided-refusal (textLimits .most) (k .several) (bare s (k .cds)) a n (sym is ∙ h) in
+      by n (allowed ∙ both .0) (both .1)
     where
-      by : (m : ℕ) → refusal limits r e ≡ m → (b : Bool) → isUnknown r e ≡ b → editAnswer r (some e) ≡ refusedLine n
-      by (suc m) z b u =
-          let found = is-refused m z in
-          let same : suc m ≡ n = cc in
-          found .1 ∙ ap refusedLine same
-      by zero z true u = let found = is-unknown z u in let z : _≡_ {A = ℕ} 0 1 = cc in absurd (omega arith)
-      by zero z false u = let found = is-all z u in let z : _≡_ {A = ℕ} 0 1 = cc in absurd (omega arith)
+      by : (n : ℕ) → refusal textLimits r a ≡ n → 1 ≤ n → editAnswer (bare s (k .cds)) (some a) ≡ refusedLine n
+      by zero z h = absurd (omega arith)
+      by (suc n) z h = rw z
 
-  pub record-line : (protein : List ℕ) → protein ≡ referenceProtein r → (u : Report) → x ≡ answer.Reported u
-      → (u .altered ≤ length q′) × (editAnswer r (some e) ≡ recordLine (u .found) protein (take (u .altered) q′))
-  unfolding unknownReport fullReport recordLine
-  record-line protein read v is = by (refusal limits r e) refl (isUnknown r e) refl
-    where
-      by : (m : ℕ) → refusal limits r e ≡ m → (b : Bool) → isUnknown r e ≡ b
-          → (v .altered ≤ length q′) × (editAnswer r (some e) ≡ recordLine (v .found) protein (take (v .altered) q′))
-      by (suc m) z b u = let found = is-refused m z in let z : _≡_ {A = ℕ} 0 1 = cc in absurd (omega arith)
-      by zero z true u =
-          let found = is-unknown z u in
-          let same : unknownReport ≡ v = cc in
-          rw (← same) (omega arith, found .1)
-      by zero z false u =
-          let found = is-all z u in
-          let same : fullReport r e ≡ v = cc in
-          let back = read-back (alteredProtein r e) q q′ (length (alteredProtein r e)) refl (found .1) in
-          rw (← same, read) (fits-over (alteredProtein r e) q q′ (length (alteredProtein r e)) refl (found .1), found .2 ∙ rw back)
+  pub asked-unknown : d ≡ decision.Unknown → editAnswer (bare s (k .cds)) (some a) ≡ recordLine Unknown protein []
+  unfolding exceptionList editAnswer answerLine recordUnless unless recordLine
+  asked-unknown h =
+      let both = decided-unknown (textLimits .most) (k .several) (bare s (k .cds)) a (sym is ∙ h) in
+      let none : refusal textLimits r a ≡ 0 = allowed ∙ both .0 in
+      let unknown : recordOf r a ≡ Unknown = record-unknown r a (unknown-is textLimits s k noExceptions protein known a ∙ both .1) in
+      rw (none, unknown)
 
--- the same of a checked reference without exceptions, in the program's buffers
-module _ (x₀ : Exceptions) (are : x₀ ≡ noExceptions) (s : List ℕ) (k : Known) (protein : List ℕ) (known : Knows limits s k noExceptions protein) where
-  pub knows-none : Knows limits s k x₀ protein
-  knows-none = rw are known
+  -- the edit goes
+  module _ (p : Plan) (h : d ≡ decision.Goes p) where
+    goes : decisionOf (textLimits .most) (k .several) (bare s (k .cds)) a ≡ decision.Goes p
+    goes = sym is ∙ h
 
-  module _ (e : Asked) (t p q t′ p′ q′ : List ℕ) (ample : Ample t p q) (x : Answer) (h : Answers (outcome limits (referenceOf s (k .cds) x₀) e (roomOf t p q)) x t t′ p p′ q q′) where
-    said : Answers (outcome limits (referenceOf s (k .cds) noExceptions) e (roomOf t p q)) x t t′ p p′ q q′
-    said = subst (λ (x₀ : Exceptions). Answers (outcome limits (referenceOf s (k .cds) x₀) e (roomOf t p q)) x t t′ p p′ q q′) are h
+    none : refusal textLimits r a ≡ 0
+    none = none-refused textLimits s k noExceptions protein known a p goes
 
-    pub asked-refused : (n : ℕ) → x ≡ answer.Refused n → editAnswer (bare s (k .cds)) (some e) ≡ refusedLine n
-    unfolding exceptionList
-    asked-refused n is = refused-line (referenceOf s (k .cds) noExceptions) e t p q t′ p′ q′ x said (roomy (referenceOf s (k .cds) noExceptions) e t p q ample) n is
+    plan : p ≡ planOf r a
+    plan = plan-is textLimits s k noExceptions protein known a p goes
 
-    module _ (u : Report) (is : x ≡ answer.Reported u) where
-      reported : (u .altered ≤ length q′) × (editAnswer (bare s (k .cds)) (some e) ≡ recordLine (u .found) protein (take (u .altered) q′))
-      unfolding exceptionList
-      reported = record-line (referenceOf s (k .cds) noExceptions) e t p q t′ p′ q′ x said (roomy (referenceOf s (k .cds) noExceptions) e t p q ample) protein (known .read) u is
+    long : p .length ≤ transcriptRoom
+    unfolding planOf
+    long = omega (arith, ap (λ (p : Plan). p .length) plan, altered-fits textLimits r a none)
 
-      pub asked-reported : editAnswer (bare s (k .cds)) (some e) ≡ recordLine (u .found) protein (take (u .altered) q′)
-      asked-reported = reported .1
+    -- the program's buffers hold the longest answers, so 11 and 12 never occur
+    pub asked-carries : (t q : List ℕ) → Ample t q → Carries s k noExceptions protein p new t q
+    unfolding residueCount
+    asked-carries t q ample =
+        let x = reference-accepted textLimits r a none in
+        record {
+          limits = textLimits;
+          known = known;
+          edit = edit;
+          allowed = none;
+          is = plan;
+          for-transcript = omega (arith, long, ample .for-transcript);
+          for-altered = omega (arith, long, x .bounds .first, ample .for-altered);
+        }
 
-      pub altered-held : u .altered ≤ length q′
-      altered-held = reported .0
+    pub asked-goes : editAnswer (bare s (k .cds)) (some a) ≡ planLine r protein p new
+    unfolding exceptionList editAnswer answerLine recordUnless unless decidedOutcome writesAll fullReport
+    asked-goes =
+        let all = goes-all r a p plan (not-unknown textLimits s k noExceptions protein known a p goes) in
+        let said : answer.Reported (reportBy r p new) ≡ answer.Reported (fullReport r a) = ap (λ (o : Outcome). o .answer) all in
+        let same : reportBy r p new ≡ fullReport r a = cc in
+        let found : reportBy r p new .found ≡ recordOf r a = ap (λ (u : Report). u .found) same in
+        let made : proteinBy r p new ≡ alteredProtein r a = ap (λ (o : Outcome). o .altered) all in
+        rw (found, made, known .read, none)
 
-      -- the line has room where the transcript had
-      pub record-room : (n : ℕ) → length q′ ≡ length q → n ≡ length t → length (recordLine (u .found) protein (take (u .altered) q′)) < n
-      record-room n same is =
-          omega (arith, record-size (u .found) protein (take (u .altered) q′), protein-short s k protein known, length-take-le (u .altered) q′ (reported .0), reported .0, ample .for-altered, ample .for-transcript)
+-- the line has room where the transcript had
+pub plan-room : (s : List ℕ) (k : Known) (protein : List ℕ) → Knows textLimits s k noExceptions protein → (t q q′ : List ℕ) → Ample t q → (m : ℕ) → m ≤ length q′ → length q′ ≡ length q → (x : Record) (n : ℕ) → n ≡ length t
+    → length (recordLine x protein (take m q′)) < n
+plan-room s k protein known t q q′ ample m fits same x n is =
+    omega (arith, record-size x protein (take m q′), length-take-le m q′ fits, protein-short s k protein known, ample .for-altered, ample .for-transcript)
+
+pub carries-none : (x₀ : Exceptions) → x₀ ≡ noExceptions → (s : List ℕ) (k : Known) (protein : List ℕ) (p : Plan) (new t q : List ℕ) → Carries s k noExceptions protein p new t q → Carries s k x₀ protein p new t q
+carries-none x₀ are s k protein p new t q h = rw are h
+
+-- a plan carried out: what is reported of the altered protein is at its buffer's front
+module _ (x₀ : Exceptions) (are : x₀ ≡ noExceptions) (s : List ℕ) (c : Cds) (p : Plan) (new : List ℕ) (u : Report) (q q′ : List ℕ)
+    (says : u ≡ reportBy (referenceOf s c x₀) p new) (holds : q′ ≡ over (proteinBy (referenceOf s c x₀) p new) q) where
+  counted : u .altered ≡ length (proteinBy (referenceOf s c x₀) p new)
+  unfolding reportBy
+  counted = ap (λ (u : Report). u .altered) says
+
+  pub plan-fits : u .altered ≤ length q′
+  plan-fits = fits-over (proteinBy (referenceOf s c x₀) p new) q q′ (u .altered) counted holds
+
+  pub plan-line : (protein : List ℕ) → planLine (referenceOf s c noExceptions) protein p new ≡ recordLine (u .found) protein (take (u .altered) q′)
+  plan-line protein =
+      let back : take (u .altered) q′ ≡ proteinBy (referenceOf s c x₀) p new = read-back (proteinBy (referenceOf s c x₀) p new) q q′ (u .altered) counted holds in
+      rw (back, says, are)
 
 -- the forms of an edit line
 module _ (r : Reference) (line : List ℕ) where
@@ -144,7 +174,7 @@ module _ (r : Reference) (line : List ℕ) where
   unfolding editLineAnswer editAnswer
   edit-long h = rw h
 
-  module _ (h : fitsLine line ≡ true) (x : EditLine) (is : askedIn line x ≡ editLine line) where
+  module _ (h : fitsLine line ≡ true) (x : EditLine) (is : editLineIn line x ≡ editLine line) where
     pub edit-formless : x ≡ edit-line.Not → editLineAnswer r line ≡ refusedLine 30
     unfolding editLineAnswer editAnswer
     edit-formless q = rw (h, ← is, q)

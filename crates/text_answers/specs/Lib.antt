@@ -1,2 +1,4 @@
--- What only this crate's contracts want said.
+-- What only this crate's contracts, and those above it, want said.
+pub mod Rooms
+pub mod Stage
 pub mod Lines

@@ -10,11 +10,12 @@ use lib.ListN.{length, drop, length-drop}
 use Rattle.rules.specs.Reference.{Reference}
 use Rattle.rules.specs.Edit.{Asked}
 use Rattle.rules.specs.Line.{editLine, referenceLine}
+use Rattle.rules.specs.Views.{cdsOf}
 use Rattle.text_forms.specs.declared.line.EditLine.{EditLine}
 use Rattle.text_forms.specs.declared.line.EditLine.the-variants as edit-line
 use Rattle.text_forms.specs.declared.line.ReferenceLine.{ReferenceLine}
 use Rattle.text_forms.specs.declared.line.ReferenceLine.the-variants as reference-line
-use Rattle.text_forms.specs.Views.{askedIn, askedAt, referenceIn, referenceAt}
+use Rattle.text_forms.specs.Views.{editLineIn, basesAt, referenceLineIn, lettersAt}
 
 -- `at` gives an answer's place, and x is the case that the answer turned out to be
 pub within : {A : Type 0} (at : A → ℕ) {r x : A} {n : ℕ} → r ≡ x → at r ≤ n → at x ≤ n
@@ -32,7 +33,7 @@ never x e = let z : _≡_ {A = ℕ} 0 1 = cc in omega arith
 held : {A : Type 0} (x y : A) → some x ≡ some y → x ≡ y
 held x y e = cc
 
-asked-once : (line : List ℕ) (r t : EditLine) → askedIn line r ≡ askedIn line t → askedAt r ≤ length line → askedAt t ≤ length line → r ≡ t
+asked-once : (line : List ℕ) (r t : EditLine) → editLineIn line r ≡ editLineIn line t → basesAt r ≤ length line → basesAt t ≤ length line → r ≡ t
 asked-once line edit-line.Not edit-line.Not e h k = refl
 asked-once line edit-line.Not (edit-line.Asked d b) e h k = absurd (never _ e)
 asked-once line (edit-line.Asked c a) edit-line.Not e h k = absurd (never _ (sym e))
@@ -41,16 +42,16 @@ asked-once line (edit-line.Asked c a) (edit-line.Asked d b) e h k =
     rw (ap (λ (q : Asked). q .edit) x, place-once line a b h k (ap (λ (q : Asked). q .new) x))
 
 -- two answers that meet the promise are equal
-pub edit-once : (line : List ℕ) (r t : EditLine) → askedIn line r ≡ editLine line → askedAt r ≤ length line → askedIn line t ≡ editLine line → askedAt t ≤ length line → r ≡ t
+pub edit-once : (line : List ℕ) (r t : EditLine) → editLineIn line r ≡ editLine line → basesAt r ≤ length line → editLineIn line t ≡ editLine line → basesAt t ≤ length line → r ≡ t
 edit-once line r t e h f k = asked-once line r t (e ∙ sym f) h k
 
-given-once : (line : List ℕ) (r t : ReferenceLine) → referenceIn line r ≡ referenceIn line t → referenceAt r ≤ length line → referenceAt t ≤ length line → r ≡ t
+given-once : (line : List ℕ) (r t : ReferenceLine) → referenceLineIn line r ≡ referenceLineIn line t → lettersAt r ≤ length line → lettersAt t ≤ length line → r ≡ t
 given-once line reference-line.Not reference-line.Not e h k = refl
-given-once line reference-line.Not (reference-line.Given cs ce table at) e h k = absurd (never _ e)
-given-once line (reference-line.Given cs ce table at) reference-line.Not e h k = absurd (never _ (sym e))
-given-once line (reference-line.Given cs ce table at) (reference-line.Given cs₂ ce₂ table₂ at₂) e h k =
+given-once line reference-line.Not (reference-line.Given cds at) e h k = absurd (never _ e)
+given-once line (reference-line.Given cds at) reference-line.Not e h k = absurd (never _ (sym e))
+given-once line (reference-line.Given cds at) (reference-line.Given cds₂ at₂) e h k =
     let x = held _ _ e in
-    rw (ap (λ (q : Reference). q .cs) x, ap (λ (q : Reference). q .ce) x, ap (λ (q : Reference). q .table) x, place-once line at at₂ h k (ap (λ (q : Reference). q .letters) x))
+    rw (ap (λ (q : Reference). cdsOf (q .cs) (q .ce) (q .table)) x, place-once line at at₂ h k (ap (λ (q : Reference). q .letters) x))
 
-pub reference-once : (line : List ℕ) (r t : ReferenceLine) → referenceIn line r ≡ referenceLine line → referenceAt r ≤ length line → referenceIn line t ≡ referenceLine line → referenceAt t ≤ length line → r ≡ t
+pub reference-once : (line : List ℕ) (r t : ReferenceLine) → referenceLineIn line r ≡ referenceLine line → lettersAt r ≤ length line → referenceLineIn line t ≡ referenceLine line → lettersAt t ≤ length line → r ≡ t
 reference-once line r t e h f k = given-once line r t (e ∙ sym f) h k

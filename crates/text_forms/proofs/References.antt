@@ -11,12 +11,13 @@ use lib.ListN.{length, take, drop, getD, drop-of-length-le}
 use lib.Seq.{drop-cons}
 use Rattle.rules.specs.Bytes.{bytes}
 use Rattle.rules.specs.Number.{number}
+use Rattle.rules.specs.Views.{cdsOf}
 use Rattle.rules.specs.Line.{areCapitals, startsWith, behindSpace, spaced, behindRef, referenceLine}
 use Rattle.rules.proofs.Over.{tail-is}
 use Rattle.text_forms.specs.declared.number.NumberAt.{NumberAt}
 use Rattle.text_forms.specs.declared.number.NumberAt.the-variants.{Not, Found}
 use Rattle.text_forms.specs.declared.line.ReferenceLine.the-variants.{Given}
-use Rattle.text_forms.specs.Views.{numberIn, referenceIn}
+use Rattle.text_forms.specs.Views.{numberIn, referenceLineIn}
 
 module _ (line : List ℕ) (at : ℕ) (r : NumberAt) (q : numberIn line r ≡ number (drop at line)) where
   pub spaced-not : r ≡ Not → none ≡ spaced (drop at line)
@@ -65,6 +66,6 @@ module _ (line : List ℕ) (u : Bool) (q : u ≡ startsWith (bytes "ref ") line)
           unfolding referenceLine behindRef
           reference-no-letters e₄ = rw (← q, e, ← q₁, e₁, ← q₂, e₂, ← q₃, e₃, capitals, e₄)
 
-          pub reference-is : v ≡ true → referenceIn line (Given cs ce table at) ≡ referenceLine line
+          pub reference-is : v ≡ true → referenceLineIn line (Given (cdsOf cs ce table) at) ≡ referenceLine line
           unfolding referenceLine behindRef
           reference-is e₄ = rw (← q, e, ← q₁, e₁, ← q₂, e₂, ← q₃, e₃, capitals, e₄)

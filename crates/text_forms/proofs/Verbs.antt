@@ -23,7 +23,7 @@ use Rattle.text_forms.specs.declared.position.RangeAt.the-variants as ra
 use Rattle.text_forms.specs.declared.verb.VerbAt.{VerbAt}
 use Rattle.text_forms.specs.declared.verb.VerbAt.the-variants.{Not, Found}
 use Rattle.text_forms.specs.declared.line.EditLine.the-variants.{Asked}
-use Rattle.text_forms.specs.Views.{rangeIn, verbIn, askedIn}
+use Rattle.text_forms.specs.Views.{rangeIn, verbIn, editLineIn}
 
 pub capitals-none : (s : List ℕ) → length s < 1 → false ≡ areCapitals s
 unfolding areCapitals
@@ -159,6 +159,6 @@ module _ (line : List ℕ) (r : RangeAt) (q : rangeIn line r ≡ range line) whe
     unfolding editLine
     edit-no-verb e₂ = rw (← q, e, ← z, e₂)
 
-    pub edit-is : (k : Kind) (at : ℕ) → v ≡ Found k at → askedIn line (Asked (record { kind = k; start = p; end = p₂ }) at) ≡ editLine line
+    pub edit-is : (k : Kind) (at : ℕ) → v ≡ Found k at → editLineIn line (Asked (record { kind = k; start = p; end = p₂ }) at) ≡ editLine line
     unfolding editLine
     edit-is k at e₂ = rw (← q, e, ← z, e₂)

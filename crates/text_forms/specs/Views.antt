@@ -1,7 +1,7 @@
 -- What a parser's answer says in document 01's terms, by its cases: what was read, with what stands behind it in the line. And the place where
 -- that begins, 0 where nothing was read: where a promise bounds it by the line's length, what stands behind it tells it.
 use Prim.Native.Nat.{ℕ}
-use mathlib.Core.List.{List, []}
+use mathlib.Core.List.{List}
 use mathlib.Core.Option.{Option, none, some}
 use lib.Dec.{eqb}
 use lib.ListN.{drop}
@@ -12,6 +12,7 @@ use Rattle.rules.specs.Reference.{Reference}
 use Rattle.rules.specs.Edit.{Asked}
 use Rattle.rules.specs.Number.{Numbered}
 use Rattle.rules.specs.Line.{Placed, Range, Verb}
+use Rattle.rules.specs.Views.{bare}
 use Rattle.text_forms.specs.declared.number.NumberAt.{NumberAt}
 use Rattle.text_forms.specs.declared.number.NumberAt.the-variants as number
 use Rattle.text_forms.specs.declared.position.PositionAt.{PositionAt}
@@ -65,19 +66,18 @@ abbrev pub verbNext : VerbAt → ℕ
 verbNext verb.Not = 0
 verbNext (verb.Found k at) = at
 
-abbrev pub askedIn : List ℕ → EditLine → Option Asked
-askedIn line edit-line.Not = none
-askedIn line (edit-line.Asked e at) = some (record { edit = e; new = drop at line })
+abbrev pub editLineIn : List ℕ → EditLine → Option Asked
+editLineIn line edit-line.Not = none
+editLineIn line (edit-line.Asked e at) = some (record { edit = e; new = drop at line })
 
-abbrev pub askedAt : EditLine → ℕ
-askedAt edit-line.Not = 0
-askedAt (edit-line.Asked e at) = at
+abbrev pub basesAt : EditLine → ℕ
+basesAt edit-line.Not = 0
+basesAt (edit-line.Asked e at) = at
 
-abbrev pub referenceIn : List ℕ → ReferenceLine → Option Reference
-referenceIn line reference-line.Not = none
-referenceIn line (reference-line.Given cs ce t at) =
-    some (record { letters = drop at line; cs = cs; ce = ce; table = t; exceptions = [] })
+abbrev pub referenceLineIn : List ℕ → ReferenceLine → Option Reference
+referenceLineIn line reference-line.Not = none
+referenceLineIn line (reference-line.Given cds at) = some (bare (drop at line) cds)
 
-abbrev pub referenceAt : ReferenceLine → ℕ
-referenceAt reference-line.Not = 0
-referenceAt (reference-line.Given cs ce t at) = at
+abbrev pub lettersAt : ReferenceLine → ℕ
+lettersAt reference-line.Not = 0
+lettersAt (reference-line.Given cds at) = at

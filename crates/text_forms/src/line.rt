@@ -7,12 +7,13 @@ use crate::verb::VerbAt;
 use crate::verb::are_capitals;
 use crate::verb::parse_verb;
 use crate::verb::starts_with;
+use rules::Cds;
 use rules::Edit;
 ghost use mathlib.Core.Path.{_≡_};
 ghost use Prim.Native.Nat.{_≤_};
 ghost use lib.ListN.{length, drop};
 ghost use Rattle.rules.specs.Line.{editLine, spaced, referenceLine};
-ghost use Rattle.text_forms.specs.Views.{numberIn, numberNext, askedIn, askedAt, referenceIn, referenceAt};
+ghost use Rattle.text_forms.specs.Views.{numberIn, numberNext, editLineIn, basesAt, referenceLineIn, lettersAt};
 
 // The new bases are the line from `at` on; `at` is the line's length where there are none.
 pub enum EditLine {
@@ -23,18 +24,13 @@ pub enum EditLine {
 // The letters are the line from `at` on.
 pub enum ReferenceLine {
     Not,
-    Given {
-        cs: usize,
-        ce: usize,
-        table: usize,
-        at: usize,
-    },
+    Given { cds: Cds, at: usize },
 }
 
 // An edit line: its positions, its kind, and where its new bases begin.
 pub fn parse_edit(line: &[u8]) -> EditLine
-    ensures { λ r. ⌜ askedIn (now (line .entry)) r ≡ editLine (now (line .entry)) ⌝ }
-    ensures within { λ r. ⌜ askedAt r ≤ length (now (line .entry)) ⌝ }
+    ensures { λ r. ⌜ editLineIn (now (line .entry)) r ≡ editLine (now (line .entry)) ⌝ }
+    ensures within { λ r. ⌜ basesAt r ≤ length (now (line .entry)) ⌝ }
 {
     let g = parse_range(line);
     let RangeAt::Found { start, end, next } = g else {
@@ -74,8 +70,8 @@ fn parse_spaced(line: &[u8], at: usize) -> NumberAt
 
 // `ref CS CE TABLE LETTERS`: the numbers, and where the letters begin.
 pub fn parse_reference(line: &[u8]) -> ReferenceLine
-    ensures { λ r. ⌜ referenceIn (now (line .entry)) r ≡ referenceLine (now (line .entry)) ⌝ }
-    ensures within { λ r. ⌜ referenceAt r ≤ length (now (line .entry)) ⌝ }
+    ensures { λ r. ⌜ referenceLineIn (now (line .entry)) r ≡ referenceLine (now (line .entry)) ⌝ }
+    ensures within { λ r. ⌜ lettersAt r ≤ length (now (line .entry)) ⌝ }
 {
     if !starts_with(b"ref ", line) {
         return ReferenceLine::Not;
@@ -107,5 +103,8 @@ pub fn parse_reference(line: &[u8]) -> ReferenceLine
     if !are_capitals(&line[at..]) {
         return ReferenceLine::Not;
     }
-    ReferenceLine::Given { cs, ce, table, at }
+    ReferenceLine::Given {
+        cds: Cds { cs, ce, table },
+        at,
+    }
 }

@@ -7,6 +7,8 @@ ghost use Rattle.rules.specs.Bytes.{all};
 ghost use Rattle.rules.specs.Number.{isDigit, digits, value, isNumber, number};
 ghost use Rattle.text_forms.specs.Views.{numberIn, numberNext};
 
+const MOST_DIGITS: usize = 5;
+
 // `next` is the place behind the number.
 pub enum NumberAt {
     Not,
@@ -16,7 +18,10 @@ pub enum NumberAt {
 fn is_digit(b: u8) -> bool
     ensures { λ r. ⌜ r ≡ isDigit b ⌝ }
 {
-    (b'0' <= b) & (b <= b'9')
+    match b {
+        b'0'..=b'9' => true,
+        _ => false,
+    }
 }
 
 // The number of leading digits.
@@ -56,7 +61,7 @@ fn is_number(n: usize, s: &[u8]) -> bool
     if n < 1 {
         return false;
     }
-    if 5 < n {
+    if MOST_DIGITS < n {
         return false;
     }
     if n == 1 {

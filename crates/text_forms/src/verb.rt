@@ -1,4 +1,5 @@
 // What stands behind the positions: the kind and its new bases.
+use codons::letters::is_capital;
 use rules::Kind;
 use sequences::equals;
 ghost use mathlib.Core.Path.{_≡_};
@@ -13,12 +14,6 @@ ghost use Rattle.text_forms.specs.Views.{verbIn, verbNext};
 pub enum VerbAt {
     Not,
     Found { kind: Kind, at: usize },
-}
-
-fn is_capital(b: u8) -> bool
-    ensures { λ r. ⌜ r ≡ isCapital b ⌝ }
-{
-    (b'A' <= b) & (b <= b'Z')
 }
 
 fn all_capitals(s: &[u8]) -> bool

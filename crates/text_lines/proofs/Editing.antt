@@ -1,102 +1,102 @@
--- Laws of the loop over edit lines: what a turn finds and leaves.
+-- Laws of edit lines: what a turn finds and leaves.
 -- Assumes nothing.
-use mathlib.Core.Path.{_≡_, refl, ap, _∙_}
-use mathlib.Core.List.{List, [], _++_}
-use Prim.Native.Nat.{ℕ, _+_, _-_, _≤_, _<_}
+use mathlib.Core.Path.{_≡_, refl, sym, ap, _∙_}
+use mathlib.Core.Bool.{true, false}
+use mathlib.Core.List.{List, []}
+use Prim.Native.Nat.{ℕ, _+_, _-_, _^_, _≤_, _<_}
 use native.Mathlib.Omega.{arith}
-use lib.ListN.{length, take, drop, getD, length-drop}
-use lib.Seq.{length-take-le}
-use borrow.Rule.Slice.PartMut.{putMid, same-len-mid}
-use Rattle.bytes.specs.Bytes.{slice, indexOf}
+use lib.ListN.{length, take, drop}
+use borrow.Rule.Slice.PartMut.{putMid}
+use Rattle.rules.specs.declared.Written.{Written}
+use Rattle.rules.specs.declared.Written.the-variants.{Refused, Bytes}
+use Rattle.rules.specs.Bytes.{over}
+use Rattle.rules.specs.Answer.{writtenOf, bytesOf}
 use Rattle.rules.specs.Reference.{Reference}
-use Rattle.rules.specs.Run.{editLineAnswer, lineFeed, unlines}
-use Rattle.text_lines.specs.Stages.{Stage, editing, nextLine, answered, Moves, Steps}
-use Rattle.text_answers.specs.Lines.{Ample, Line}
-use Rattle.text_lines.proofs.Feeds.{behind-start, plain-part, found-feed}
-use Rattle.text_lines.proofs.Turns.{held-editing, held-short, moves-none, moves-on, stuck, moves-feed}
+use Rattle.text_answers.specs.Rooms.{lineRoom, Ample}
+use Rattle.text_answers.specs.Stage.{Stage, editing, nextLine, answered}
+use Rattle.text_lines.specs.Steps.{longer, within, Gathers, Moves, Full, Steps}
+use Rattle.text_lines.proofs.Puts.{put-bytes, put-none, over-none}
+use Rattle.text_lines.proofs.Turns.{moves-none, full-all, moves-line, full-feed, moves-feed, row-moves, row-full}
 
--- at the head of a turn: `at` bytes are taken, n bytes of the line so far are held
-pub record Going (r : Reference) (x : Stage) (input old line out : List ℕ) (n used at : ℕ) (tx rp ap : List ℕ) : Type 0 where
-  pub moves : Moves x (editing r (take n line)) input at used old out
-  pub short : n ≤ 20481
-  pub line-room : length line ≡ 20481
-  pub out-room : length out ≡ length old
-  pub ample : Ample tx rp ap
+pub ample-kept : (t q t′ q′ : List ℕ) → Ample t q → length t′ ≡ length t → length q′ ≡ length q → Ample t′ q′
+ample-kept t q t′ q′ h a b = record { for-transcript = a ∙ h .for-transcript; for-altered = b ∙ h .for-altered }
 
-pub ample-kept : (t p q t′ p′ q′ : List ℕ) → Ample t p q → length t′ ≡ length t → length p′ ≡ length p → length q′ ≡ length q → Ample t′ p′ q′
-ample-kept t p q t′ p′ q′ h a b c = record { for-transcript = a ∙ h .for-transcript; for-reference = b ∙ h .for-reference; for-altered = c ∙ h .for-altered }
+-- no line was answered, or one was
+pub no-answer : false ≡ true → ⊥
+no-answer e = let z : _≡_ {A = ℕ} 0 1 = cc in omega arith
 
-pub going : (r : Reference) (input line out : List ℕ) (held : ℕ) (tx rp ap : List ℕ) → length line ≡ 20481 → held ≤ 20481 → Ample tx rp ap
-    → Going r (editing r (take held line)) input out line out held 0 0 tx rp ap
-going r input line out held tx rp ap room short ample =
-    record { moves = moves-none (editing r (take held line)) input out; short = short; line-room = room; out-room = refl; ample = ample }
+pub an-answer : true ≡ false → ⊥
+an-answer e = let z : _≡_ {A = ℕ} 0 1 = cc in omega arith
 
-module _ (r : Reference) (x : Stage) (input old line out : List ℕ) (n used at : ℕ) (tx rp ap : List ℕ) (g : Going r x input old line out n used at tx rp ap) where
-  -- all is taken
-  pub done : length input ≤ at → Steps x (editing r (take n line)) input at used old out
-  done h = record { moves = g .moves; most = λ k. absurd (omega (arith, h)) }
+-- an edit line takes the bytes before the next line feed
+module _ (r : Reference) (l l′ input : List ℕ) (t : ℕ) (g : Gathers l l′ input t) (out : List ℕ) where
+  held-editing : editing r l′ ≡ longer (editing r l) (take t input)
+  unfolding longer
+  held-editing = ap (editing r) (g .holds)
 
-  -- the bytes before the next line feed, or before the input's end, are held
-  module _ (h : at < length input) (end : ℕ) (e : end ≡ at + indexOf lineFeed (slice at (length input) input)) (within : end ≤ length input) (m : ℕ) (line′ : List ℕ)
-      (kept : length line′ ≡ length line) (few : m ≤ length line) (is : take m line′ ≡ take (length line) (take n line ++ take (end - at) (drop at input))) where
-    on : Moves x (editing r (take m line′)) input end used old out
-    on =
-        moves-on x (editing r (take n line)) input at used old out (g .moves) (editing r (take m line′)) end
-        (held-editing line line′ (take (end - at) (drop at input)) n m (g .line-room) is r) (held-short n line (g .short) (g .line-room))
-        (behind-start input at end (omega arith) e) within (plain-part input at end (omega arith) e)
+  pub edit-moves : Moves (editing r l) (editing r l′) input t 0 out out
+  edit-moves = moves-line (editing r l) (g .short) input t (g .ends) (g .inside) (editing r l′) out held-editing
 
-    -- the next line begins behind
-    pub passes : (end ≡ length input → ⊥) → length input - (end + 1) < length input - at
-    passes k = omega (arith, behind-start input at end (omega arith) e)
+  pub edit-all : t ≡ length input → Full (editing r l) input t out
+  edit-all e = full-all (editing r l) input t out (omega arith)
 
-    pub held-few : m ≤ 20481
-    held-few = omega (arith, few, g .line-room)
+  -- the line ends there, and is answered
+  module _ (more : t ≡ length input → ⊥) (w : Written) (out′ : List ℕ) (says : w ≡ writtenOf (within (answered (editing r l′)) (length out)))
+      (holds : out′ ≡ over (bytesOf (within (answered (editing r l′)) (length out))) out) where
+    pub edit-full : (n : ℕ) → w ≡ Refused n → Moves (editing r l) (editing r l′) input t 0 out out′ × Full (editing r l) input t out
+    edit-full n is =
+        let none = put-none (answered (editing r l′)) (length out) w n says is in
+        let same : out′ ≡ out = holds ∙ over-none (bytesOf (within (answered (editing r l′)) (length out))) out (none .1) in
+        (rw same edit-moves, full-feed (editing r l) (g .short) input t (g .ends) (g .inside) (editing r l′) held-editing more out (none .0))
 
-    pub all-taken : end ≡ length input → Steps x (editing r (take m line′)) input end used old out
-    all-taken k = record { moves = on; most = λ q. absurd (omega (arith, k)) }
+    pub edit-answered : (n : ℕ) → w ≡ Bytes n → Moves (editing r l) (editing r []) input (t + 1) n out out′
+    unfolding nextLine
+    edit-answered n is =
+        let all = put-bytes (answered (editing r l′)) (length out) w n says is in
+        moves-feed (editing r l) (g .short) input t (g .ends) (g .inside) (editing r l′) held-editing more (editing r []) n out out′ refl (all .0) (all .1)
+        (holds ∙ ap (λ (s : List ℕ). over s out) (all .2))
 
-    -- the line ends there, and its answer stands in `text`
-    module _ (ends : end ≡ length input → ⊥) (size : ℕ) (text : List ℕ) (said : Line size text (editLineAnswer r (take m line′))) where
-      before : end < length input
-      before = omega (arith, within, ends)
+-- at the head of a turn: `taken` bytes are taken, `held` bytes of the line so far are held
+pub record Going (x : Stage) (r : Reference) (input old line out : List ℕ) (held taken used : ℕ) (transcript altered : List ℕ) : Type 0 where
+  pub moves : Moves x (editing r (take held line)) input taken used old out
+  pub short : held ≤ lineRoom
+  pub line-room : length line ≡ lineRoom
+  pub ample : Ample transcript altered
+  pub small : (length input < 2 ^ 64) × (length old < 2 ^ 64)
 
-      feed : getD input end 0 ≡ lineFeed
-      feed = found-feed input at end (omega arith) e before
+-- the buffers have the lengths that they came with
+pub record Same (line₀ transcript₀ altered₀ out₀ line transcript altered out : List ℕ) : Type 0 where
+  pub of-line : length line ≡ length line₀
+  pub of-transcript : length transcript ≡ length transcript₀
+  pub of-altered : length altered ≡ length altered₀
+  pub of-out : length out ≡ length out₀
 
-      line-answered : take size text ≡ answered (editing r (take m line′))
-      unfolding answered unlines
-      line-answered = said .holds
+pub going : (r : Reference) (input line out : List ℕ) (held : ℕ) (transcript altered : List ℕ) → length line ≡ lineRoom → held ≤ lineRoom → Ample transcript altered → length input < 2 ^ 64 → length out < 2 ^ 64
+    → Going (editing r (take held line)) r input out line out held 0 0 transcript altered
+going r input line out held transcript altered room short ample a b =
+    record { moves = moves-none (editing r (take held line)) input out; short = short; line-room = room; ample = ample; small = (a, b) }
 
-      pub full : length out - used < size → Steps x (editing r (take m line′)) input end used old out
-      full k =
-          record {
-            moves = on;
-            most = λ q.
-                stuck x (editing r (take m line′)) input end used old out on before feed (take size text) line-answered
-                (omega (arith, length-take-le size text (said .fits), g .out-room, g .moves .fits));
-          }
+module _ (x : Stage) (r : Reference) (input old line out : List ℕ) (held taken used : ℕ) (transcript altered : List ℕ) (g : Going x r input old line out held taken used transcript altered) where
+  pub done : length input ≤ taken → Steps x (editing r (take held line)) input taken used old out
+  done h = record { moves = g .moves; most = full-all x input taken old h }
 
-      -- the answer has room, and the sum of what is put out stays small
-      pub answer-fits : size ≤ length out - used → length (take size text) ≤ length (take (length out - used) (drop used out))
-      answer-fits k =
-          let left : length (take (length out - used) (drop used out)) ≡ length out - used = length-take-le (length out - used) (drop used out) (rw length-drop (omega arith)) in
-          omega (arith, length-take-le size text (said .fits))
+  -- a turn from there
+  module _ (held′ t u : ℕ) (line′ d : List ℕ)
+      (m : Moves (editing r (take held line)) (editing r (take held′ line′)) (take (length input - taken) (drop taken input)) t u (take (length out - used) (drop used out)) d) where
+    on : Moves x (editing r (take held′ line′)) input (taken + t) (used + u) old (putMid used (length out - used) out d)
+    on = row-moves x (editing r (take held line)) (editing r (take held′ line′)) input taken used t u old out d (g .moves) m
 
-      pub used-fits : (k : ℕ) → size ≤ length out - used → k ≡ length (take size text) → used + k ≤ length old
-      used-fits k room q = omega (arith, length-take-le size text (said .fits), g .out-room, g .moves .fits)
+    pub taken-fits : taken + t < 2 ^ 64
+    taken-fits = omega (arith, on .inside, g .small .0)
 
-      pub turn : (d tx′ rp′ ap′ : List ℕ) (k : ℕ) → size ≤ length out - used → k ≡ length (take size text)
-          → d ≡ take (length (take size text)) (take size text) ++ drop (length (take size text)) (take (length out - used) (drop used out))
-          → length d ≡ length (take (length out - used) (drop used out)) → Ample tx′ rp′ ap′
-          → Going r x input old line′ (putMid used (length out - used) out d) 0 (used + k) (end + 1) tx′ rp′ ap′
-      unfolding nextLine
-      turn d tx′ rp′ ap′ k room q s same ample =
-          record {
-            moves =
-                moves-feed x (editing r (take m line′)) input end used old out on before feed (editing r []) (take size text) refl line-answered
-                (omega (arith, length-take-le size text (said .fits), g .out-room, g .moves .fits)) text d size k refl q s;
-            short = omega arith;
-            line-room = kept ∙ g .line-room;
-            out-room = same-len-mid used (length out - used) out d same ∙ g .out-room;
-            ample = ample;
-          }
+    pub used-fits : used + u < 2 ^ 64
+    used-fits = omega (arith, on .fits, g .small .1)
+
+    pub turned : held′ ≤ lineRoom → length line′ ≡ length line → (transcript′ altered′ : List ℕ) → length transcript′ ≡ length transcript → length altered′ ≡ length altered
+        → Going x r input old line′ (putMid used (length out - used) out d) held′ (taken + t) (used + u) transcript′ altered′
+    turned few same transcript′ altered′ a b = record { moves = on; short = few; line-room = same ∙ g .line-room; ample = ample-kept transcript altered transcript′ altered′ (g .ample) a b; small = g .small }
+
+    pub stopped : Full (editing r (take held line)) (take (length input - taken) (drop taken input)) t (take (length out - used) (drop used out))
+        → Steps x (editing r (take held′ line′)) input (taken + t) (used + u) old (putMid used (length out - used) out d)
+    stopped f =
+        record { moves = on; most = row-full x (editing r (take held line)) (editing r (take held′ line′)) input taken used t u old out d (g .moves) f }

@@ -10,6 +10,11 @@ use lib.ListN.{length, take, drop}
 use lib.Seq.{length-take-le, take-all, take-length, take-at, take-append-add}
 use borrow.Rule.Slice.PartMut.{putMid}
 use borrow.Author.Tests.{leb-true, leb-false}
+use Rattle.bytes.specs.Bytes.{slice, indexOf}
+use Rattle.rules.specs.Run.{lineFeed}
+use Rattle.text_answers.specs.Rooms.{lineRoom}
+use Rattle.text_lines.specs.Steps.{kept, Gathers}
+use Rattle.text_lines.proofs.Feeds.{found}
 
 -- the first m of a list, or all where it has fewer
 take-min : (m n : ℕ) (s : List ℕ) → n ≡ min (length s) m → take n s ≡ take m s
@@ -43,3 +48,9 @@ module _ (line part : List ℕ) (held n : ℕ) (h : held ≤ length line) (e : n
             ∙ sym (ap (λ (m : ℕ). take m (take held line ++ part)) all ∙ take-append-add (take held line) part (length line - held))),
         omega (arith, few),
       )
+
+-- the bytes before the next line feed are held
+pub gathers : (line line′ input : List ℕ) (held n end : ℕ) → length line ≡ lineRoom → held ≤ lineRoom → end ≡ 0 + indexOf lineFeed (slice 0 (length input) input) → end ≤ length input
+    → take n line′ ≡ take (length line) (take held line ++ take end input) → Gathers (take held line) (take n line′) input end
+unfolding kept
+gathers line line′ input held n end room short e h is = record { short = omega (arith, length-take-le held line (omega arith)); ends = found input end e; inside = h; holds = is ∙ rw room }

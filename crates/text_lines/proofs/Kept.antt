@@ -10,7 +10,8 @@ use lib.ListN.{length, take, length-take}
 use lib.Seq.{length-take-le, take-all, take-append-le}
 use borrow.Author.Tests.{lt-leb, leb-true, leb-false}
 use Rattle.rules.specs.Line.{fitsLine}
-use Rattle.text_lines.specs.Stages.{kept}
+use Rattle.text_answers.specs.Rooms.{lineRoom}
+use Rattle.text_lines.specs.Steps.{kept}
 
 -- the first n of a list with something behind it need only the list's first n
 pub take-front : (n : ℕ) (l s : List ℕ) → take n (take n l ++ s) ≡ take n (l ++ s)
@@ -24,13 +25,13 @@ take-front n l s = by (leb n (length l)) refl
 
 pub kept-front : (l s : List ℕ) → kept (kept l ++ s) ≡ kept (l ++ s)
 unfolding kept
-kept-front l s = take-front 20481 l s
+kept-front l s = take-front lineRoom l s
 
-pub kept-all : (l : List ℕ) → length l ≤ 20481 → kept l ≡ l
+pub kept-all : (l : List ℕ) → length l ≤ lineRoom → kept l ≡ l
 unfolding kept
-kept-all l h = take-all 20481 l h
+kept-all l h = take-all lineRoom l h
 
-pub kept-short : (l : List ℕ) → length (kept l) ≤ 20481
+pub kept-short : (l : List ℕ) → length (kept l) ≤ lineRoom
 unfolding kept
 kept-short l = rw length-take (omega arith)
 
@@ -43,4 +44,4 @@ pub kept-unfit : (l : List ℕ) → fitsLine l ≡ false → fitsLine (kept l) �
 unfolding fitsLine kept
 kept-unfit l h =
     let long : 20480 < length l = leb-false (length l) 20480 h in
-    lt-leb (length (take 20481 l)) 20480 (omega (arith, length-take-le 20481 l (omega arith)))
+    lt-leb (length (take lineRoom l)) 20480 (omega (arith, length-take-le lineRoom l (omega arith)))

@@ -4,10 +4,10 @@ pub mod Pieces
 pub mod Whole
 pub mod Single
 pub mod Room
-mod Gathered
 mod Feeds
+mod Gathered
 pub mod Turns
-mod First
+pub mod Puts
 mod Editing
-mod Stepping
+mod Beginning
 pub mod Last

@@ -9,7 +9,9 @@ use lib.Dec.{eqb}
 use lib.ListN.{length}
 use borrow.Author.Tests.{ne-eqb}
 use Rattle.rules.specs.Run.{lineFeed}
-use Rattle.text_lines.specs.Stages.{Stage, opening, editing, ended, lineOf, kept, longer, nextLine, answered, after, printed}
+use Rattle.text_answers.specs.Rooms.{lineRoom}
+use Rattle.text_answers.specs.Stage.{Stage, opening, editing, ended, nextLine, answered}
+use Rattle.text_lines.specs.Steps.{lineOf, kept, longer, after, printed}
 use Rattle.text_lines.proofs.Kept.{kept-front, kept-all, kept-short}
 
 pub after-append : (x : Stage) (s t : List ℕ) → after x (s ++ t) ≡ after (after x s) t
@@ -67,7 +69,7 @@ printed-ended (b ∷ s) = by (eqb b lineFeed) (printed-ended s)
 
 -- no more of a line is held than is wanted
 abbrev pub Short : Stage → Type 0
-Short x = length (lineOf x) ≤ 20481
+Short x = length (lineOf x) ≤ lineRoom
 
 pub longer-short : (x : Stage) (s : List ℕ) → Short (longer x s)
 unfolding longer

@@ -14,76 +14,78 @@ use Rattle.rules.specs.Reference.{Reference, size, cdsSize, codons, referencePr
 use Rattle.rules.specs.Edit.{Asked}
 use Rattle.rules.specs.Protein.{alteredProtein}
 use Rattle.rules.specs.Record.{recordOf}
-use Rattle.rules.specs.Refusal.{limits, referenceRefusal, refusal, recordUnless}
-use Rattle.rules.specs.Line.{editLine, fitsLine, referenceLine}
+use Rattle.rules.specs.Refusal.{referenceRefusal, refusal, recordUnless}
+use Rattle.rules.specs.Line.{textLimits, editLine, fitsLine, referenceLine}
 use Rattle.rules.specs.Run.{refusedLine, answerLine, editAnswer, editLineAnswer, answersFrom, answersOf, answers, lineFeed, unlines}
 use Rattle.rules.proofs.Reference.{accepted, protein-read}
 use Rattle.rules.proofs.Refusal.{reference-accepted}
 use Rattle.rules.proofs.Altered.{altered-fits}
 use Rattle.rules.proofs.Protein.{altered-room}
 use Rattle.rules.specs.Views.{bare}
-use Rattle.text_answers.specs.declared.Follows.the-variants.{Edits, Nothing}
-use Rattle.text_lines.specs.declared.Phase.{Phase}
-use Rattle.text_lines.specs.declared.Phase.the-variants.{Opening, Behind}
+use Rattle.text_answers.specs.declared.Phase.{Phase}
+use Rattle.text_answers.specs.declared.Phase.the-variants.{Opening, Editing, Ended}
+use Rattle.text_answers.specs.Rooms.{proteinRoom, alteredRoom, answerRoom}
+use Rattle.text_answers.specs.Stage.{Stage, answered}
+use Rattle.text_answers.specs.Lines.{stageBy, KnownIn}
 use Rattle.text_lines.specs.declared.State.{State}
-use Rattle.text_lines.specs.Stages.{Stage, lineOf, answered, printed, printedLast, Steps}
-use Rattle.text_lines.specs.Memory.{stageBy, stageOf, KnownBy, Holds}
+use Rattle.text_lines.specs.Steps.{lineOf, printed, printedLast, Steps}
+use Rattle.text_lines.specs.Memory.{stageOf, Keeps}
 use Rattle.text_prints.proofs.Sizes.{refused-size, record-size}
 
 -- R and A are short
-protein-size : (r : Reference) → referenceRefusal (limits .longest) r ≡ 0 → length (referenceProtein r) ≤ 5461
+protein-size : (r : Reference) → referenceRefusal (textLimits .longest) r ≡ 0 → length (referenceProtein r) < proteinRoom
 unfolding codons cdsSize size
 protein-size r h =
-    let a = accepted (limits .longest) r h in
-    let p = protein-read (limits .longest) r h in
+    let a = accepted (textLimits .longest) r h in
+    let p = protein-read (textLimits .longest) r h in
     omega (arith, p .whole, a .fits, a .bounds .first, a .bounds .inside)
 
-altered-size : (r : Reference) (e : Asked) → refusal limits r e ≡ 0 → length (alteredProtein r e) ≤ 10923
+altered-size : (r : Reference) (e : Asked) → refusal textLimits r e ≡ 0 → length (alteredProtein r e) ≤ alteredRoom
 unfolding residueCount
 altered-size r e h =
-    let a = reference-accepted limits r e h in
-    omega (arith, altered-room limits r e h, altered-fits limits r e h, a .bounds .first)
+    let a = reference-accepted textLimits r e h in
+    omega (arith, altered-room textLimits r e h, altered-fits textLimits r e h, a .bounds .first)
 
-answer-size : (r : Reference) → referenceRefusal (limits .longest) r ≡ 0 → (o : Option Asked) → length (editAnswer r o) ≤ 16414
+answer-size : (r : Reference) → referenceRefusal (textLimits .longest) r ≡ 0 → (o : Option Asked) → length (editAnswer r o) < answerRoom
 unfolding editAnswer answerLine recordUnless unless
 answer-size r h none = omega (arith, refused-size 30)
-answer-size r h (some e) = by (refusal limits r e) refl
+answer-size r h (some e) = by (refusal textLimits r e) refl
   where
-    by : (n : ℕ) → refusal limits r e ≡ n → length (answerLine (unless n (recordOf r e)) (referenceProtein r) (alteredProtein r e)) ≤ 16414
+    by : (n : ℕ) → refusal textLimits r e ≡ n → length (answerLine (unless n (recordOf r e)) (referenceProtein r) (alteredProtein r e)) < answerRoom
     by zero z = omega (arith, record-size (recordOf r e) (referenceProtein r) (alteredProtein r e), protein-size r h, altered-size r e z)
     by (suc n) z = omega (arith, refused-size (suc n))
 
 -- a line with its end
-one-line : (l : List ℕ) (n : ℕ) → length l ≤ n → length (unlines (l ∷ [])) ≤ n + 1
+one-line : (l : List ℕ) → length l < answerRoom → length (unlines (l ∷ [])) ≤ answerRoom
 unfolding unlines
-one-line l n h = omega (arith, length-append l (lineFeed ∷ []))
+one-line l h = omega (arith, length-append l (lineFeed ∷ []))
 
-first-size : (o : Option Reference) → length (unlines (answersOf o [])) ≤ 16415
+first-size : (o : Option Reference) → length (unlines (answersOf o [])) ≤ answerRoom
 unfolding answersOf answersFrom
-first-size none = one-line (refusedLine 30) 16414 (omega (arith, refused-size 30))
-first-size (some r) = by (referenceRefusal (limits .longest) r) refl
+first-size none = one-line (refusedLine 30) (omega (arith, refused-size 30))
+first-size (some r) = by (referenceRefusal (textLimits .longest) r) refl
   where
-    by : (n : ℕ) → referenceRefusal (limits .longest) r ≡ n → length (unlines (answersFrom n r [])) ≤ 16415
-    by zero z = one-line (bytes "reference " ++ referenceProtein r) 16414 (omega (arith, protein-size r z))
-    by (suc n) z = one-line (refusedLine (suc n)) 16414 (omega (arith, refused-size (suc n)))
+    by : (n : ℕ) → referenceRefusal (textLimits .longest) r ≡ n → length (unlines (answersFrom n r [])) ≤ answerRoom
+    by zero z = one-line (bytes "reference " ++ referenceProtein r) (omega (arith, protein-size r z))
+    by (suc n) z = one-line (refusedLine (suc n)) (omega (arith, refused-size (suc n)))
 
--- whatever the stage: 16,415 bytes are room for any answer
-line-size : (p : Phase) (l letters protein : List ℕ) → KnownBy p letters protein → length (answered (stageBy p l letters)) ≤ 16415
+-- whatever the stage
+line-size : (p : Phase) (l letters protein : List ℕ) → KnownIn p letters protein → length (answered (stageBy p l letters)) ≤ answerRoom
 unfolding answered answers editLineAnswer exceptionList
 line-size Opening l letters protein k = first-size (if fitsLine l then referenceLine l else none)
-line-size (Behind (Edits known size)) l letters protein k =
-    one-line (editLineAnswer (bare (take size letters) (known .cds)) l) 16414
+line-size (Editing known size) l letters protein k =
+    one-line (editLineAnswer (bare (take size letters) (known .cds)) l)
     (answer-size (bare (take size letters) (known .cds)) (k .2 .accepted) (if fitsLine l then editLine l else none))
-line-size (Behind Nothing) l letters protein k = omega arith
+line-size Ended l letters protein k = omega arith
 
-pub answered-size : (s : State) (line letters protein : List ℕ) → Holds s line letters protein → length (answered (stageOf s line letters)) ≤ 16415
+pub answered-size : (s : State) (line letters protein : List ℕ) → Keeps s letters protein → length (answered (stageOf s line letters)) ≤ answerRoom
 answered-size s line letters protein h = line-size (s .phase) (take (s .held) line) letters protein (h .known)
 
-pub last-size : (s : State) (line letters protein : List ℕ) → Holds s line letters protein → length (printedLast (stageOf s line letters)) ≤ 16415
+pub last-size : (s : State) (line letters protein : List ℕ) → Keeps s letters protein → length (printedLast (stageOf s line letters)) ≤ answerRoom
 unfolding printedLast
 last-size s line letters protein h = by (isNone (lineOf (stageOf s line letters)))
   where
-    by : (t : Bool) → length (if t then [] else answered (stageOf s line letters)) ≤ 16415
+    by : (t : Bool) → length (if t then [] else answered (stageOf s line letters)) ≤ answerRoom
     by true = omega arith
     by false = answered-size s line letters protein h
 
@@ -97,8 +99,8 @@ one-byte x (b ∷ s) = by (eqb b lineFeed)
     by true = omega (arith, length-append (answered x) [])
     by false = omega arith
 
-pub takes-some : (s : State) (line letters protein : List ℕ) → Holds s line letters protein → (x : Stage) (input : List ℕ) (t u : ℕ) (old out : List ℕ)
-    → Steps (stageOf s line letters) x input t u old out → 16415 ≤ length old → 1 ≤ length input → 1 ≤ t
+pub takes-some : (s : State) (line letters protein : List ℕ) → Keeps s letters protein → (x : Stage) (input : List ℕ) (t u : ℕ) (old out : List ℕ)
+    → Steps (stageOf s line letters) x input t u old out → answerRoom ≤ length old → 1 ≤ length input → 1 ≤ t
 takes-some s line letters protein h x input t u old out k room there = by t refl
   where
     by : (n : ℕ) → t ≡ n → 1 ≤ t

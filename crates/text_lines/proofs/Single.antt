@@ -6,7 +6,8 @@ use Prim.Native.Nat.{ℕ, _+_, _-_, _≤_, _<_}
 use native.Mathlib.Omega.{arith}
 use lib.ListN.{length, take, drop, length-append}
 use lib.Seq.{take-add}
-use Rattle.text_lines.specs.Stages.{Stage, after, printed, Steps}
+use Rattle.text_answers.specs.Stage.{Stage}
+use Rattle.text_lines.specs.Steps.{after, printed, Steps}
 use Rattle.text_lines.proofs.Pieces.{printed-append}
 
 -- more bytes print no less
@@ -20,7 +21,7 @@ printed-grows x input m n h =
 -- no step takes less than another
 no-less : (x x₁ x₂ : Stage) (input : List ℕ) (t₁ t₂ u₁ u₂ : ℕ) (old out₁ out₂ : List ℕ) → Steps x x₁ input t₁ u₁ old out₁ → Steps x x₂ input t₂ u₂ old out₂ → t₁ < t₂ → ⊥
 no-less x x₁ x₂ input t₁ t₂ u₁ u₂ old out₁ out₂ a b h =
-    let most = a .most (omega (arith, b .moves .within)) in
+    let most = a .most (omega (arith, b .moves .inside)) in
     omega (arith, most, printed-grows x input (t₁ + 1) t₂ (omega arith), b .moves .counts, b .moves .fits)
 
 pub record Alike (x₁ x₂ : Stage) (t₁ t₂ u₁ u₂ : ℕ) (out₁ out₂ : List ℕ) : Type 0 where

@@ -9,11 +9,11 @@ use lib.Dec.{eqb}
 use borrow.Author.Tests.{eqb-true}
 use Rattle.rules.specs.Bytes.{if_then_else_, bytes}
 use Rattle.rules.specs.Reference.{Reference, referenceProtein}
-use Rattle.rules.specs.Refusal.{limits, referenceRefusal}
-use Rattle.rules.specs.Line.{referenceLine, fitsLine}
+use Rattle.rules.specs.Refusal.{referenceRefusal}
+use Rattle.rules.specs.Line.{textLimits, referenceLine, fitsLine}
 use Rattle.rules.specs.Run.{refusedLine, editLineAnswer, answersFrom, answersOf, answers, lineFeed, linesFrom, lines, unlines, run}
-use Rattle.text_answers.specs.Lines.{acceptedBy, accepted}
-use Rattle.text_lines.specs.Stages.{Stage, opening, editing, ended, start, kept, longer, behindFirst, nextLine, answered, after, printed, printedLast}
+use Rattle.text_answers.specs.Stage.{Stage, opening, editing, ended, start, acceptedBy, accepted, behindFirst, nextLine, answered}
+use Rattle.text_lines.specs.Steps.{kept, longer, after, printed, printedLast}
 use Rattle.text_lines.proofs.Kept.{kept-front, kept-fits, kept-unfit}
 use Rattle.text_lines.proofs.Pieces.{after-append, printed-append, after-ended, printed-ended}
 
@@ -102,7 +102,7 @@ first-all : (o : Option Reference) (s : List ℕ) → ((r : Reference) → print
     → unlines (answersOf o []) ++ printedAll (behindFirst (accepted o)) s ≡ unlines (answersOf o (linesFrom [] s))
 unfolding answersOf accepted acceptedBy behindFirst kept answersFrom
 first-all none s h = ap (λ (t : List ℕ). unlines (refusedLine 30 ∷ []) ++ t) (ended-all s) ∙ append-nil (unlines (refusedLine 30 ∷ []))
-first-all (some r) s h = by (referenceRefusal (limits .longest) r)
+first-all (some r) s h = by (referenceRefusal (textLimits .longest) r)
   where
     by : (n : ℕ) → unlines (answersFrom n r []) ++ printedAll (behindFirst (acceptedBy n r)) s ≡ unlines (answersFrom n r (linesFrom [] s))
     by zero = rw (h r) (unlines-more (bytes "reference " ++ referenceProtein r) (map (editLineAnswer r) (linesFrom [] s)))

@@ -1,3 +1,3 @@
--- What only this crate's contracts want said.
-pub mod Stages
+-- What only this crate's contracts, and those above it, want said.
+pub mod Steps
 pub mod Memory

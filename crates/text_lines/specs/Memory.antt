@@ -1,48 +1,47 @@
 -- What is kept between two steps: a state, and the buffers that are lent to each.
-use Prim.Native.Nat.{ℕ, _≤_}
+use Prim.Native.Nat.{ℕ, _≤_, _<_}
 use mathlib.Core.Path.{_≡_}
-use mathlib.Core.Bool.{Bool, true, false}
-use mathlib.Core.List.{List}
+use mathlib.Core.List.{List, []}
 use lib.ListN.{length, take}
-use Rattle.rules.specs.Views.{bare}
-use Rattle.text_answers.specs.declared.Follows.{Follows}
-use Rattle.text_answers.specs.declared.Follows.the-variants.{Edits, Nothing}
-use Rattle.text_answers.specs.Lines.{KnownIn}
-use Rattle.text_lines.specs.declared.Phase.{Phase}
-use Rattle.text_lines.specs.declared.Phase.the-variants.{Opening, Behind}
+use Rattle.rules.specs.Bytes.{over}
+use Rattle.text_answers.specs.declared.Phase.{Phase}
+use Rattle.text_answers.specs.declared.Phase.the-variants.{Opening, Editing, Ended}
+use Rattle.text_answers.specs.Rooms.{lineRoom, lettersRoom, proteinRoom}
+use Rattle.text_answers.specs.Stage.{Stage, nextLine, answered}
+use Rattle.text_answers.specs.Lines.{stageBy, KnownIn}
 use Rattle.text_lines.specs.declared.State.{State}
-use Rattle.text_lines.specs.Stages.{Stage, opening, editing, ended}
-
--- the stage is `ended`
-abbrev pub isOver : Phase → Bool
-isOver Opening = false
-isOver (Behind (Edits k size)) = false
-isOver (Behind Nothing) = true
-
--- the stage of what follows the first line, with the line so far and the letters' buffer
-abbrev pub stageBehind : Follows → List ℕ → List ℕ → Stage
-stageBehind (Edits k size) l letters = editing (bare (take size letters) (k .cds)) l
-stageBehind Nothing l letters = ended
-
-abbrev pub stageBy : Phase → List ℕ → List ℕ → Stage
-stageBy Opening l letters = opening l
-stageBy (Behind f) l letters = stageBehind f l letters
+use Rattle.text_lines.specs.Steps.{Moves, Full}
 
 abbrev pub stageOf : State → List ℕ → List ℕ → Stage
 stageOf s line letters = stageBy (s .phase) (take (s .held) line) letters
 
-abbrev pub KnownBy : Phase → List ℕ → List ℕ → Type 0
-KnownBy Opening letters protein = Unit
-KnownBy (Behind f) letters protein = KnownIn f letters protein
+-- what is held behind the first line's end: nothing of an edit line; the line itself, where it was refused
+abbrev pub heldBehind : Phase → ℕ → ℕ
+heldBehind Opening n = 0
+heldBehind (Editing k size) n = 0
+heldBehind Ended n = n
 
 -- the buffers have room for the longest line, and for the letters and R of the longest reference
 pub record Rooms (line letters protein : List ℕ) : Type 0 where
-  pub for-line : length line ≡ 20481
-  pub for-letters : length letters ≡ 16384
-  pub for-protein : length protein ≡ 5462
+  pub for-line : length line ≡ lineRoom
+  pub for-letters : length letters ≡ lettersRoom
+  pub for-protein : length protein ≡ proteinRoom
 
 -- what a step finds and leaves
-pub record Holds (s : State) (line letters protein : List ℕ) : Type 0 where
-  pub rooms : Rooms line letters protein
-  pub short : s .held ≤ 20481
-  pub known : KnownBy (s .phase) letters protein
+pub record Keeps (s : State) (letters protein : List ℕ) : Type 0 where
+  pub short : s .held ≤ lineRoom
+  pub known : KnownIn (s .phase) letters protein
+
+-- A first line's end, answered into the output: nothing is put out where there is no room.
+pub record Put (x : Stage) (p : Phase) (size : ℕ) (letters protein out out′ : List ℕ) : Type 0 where
+  pub full : size ≡ 0 → (length out < length (answered x)) × (out′ ≡ out)
+  pub counts : (size ≡ 0 → ⊥) → size ≡ length (answered x)
+  pub prints : (size ≡ 0 → ⊥) → out′ ≡ over (answered x) out
+  pub reaches : (size ≡ 0 → ⊥) → stageBy p [] letters ≡ nextLine x
+  pub known : (size ≡ 0 → ⊥) → KnownIn p letters protein
+
+-- A step up to the first line's end; where the line goes on, all is taken, or there is no room for its answer.
+pub record Begins (x : Stage) (s : State) (line letters input : List ℕ) (taken used : ℕ) (out out′ : List ℕ) : Type 0 where
+  pub room : length line ≡ lineRoom
+  pub moves : Moves x (stageOf s line letters) input taken used out out′
+  pub stays : s .phase ≡ Opening → Full x input taken out

@@ -1,106 +1,168 @@
 // The edit lines of a reference.
-use crate::Phase;
-use crate::State;
-use crate::Stepped;
-use crate::gather::hold;
-use altseq::Known;
-use codons::complement::complements;
-use codons::letters::folded_sets;
-use codons::tables::plain_code;
-use codons::tables::residues_of;
-use text_answers::Follows;
+use crate::gather::gather;
+use crate::gather::put;
+use reference::Known;
+use rules::Written;
+use text_answers::ALTERED;
+use text_answers::Phase;
+use text_answers::TRANSCRIPT;
 use text_answers::answer_edit;
 ghost use mathlib.Core.Path.{_≡_};
-ghost use Prim.Native.Nat.{_≤_};
+ghost use mathlib.Core.Bool.{true, false};
+ghost use Prim.Native.Nat.{_≤_, _<_};
 ghost use lib.ListN.{length, take};
-ghost use Rattle.rules.specs.Refusal.{limits};
-ghost use Rattle.codons.specs.Tables.{foldedSet, HoldsSets, HoldsCode, HoldsPlain, HoldsComplements};
+ghost use Rattle.rules.specs.Bytes.{over};
+ghost use Rattle.rules.specs.Answer.{writtenOf, bytesOf};
+ghost use Rattle.rules.specs.Line.{textLimits};
 ghost use Rattle.rules.specs.Views.{bare};
-ghost use Rattle.altseq.specs.Known.{Knows};
-ghost use Rattle.text_lines.specs.Stages.{editing, Steps};
-ghost use Rattle.text_answers.specs.Lines.{noExceptions, KnownIn, Ample};
-ghost use Rattle.text_lines.specs.Memory.{stageOf, Rooms, Holds};
+ghost use Rattle.reference.specs.Known.{Knows};
+ghost use Rattle.text_answers.specs.Rooms.{lineRoom, Ample};
+ghost use Rattle.text_answers.specs.Stage.{editing, answered};
+ghost use Rattle.text_answers.specs.Lines.{noExceptions, KnownIn};
+ghost use Rattle.text_lines.specs.Steps.{within, Full, Moves, Steps};
 
-// The bytes of the line so far, and those that were taken and put out.
-struct Moved {
+// What is known of the reference, and how many bytes of the line so far are held.
+struct Kept {
+    known: Known,
+    held: usize,
+}
+
+// The bytes of the line so far, and those that were taken and put out. `answered` is whether a line ended and was answered.
+struct Turn {
     held: usize,
     taken: usize,
     used: usize,
+    answered: bool,
 }
 
-fn edit_lines(
-    held: usize,
-    line: &mut [u8],
+pub(crate) struct Moved {
+    pub held: usize,
+    pub taken: usize,
+    pub used: usize,
+}
+
+// The answer to an edit line, put out, or 15.
+fn answer_line(
+    line: &[u8],
     letters: &[u8],
     known: Known,
     protein: &[u8],
-    sets: &[u8; 256],
-    lut: &[u8; 4096],
-    code: &[u8; 64],
-    pairs: &[u8; 32],
-    tx: &mut [u8],
-    rp: &mut [u8],
-    ap: &mut [u8],
+    transcript: &mut [u8],
+    altered: &mut [u8],
+    out: &mut [u8],
+) -> Written
+    requires { ⌜ Knows textLimits (now letters) known noExceptions (now protein) ⌝ }
+    requires { ⌜ Ample (now transcript) (now altered) ⌝ }
+    ensures { λ r. ⌜ r ≡ writtenOf (within (answered (editing (bare (now (letters .entry)) (known .cds)) (now (line .entry)))) (length (now (out .entry)))) ⌝ }
+    ensures { λ _. ⌜ now (out .exit) ≡ over (bytesOf (within (answered (editing (bare (now (letters .entry)) (known .cds)) (now (line .entry)))) (length (now (out .entry))))) (now (out .entry)) ⌝ }
+{
+    let size = answer_edit(line, letters, known, protein, transcript, altered);
+    put(&transcript[..size], out)
+}
+
+// Takes the bytes of one line, and its end too if there is room for its answer.
+fn edit_line(
+    begun: Kept,
+    line: &mut [u8],
+    letters: &[u8],
+    protein: &[u8],
+    transcript: &mut [u8],
+    altered: &mut [u8],
     input: &[u8],
     out: &mut [u8],
-) -> Moved
-    requires { ⌜ (length (now line) ≡ 20481) × (held ≤ 20481) ⌝ }
-    requires { ⌜ Knows limits (now letters) known noExceptions (now protein) ⌝ }
-    requires { ⌜ HoldsSets foldedSet (now sets) ⌝ }
-    requires { ⌜ HoldsCode (known .cds .table) (now lut) ⌝ }
-    requires { ⌜ HoldsPlain (known .cds .table) (now code) ⌝ }
-    requires { ⌜ HoldsComplements (now pairs) ⌝ }
-    requires { ⌜ Ample (now tx) (now rp) (now ap) ⌝ }
-    ensures { λ r. ⌜ r .held ≤ 20481 ⌝ }
-    ensures { λ r. ⌜ Steps (editing (bare (now (letters .entry)) (known .cds)) (take held (now (line .entry))))
-        (editing (bare (now (letters .entry)) (known .cds)) (take (r .held) (now (line .exit))))
+) -> Turn
+    requires { ⌜ (length (now line) ≡ lineRoom) × (begun .held ≤ lineRoom) ⌝ }
+    requires { ⌜ Knows textLimits (now letters) (begun .known) noExceptions (now protein) ⌝ }
+    requires { ⌜ Ample (now transcript) (now altered) ⌝ }
+    ensures { λ r. ⌜ r .held ≤ lineRoom ⌝ }
+    ensures { λ r. ⌜ Moves (editing (bare (now (letters .entry)) (begun .known .cds)) (take (begun .held) (now (line .entry))))
+        (editing (bare (now (letters .entry)) (begun .known .cds)) (take (r .held) (now (line .exit))))
         (now (input .entry)) (r .taken) (r .used) (now (out .entry)) (now (out .exit)) ⌝ }
+    ensures { λ r. ⌜ (r .answered ≡ true → 0 < r .taken) ⌝ }
+    ensures { λ r. ⌜ (r .answered ≡ false → Full (editing (bare (now (letters .entry)) (begun .known .cds)) (take (begun .held) (now (line .entry))))
+        (now (input .entry)) (r .taken) (now (out .entry))) ⌝ }
 {
-    let mut n = held;
-    let mut used = 0;
-    let mut at = 0;
-    while at < input.len() {
-        let end = bytes::scan::find(input, at, input.len(), b'\n');
-        n = hold(line, n, &input[at..end]);
-        if end == input.len() {
-            return Moved {
-                held: n,
-                taken: end,
-                used,
-            };
-        }
-        let size = answer_edit(
-            &line[..n],
-            letters,
-            known,
-            protein,
-            sets,
-            lut,
-            code,
-            pairs,
-            tx,
-            rp,
-            ap,
-        );
-        if out.len() - used < size {
-            return Moved {
-                held: n,
-                taken: end,
-                used,
-            };
-        }
-        used = used + bytes::copy(&tx[..size], &mut out[used..]);
-        n = 0;
-        at = end + 1;
+    let got = gather(line, begun.held, input);
+    let held = got.held;
+    let taken = got.taken;
+    if taken == input.len() {
+        return Turn {
+            held,
+            taken,
+            used: 0,
+            answered: false,
+        };
     }
-    Moved {
-        held: n,
-        taken: at,
-        used,
+    let behind = taken + 1;
+    match answer_line(
+        &line[..held],
+        letters,
+        begun.known,
+        protein,
+        transcript,
+        altered,
+        out,
+    ) {
+        Written::Refused(_) => Turn {
+            held,
+            taken,
+            used: 0,
+            answered: false,
+        },
+        Written::Bytes(used) => Turn {
+            held: 0,
+            taken: behind,
+            used,
+            answered: true,
+        },
     }
 }
 
-// Loads the tables of the reference's code once, for all lines of a piece.
+// Takes line by line, as far as there is room for the answers.
+fn edit_lines(
+    begun: Kept,
+    line: &mut [u8],
+    letters: &[u8],
+    protein: &[u8],
+    transcript: &mut [u8],
+    altered: &mut [u8],
+    input: &[u8],
+    out: &mut [u8],
+) -> Moved
+    requires { ⌜ (length (now line) ≡ lineRoom) × (begun .held ≤ lineRoom) ⌝ }
+    requires { ⌜ Knows textLimits (now letters) (begun .known) noExceptions (now protein) ⌝ }
+    requires { ⌜ Ample (now transcript) (now altered) ⌝ }
+    ensures { λ r. ⌜ r .held ≤ lineRoom ⌝ }
+    ensures { λ r. ⌜ Steps (editing (bare (now (letters .entry)) (begun .known .cds)) (take (begun .held) (now (line .entry))))
+        (editing (bare (now (letters .entry)) (begun .known .cds)) (take (r .held) (now (line .exit))))
+        (now (input .entry)) (r .taken) (r .used) (now (out .entry)) (now (out .exit)) ⌝ }
+{
+    let known = begun.known;
+    let mut held = begun.held;
+    let mut taken = 0;
+    let mut used = 0;
+    while taken < input.len() {
+        let turn = edit_line(
+            Kept { known, held },
+            line,
+            letters,
+            protein,
+            transcript,
+            altered,
+            &input[taken..],
+            &mut out[used..],
+        );
+        held = turn.held;
+        taken = taken + turn.taken;
+        used = used + turn.used;
+        if !turn.answered {
+            return Moved { held, taken, used };
+        }
+    }
+    Moved { held, taken, used }
+}
+
+// The edit lines of a piece, with working room for their answers.
 pub(crate) fn edit_some(
     known: Known,
     size: usize,
@@ -110,46 +172,25 @@ pub(crate) fn edit_some(
     protein: &[u8],
     input: &[u8],
     out: &mut [u8],
-) -> Stepped
-    requires { ⌜ Rooms (now line) (now letters) (now protein) ⌝ }
-    requires { ⌜ held ≤ 20481 ⌝ }
-    requires { ⌜ KnownIn (Follows.Edits known size) (now letters) (now protein) ⌝ }
-    ensures { λ r. ⌜ Holds (r .state) (now (line .exit)) (now (letters .entry)) (now (protein .entry)) ⌝ }
+) -> Moved
+    requires { ⌜ (length (now line) ≡ lineRoom) × (held ≤ lineRoom) ⌝ }
+    requires { ⌜ KnownIn (Phase.Editing known size) (now letters) (now protein) ⌝ }
+    ensures { λ r. ⌜ r .held ≤ lineRoom ⌝ }
     ensures { λ r. ⌜ Steps (editing (bare (take size (now (letters .entry))) (known .cds)) (take held (now (line .entry))))
-        (stageOf (r .state) (now (line .exit)) (now (letters .entry)))
+        (editing (bare (take size (now (letters .entry))) (known .cds)) (take (r .held) (now (line .exit))))
         (now (input .entry)) (r .taken) (r .used) (now (out .entry)) (now (out .exit)) ⌝ }
 {
-    let cds = known.cds;
     let residues = known.residues;
-    let sets = folded_sets();
-    let lut = residues_of(cds.table);
-    let code = plain_code(cds.table);
-    let pairs = complements();
-    let mut tx = [0u8; 32768];
-    let mut rp = [0u8; 10923];
-    let mut ap = [0u8; 10923];
-    let moved = edit_lines(
-        held,
+    let mut transcript = [0u8; TRANSCRIPT];
+    let mut altered = [0u8; ALTERED];
+    edit_lines(
+        Kept { known, held },
         line,
         &letters[..size],
-        known,
         &protein[..residues],
-        &sets,
-        &lut,
-        &code,
-        &pairs,
-        &mut tx,
-        &mut rp,
-        &mut ap,
+        &mut transcript,
+        &mut altered,
         input,
         out,
-    );
-    Stepped {
-        state: State {
-            phase: Phase::Behind(Follows::Edits { known, size }),
-            held: moved.held,
-        },
-        taken: moved.taken,
-        used: moved.used,
-    }
+    )
 }

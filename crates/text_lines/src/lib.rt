@@ -7,23 +7,19 @@ mod open;
 use edit::edit_some;
 use open::open_some;
 use rules::Written;
-use text_answers::Follows;
+use text_answers::Phase;
 ghost use mathlib.Core.Path.{_≡_};
-ghost use Prim.Native.Nat.{_≤_};
-ghost use lib.ListN.{length, take};
+ghost use mathlib.Core.List.{List};
+ghost use Prim.Native.Nat.{ℕ, _≤_};
+ghost use lib.ListN.{length};
 ghost use Rattle.rules.specs.Bytes.{over};
 ghost use Rattle.rules.specs.Answer.{writtenOf, bytesOf};
-ghost use Rattle.text_answers.specs.Lines.{KnownIn};
-ghost use Rattle.text_lines.specs.Stages.{opening, last, Steps};
-ghost use Rattle.text_lines.specs.Memory.{isOver, stageBehind, stageOf, Rooms, Holds};
+ghost use Rattle.text_answers.specs.Rooms.{lineRoom};
+ghost use Rattle.text_answers.specs.Stage.{Stage, isEnded};
+ghost use Rattle.text_lines.specs.Steps.{last, Steps};
+ghost use Rattle.text_lines.specs.Memory.{stageOf, Rooms, Keeps, Begins};
 
-// Before the first line's end, or behind it.
-pub enum Phase {
-    Opening,
-    Behind(Follows),
-}
-
-// `held` bytes of the line so far are kept; 20,481 stand for any larger number.
+// `held` bytes of the line so far are kept, of a refused first line too; one more than the longest line has stands for any larger number.
 pub struct State {
     pub phase: Phase,
     pub held: usize,
@@ -38,53 +34,19 @@ pub struct Stepped {
 
 // Whether the run has ended: whatever comes is answered nothing.
 pub fn is_over(state: State) -> bool
-    ensures { λ r. ⌜ r ≡ isOver (state .phase) ⌝ }
+    ensures { λ r. ⌜ ((line letters : List ℕ) → r ≡ isEnded (stageOf state line letters)) ⌝ }
 {
     let phase = state.phase;
     match phase {
         Phase::Opening => false,
-        Phase::Behind(follows) => match follows {
-            Follows::Edits { known: _, size: _ } => false,
-            Follows::Nothing => true,
-        },
+        Phase::Editing { known: _, size: _ } => false,
+        Phase::Ended => true,
     }
 }
 
-// A step behind the first line.
-fn step_on(
-    follows: Follows,
-    held: usize,
-    line: &mut [u8],
-    letters: &[u8],
-    protein: &[u8],
-    input: &[u8],
-    out: &mut [u8],
-) -> Stepped
-    requires { ⌜ Rooms (now line) (now letters) (now protein) ⌝ }
-    requires { ⌜ held ≤ 20481 ⌝ }
-    requires { ⌜ KnownIn follows (now letters) (now protein) ⌝ }
-    ensures { λ r. ⌜ Holds (r .state) (now (line .exit)) (now (letters .entry)) (now (protein .entry)) ⌝ }
-    ensures { λ r. ⌜ Steps (stageBehind follows (take held (now (line .entry))) (now (letters .entry))) (stageOf (r .state) (now (line .exit)) (now (letters .entry)))
-        (now (input .entry)) (r .taken) (r .used) (now (out .entry)) (now (out .exit)) ⌝ }
-{
-    match follows {
-        Follows::Edits { known, size } => {
-            edit_some(known, size, held, line, letters, protein, input, out)
-        }
-        Follows::Nothing => Stepped {
-            state: State {
-                phase: Phase::Behind(follows),
-                held,
-            },
-            taken: input.len(),
-            used: 0,
-        },
-    }
-}
-
-// A step before the first line's end, and behind it.
-fn step_first(
-    held: usize,
+// A step up to the end of the first line; behind that it takes nothing.
+fn begin(
+    state: State,
     line: &mut [u8],
     letters: &mut [u8],
     protein: &mut [u8],
@@ -92,35 +54,71 @@ fn step_first(
     out: &mut [u8],
 ) -> Stepped
     requires { ⌜ Rooms (now line) (now letters) (now protein) ⌝ }
-    requires { ⌜ held ≤ 20481 ⌝ }
-    ensures { λ r. ⌜ Holds (r .state) (now (line .exit)) (now (letters .exit)) (now (protein .exit)) ⌝ }
-    ensures { λ r. ⌜ Steps (opening (take held (now (line .entry)))) (stageOf (r .state) (now (line .exit)) (now (letters .exit)))
+    requires { ⌜ Keeps state (now letters) (now protein) ⌝ }
+    ensures { λ r. ⌜ Keeps (r .state) (now (letters .exit)) (now (protein .exit)) ⌝ }
+    ensures { λ r. ⌜ Begins (stageOf state (now (line .entry)) (now (letters .entry))) (r .state) (now (line .exit)) (now (letters .exit))
         (now (input .entry)) (r .taken) (r .used) (now (out .entry)) (now (out .exit)) ⌝ }
 {
-    let begun = open_some(held, line, letters, protein, input, out);
-    let reached = begun.state;
-    let phase = reached.phase;
+    let phase = state.phase;
+    let nothing = Stepped {
+        state,
+        taken: 0,
+        used: 0,
+    };
+    match phase {
+        Phase::Opening => open_some(state.held, line, letters, protein, input, out),
+        Phase::Editing { known: _, size: _ } => nothing,
+        Phase::Ended => nothing,
+    }
+}
+
+// Goes on behind the first line, from where a step has begun.
+fn go_on(
+    begun: Stepped,
+    line: &mut [u8],
+    letters: &[u8],
+    protein: &[u8],
+    input: &[u8],
+    out: &mut [u8],
+) -> Stepped
+    requires { ⌜ length (now line) ≡ lineRoom ⌝ }
+    requires { ⌜ Keeps (begun .state) (now letters) (now protein) ⌝ }
+    requires { ⌜ (begun .taken ≤ length (now input)) × (begun .used ≤ length (now out)) ⌝ }
+    ensures { λ r. ⌜ Keeps (r .state) (now (letters .entry)) (now (protein .entry)) ⌝ }
+    ensures { λ r. ⌜ ((x : Stage) (old : List ℕ) → Begins x (begun .state) (now (line .entry)) (now (letters .entry)) (now (input .entry)) (begun .taken) (begun .used) old (now (out .entry))
+        → Steps x (stageOf (r .state) (now (line .exit)) (now (letters .entry))) (now (input .entry)) (r .taken) (r .used) old (now (out .exit))) ⌝ }
+{
+    let state = begun.state;
+    let phase = state.phase;
     let taken = begun.taken;
     let used = begun.used;
     match phase {
         Phase::Opening => begun,
-        Phase::Behind(follows) => {
-            let more = step_on(
-                follows,
-                reached.held,
+        Phase::Editing { known, size } => {
+            let moved = edit_some(
+                known,
+                size,
+                state.held,
                 line,
                 letters,
                 protein,
                 &input[taken..],
                 &mut out[used..],
             );
-            let state = more.state;
             Stepped {
-                state,
-                taken: taken + more.taken,
-                used: used + more.used,
+                state: State {
+                    phase,
+                    held: moved.held,
+                },
+                taken: taken + moved.taken,
+                used: used + moved.used,
             }
         }
+        Phase::Ended => Stepped {
+            state,
+            taken: input.len(),
+            used,
+        },
     }
 }
 
@@ -133,18 +131,35 @@ pub fn step(
     input: &[u8],
     out: &mut [u8],
 ) -> Stepped
-    requires { ⌜ Holds state (now line) (now letters) (now protein) ⌝ }
-    ensures { λ r. ⌜ Holds (r .state) (now (line .exit)) (now (letters .exit)) (now (protein .exit)) ⌝ }
+    requires { ⌜ Rooms (now line) (now letters) (now protein) ⌝ }
+    requires { ⌜ Keeps state (now letters) (now protein) ⌝ }
+    ensures { λ r. ⌜ Keeps (r .state) (now (letters .exit)) (now (protein .exit)) ⌝ }
     ensures { λ r. ⌜ Steps (stageOf state (now (line .entry)) (now (letters .entry))) (stageOf (r .state) (now (line .exit)) (now (letters .exit)))
         (now (input .entry)) (r .taken) (r .used) (now (out .entry)) (now (out .exit)) ⌝ }
 {
-    let phase = state.phase;
-    match phase {
-        Phase::Opening => step_first(state.held, line, letters, protein, input, out),
-        Phase::Behind(follows) => {
-            step_on(follows, state.held, line, letters, protein, input, out)
-        }
+    let begun = begin(state, line, letters, protein, input, out);
+    go_on(begun, line, letters, protein, input, out)
+}
+
+// The answer to a line that is held, as if a line feed ended it; 15 if there is no room for it.
+fn finish_line(
+    state: State,
+    line: &mut [u8],
+    letters: &mut [u8],
+    protein: &mut [u8],
+    out: &mut [u8],
+) -> Written
+    requires { ⌜ Rooms (now line) (now letters) (now protein) ⌝ }
+    requires { ⌜ Keeps state (now letters) (now protein) ⌝ }
+    requires { ⌜ (state .held ≡ 0 → ⊥) ⌝ }
+    ensures { λ r. ⌜ r ≡ writtenOf (last (stageOf state (now (line .entry)) (now (letters .entry))) (length (now (out .entry)))) ⌝ }
+    ensures { λ _. ⌜ now (out .exit) ≡ over (bytesOf (last (stageOf state (now (line .entry)) (now (letters .entry))) (length (now (out .entry))))) (now (out .entry)) ⌝ }
+{
+    let stepped = step(state, line, letters, protein, b"\n", out);
+    if stepped.taken == 0 {
+        return Written::Refused(15);
     }
+    Written::Bytes(stepped.used)
 }
 
 // At the input's end: the answer to a last line that no line feed ends; 15 if there is no room for it.
@@ -155,16 +170,13 @@ pub fn finish(
     protein: &mut [u8],
     out: &mut [u8],
 ) -> Written
-    requires { ⌜ Holds state (now line) (now letters) (now protein) ⌝ }
+    requires { ⌜ Rooms (now line) (now letters) (now protein) ⌝ }
+    requires { ⌜ Keeps state (now letters) (now protein) ⌝ }
     ensures { λ r. ⌜ r ≡ writtenOf (last (stageOf state (now (line .entry)) (now (letters .entry))) (length (now (out .entry)))) ⌝ }
     ensures { λ _. ⌜ now (out .exit) ≡ over (bytesOf (last (stageOf state (now (line .entry)) (now (letters .entry))) (length (now (out .entry))))) (now (out .entry)) ⌝ }
 {
     if state.held == 0 {
         return Written::Bytes(0);
     }
-    let stepped = step(state, line, letters, protein, b"\n", out);
-    if stepped.taken == 0 {
-        return Written::Refused(15);
-    }
-    Written::Bytes(stepped.used)
+    finish_line(state, line, letters, protein, out)
 }
