@@ -85,14 +85,7 @@ fn print_outcome(s: &[u8], edit: Edit, new: &[u8]) {
     let mut transcript = [b'.'; TRANSCRIPT_ROOM];
     let mut reference = [b'.'; REFERENCE_ROOM];
     let mut altered = [b'.'; ALTERED_ROOM];
-    let answer = build_altseq_stored(
-        s,
-        edit,
-        new,
-        &mut transcript,
-        &mut reference,
-        &mut altered,
-    );
+    let answer = build_altseq_stored(s, edit, new, &mut transcript, &mut reference, &mut altered);
     print_answer(answer);
     print_bytes(&transcript);
     print_bytes(&reference);

@@ -6,8 +6,8 @@ use Rattle.vectors_stored.proofs.edits.kind_of.Tie as tie
 
 returns-8 : tie.Need-returns-8
 returns-8 c =
-    kind-other (@args .number) (@match .rest .0 .0 .0 .0 .0 .0 .1) (@match .rest .0 .0 .0 .0 .0 .1) (@match .rest .0 .0 .0 .0 .1)
-    (@match .rest .0 .0 .0 .1) (@match .rest .0 .0 .1) (@match .rest .0 .1) (@match .rest .1)
+    kind-other (c .before .args .number) (c .match .rest .0 .0 .0 .0 .0 .0 .1) (c .match .rest .0 .0 .0 .0 .0 .1) (c .match .rest .0 .0 .0 .0 .1)
+    (c .match .rest .0 .0 .0 .1) (c .match .rest .0 .0 .1) (c .match .rest .0 .1) (c .match .rest .1)
 
 pub kind-of-spec : {M : Type 1} → statement M
 kind-of-spec =
