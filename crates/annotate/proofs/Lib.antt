@@ -1,0 +1,2 @@
+-- Laws that this program's proofs cite.
+mod Turning

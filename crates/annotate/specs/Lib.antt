@@ -1,0 +1,2 @@
+-- What only this program's contracts want said.
+pub mod Turns
