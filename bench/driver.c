@@ -335,6 +335,8 @@ static void translations(uint64_t len, int strewn)
     make_letters(len);
     if (strewn)
         strew(len);
+    /* a reference ends with a stop, or it is refused (6) before R is read */
+    memcpy(letters + ref.ce - 3, "TAA", 3);
     check_translation();
     const double *best = best_of((call[]){ours_translate, rust_translate, c_translate, ours_check, ours_letters}, 5);
     snprintf(what, sizeof what, "%lu %s", (unsigned long)len, strewn ? "with ambiguous letters" : "plain");

@@ -236,6 +236,39 @@ def check_room(ref, altered, transcript, reference, protein):
     refuse(12, reference < (ref.ce - ref.cs + 1) // 3 or protein < -(-behind // 3))
 
 
+# The functions that stand alone
+
+NAMES = dict(zip("ARNDCQEGHILKMFPSTWYVUXBZ*", "Ala Arg Asn Asp Cys Gln Glu Gly His Ile Leu Lys Met Phe Pro Ser Thr Trp Tyr Val Sec Xaa Asx Glx Ter".split()))
+
+
+def plain_translation(table, exceptions, full, text, room):
+    refuse(4, table not in (0, 1, 2))
+    refuse(5, len(exceptions) > MOST_EXCEPTIONS or any(number < 1 or not is_residue(x) for number, x in exceptions))
+    refuse(14, full and len(text) % 3 != 0)
+    refuse(15, room < -(-len(text) // 3))
+    letters = "".join(chr(ord(c) - 32) if "a" <= c <= "z" else c for c in text).replace("U", "T")
+    refuse(2, any(letter not in LETTERS for letter in letters[:len(text) // 3 * 3]))
+    return translated(table, letters, exceptions)
+
+
+def names_of(residues, room):
+    refuse(15, any(x not in NAMES for x in residues) or room < 3 * len(residues))
+    return "".join(NAMES[x] for x in residues)
+
+
+def residues_of(names, room):
+    back = {name: x for x, name in NAMES.items()}
+    each = [names[i:i + 3] for i in range(0, len(names), 3)]
+    refuse(15, any(name not in back for name in each) or room < len(each))
+    return "".join(back[name] for name in each)
+
+
+def complement_alone(text, room):
+    refuse(15, room < len(text))
+    refuse(2, any(letter not in LETTERS for letter in text))
+    return reverse_complement(text)
+
+
 # Stored reference
 
 def stored(data):

@@ -260,6 +260,7 @@ static void rows(void)
         {"4_*2dup", &W, STAR(DUPLICATION, 4, 2), "silent 1 M M", 1, "GGATGGCCAAATGGTAACCGCCAAATGGTAACCTGAC", "MAKW*"},
         {"12_13insAAA", &W, TWO_NEW(INSERTION, 12, 13, "AAA"), "insertion 5 - K", 0, "GGATGGCCAAATGGAAATAACCTGAC", "MAKWK*"},
         {"10_12del", &W, TWO(DELETION, 10, 12), "stop-gained 4 W -", 0, "GGATGGCCAAATAACCTGAC", "MAK*"},
+        {"4_9del", &W, TWO(DELETION, 4, 9), "deletion 2 AK -", 0, "GGATGTGGTAACCTGAC", "MW*"},
         {"4_9delinsTT", &W, TWO_NEW(DELINS, 4, 9, "TT"), "frameshift 2 AKW* FGNLX", 1, "GGATGTTTGGTAACCTGAC", "MFGNLX"},
         {"4_6delinsGGGGGG", &W, TWO_NEW(DELINS, 4, 6, "GGGGGG"), "delins 2 A GG", 0, "GGATGGGGGGGAAATGGTAACCTGAC", "MGGKW*"},
         {"3_4insTRA", &SHORT, TWO_NEW(INSERTION, 3, 4, "TRA"), "silent 1 M M", 0, "ATGTRATAA", "M*"},

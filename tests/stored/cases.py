@@ -75,6 +75,30 @@ def built():
         yield f"size {size}", form(b"A" * (size - 3) + b"TAA", size % 3 + 1, size)
 
 
+def spelled():
+    """One byte string after another: fields cut off, unknown tags, fields missing, wrong lengths, the order of these; then references that break a rule."""
+    one, two, three = FIELDS[1], FIELDS[2], FIELDS[3]
+    whole, empty = one + two + three, field(4, b"")
+    head = lambda tag, size: bytes([tag, size // 256, size % 256])
+    cut = [head(1, 1), head(1, 256), one[:-1], one + b"\2", one + head(2, 4), one + two + head(3, 1)]
+    cut += [whole + b for b in (b"\5", b"\3", b"\4", b"\0", b"\1", b"\377", b"\4\0", b"\5\0", head(4, 3), head(4, 3) + b"\0\1", head(5, 3))]
+    tags = [b"\0", b"\5", head(0, 0), head(5, 0), whole + empty + empty, whole + head(5, 0), whole + head(0, 0), whole + empty + b"\n"]
+    missing = [two + three + empty, empty, one + two + empty]
+    sizes = [one + field(2, b"\0\1\0") + three, one + field(2, b"\0\1\0\6\0") + three, one + head(2, 5) + two[3:], one + field(2, b"\0\1\0\6\0")]
+    sizes += [one + head(2, 0) + three, one + two + head(3, 0), one + two + field(3, b"\0\0"), whole + field(4, b"\0\1M\0"), head(2, 0)]
+    order = [one + head(2, 0) + b"\5", one + head(2, 0) + b"\3", one + head(3, 0) + two, three + b"\2", head(2, 9 * 257), one + head(1, 9 * 257)]
+    order += [one + head(5, 0) + b"\2"]
+    rules = [field(1, letters) + two + three for letters in (b"", b"ATGUAA", b"ATGtAA")]
+    rules += [one + bounds(cs, ce) + three for cs, ce in ((0, 6), (256, 1536), (6, 1), (1, 262))]
+    rules += [field(1, b"ATGUAA") + bounds(0, 6) + three]
+    rules += [form(b"ATGTAA", 1, 6, 0, [(n, ord("W")) for n in range(1, 18)])]
+    rules += [form(b"ATGTAA", 1, 6, 0, [(n, ord(r)) for n, r in es]) for es in
+              ([(2, "*")], [(0, "U")], [(3, "U")], [(257, "U")], [(1, "a")], [(2, "U")], [(2, "*"), (1, "U")], [(1, "U"), (1, "U")])]
+    for data in cut + tags + missing + sizes + order + rules:
+        yield f"spelled {data.hex()}", data
+    yield "high bytes", form(b"C" * 256 + b"ATG" + b"A" * 768 + b"TAA", 257, 1030, 2, [(255, ord("U")), (257, ord("O"))])
+
+
 def read(data):
     """The reference's numbers, and where its letters and its exceptions stand: letters behind the first head, exceptions behind the fourth."""
     try:
@@ -149,6 +173,8 @@ def cases():
     for name, data, line in edited():
         edit = account.edit_line(line)
         yield name, data, packed(edit), answered(data, edit)
+    for name, data in spelled():
+        yield name, data, b"", read(data)
 
 
 for name, data, edit, words in cases():

@@ -18,21 +18,20 @@ use Rattle.rules.specs.declared.Answer.the-variants.{Reported}
 use Rattle.rules.specs.Bytes.{over}
 use Rattle.rules.specs.Reference.{Reference, referenceProtein}
 use Rattle.rules.specs.Edit.{Asked}
+use Rattle.rules.specs.Altered.{frameshift}
 use Rattle.rules.specs.Protein.{alteredProtein}
 use Rattle.rules.specs.Record.{isUnknown, recordOf}
 use Rattle.rules.specs.Refusal.{refusal, Room, roomRefusal}
 use Rattle.rules.specs.Answer.{Outcome, writesNothing, unknownReport, fullReport, writesAll, outcomeBy, outcome, Answers}
 use Rattle.rules.proofs.Over.{read-back}
-use Rattle.rules.proofs.Demand.{Tells, Least, demand}
+use Rattle.rules.proofs.Demand.{Demand, demand}
 use Rattle.rules.proofs.Answers.{Alike, single}
 use Rattle.rules.specs.declared.Cds.{Cds}
 use Rattle.rules.specs.Views.{asked, referenceOf, roomOf}
 
--- R and A stand at the start of their buffers, as long as reported. The change tells of these bytes what demand 3 says: where its deleted part
--- gives way to its inserted part, R becomes A, and by the swap A becomes R; without the flag no other parts do it with fewer residues.
-pub record Replays (p : Report) (c : Change) (reference altered : List ℕ) : Type 0 where
-  pub tells : Tells (take (p .reference) reference) (take (p .altered) altered) c
-  pub least : p .frameshift ≡ false → Least (take (p .reference) reference) (take (p .altered) altered) c
+-- R and A stand at the start of their buffers, as long as reported, and the change tells of these bytes what demand 3 says
+abbrev pub Replays : Report → Change → List ℕ → List ℕ → Type 0
+Replays p c reference altered = Demand (p .frameshift) (take (p .reference) reference) (take (p .altered) altered) c
 
 -- a change is reported by an answer that writes all
 by-change : (a k : ℕ) (u : Bool) (o : Outcome) (p q : Report) (c : Change) → o .answer ≡ Reported q → outcomeBy a u k o .answer ≡ Reported p → p .found ≡ Changed c
@@ -52,11 +51,8 @@ module _ (m : Limits) (r : Reference) (e : Asked) (room : Room) (p : Report) (c 
       read-back (referenceProtein r) q q′ (p .reference) (ap (λ (p : Report). p .reference) (both .1)) (x .holds-reference ∙ ap (λ (o : Outcome). over (o .reference) q) (both .0)) in
       let inA : take (p .altered) s′ ≡ alteredProtein r e =
       read-back (alteredProtein r e) s s′ (p .altered) (ap (λ (p : Report). p .altered) (both .1)) (x .holds-altered ∙ ap (λ (o : Outcome). over (o .altered) s) (both .0)) in
-      let told = demand r e c (sym (ap (λ (p : Report). p .found) (both .1)) ∙ h) in
-      record {
-        tells = rw (inR, inA) (told .tells);
-        least = λ f. rw (inR, inA) (told .least (sym (ap (λ (p : Report). p .frameshift) (both .1)) ∙ f));
-      }
+      let flag : p .frameshift ≡ frameshift r e = ap (λ (p : Report). p .frameshift) (both .1) in
+      rw (inR, inA, flag) (demand r e c (sym (ap (λ (p : Report). p .found) (both .1)) ∙ h))
 
 -- two answers to one call, with the same buffers lent, are the same, and so is every byte that they leave
 pub single-answer : (m : Limits) (letters : List ℕ) (c : Cds) (x : Exceptions) (edit : Edit) (new : List ℕ) (a₁ a₂ : Answer) (t t₁ t₂ p p₁ p₂ q q₁ q₂ : List ℕ)

@@ -4,3 +4,5 @@ pub mod Sets
 pub mod Partners
 pub mod Expanded
 pub mod Agreement
+pub mod Loops
+pub mod Single

@@ -1,7 +1,7 @@
 -- Laws of the numbers that a host gives.
 -- Assumes nothing.
-use mathlib.Core.Path.{_≡_, refl, sym, ap, _∙_}
-use mathlib.Core.Bool.{Bool, true, false, _&&_}
+use mathlib.Core.Path.{_≡_, refl, ap, _∙_}
+use mathlib.Core.Bool.{true, false, _&&_}
 use Prim.Native.Nat.{ℕ, zero, suc}
 use native.Mathlib.Omega.{arith}
 use borrow.Author.Tests.{ltb-true, leb-false, eqb-true}
@@ -12,22 +12,9 @@ use mir.Syntax.{w64}
 use mir.Val.{SFits, toZ, ofZ}
 use mir.ValLaws.{toZ-ofZ}
 use Rattle.rules.specs.declared.Edit.{Edit}
-use Rattle.rules.specs.declared.Kind.the-variants as kind
 use Rattle.rules.specs.declared.Position.the-variants.{Plus, Minus, Star}
-use Rattle.rules.specs.Values.{kindAt}
 use Rattle.rules.proofs.Tests.{and-left, and-right}
 use Rattle.garumbott.specs.Host.{positionAt, editAt}
-
-pub kind-other : (n : ℕ) → (n ≡ 1 → ⊥) → (n ≡ 2 → ⊥) → (n ≡ 3 → ⊥) → (n ≡ 4 → ⊥) → (n ≡ 5 → ⊥) → (n ≡ 6 → ⊥) → (n ≡ 7 → ⊥) → kind.Other ≡ kindAt n
-kind-other zero h₁ h₂ h₃ h₄ h₅ h₆ h₇ = refl
-kind-other (suc zero) h₁ h₂ h₃ h₄ h₅ h₆ h₇ = absurd (h₁ refl)
-kind-other (suc (suc zero)) h₁ h₂ h₃ h₄ h₅ h₆ h₇ = absurd (h₂ refl)
-kind-other (suc (suc (suc zero))) h₁ h₂ h₃ h₄ h₅ h₆ h₇ = absurd (h₃ refl)
-kind-other (suc (suc (suc (suc zero)))) h₁ h₂ h₃ h₄ h₅ h₆ h₇ = absurd (h₄ refl)
-kind-other (suc (suc (suc (suc (suc zero))))) h₁ h₂ h₃ h₄ h₅ h₆ h₇ = absurd (h₅ refl)
-kind-other (suc (suc (suc (suc (suc (suc zero)))))) h₁ h₂ h₃ h₄ h₅ h₆ h₇ = absurd (h₆ refl)
-kind-other (suc (suc (suc (suc (suc (suc (suc zero))))))) h₁ h₂ h₃ h₄ h₅ h₆ h₇ = absurd (h₇ refl)
-kind-other (suc (suc (suc (suc (suc (suc (suc (suc n)))))))) h₁ h₂ h₃ h₄ h₅ h₆ h₇ = refl
 
 -- the position of each way out; p is read back from its bits
 module _ (star : ℕ) (p : ℤ) (fits : SFits w64 p) (n : ℕ) (is : n ≡ natAbs (toZ w64 (ofZ w64 p))) where

@@ -3,3 +3,4 @@ pub mod Signed
 pub mod Given
 pub mod Excepted
 pub mod Keeping
+pub mod Promised

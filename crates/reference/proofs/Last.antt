@@ -3,17 +3,16 @@
 use mathlib.Core.Path.{_≡_, refl, sym, ap, _∙_}
 use mathlib.Core.List.{List, _++_}
 use Prim.Native.Nat.{ℕ, _+_, _-_, _*_, _/_, _≤_, _<_}
-use native.Mathlib.Numerals.{add-one}
 use native.Mathlib.Omega.{arith}
 use lib.Dec.{eqb}
-use lib.ListN.{length, take, drop, getD, take-append-drop, drop-of-length-le}
-use lib.Seq.{length-take-le, drop-cons, getD-take, getD-drop, getD-at}
+use lib.ListN.{length, take, drop, getD, take-append-drop}
+use lib.Seq.{length-take-le, getD-take, getD-drop, getD-at}
 use Rattle.rules.specs.declared.Exception.{Exception}
 use Rattle.rules.specs.declared.Exceptions.{Exceptions}
-use Rattle.rules.specs.Bytes.{byte, if_then_else_}
+use Rattle.rules.specs.Bytes.{byte}
 use Rattle.rules.specs.Letters.{letterSet, isLetter}
 use Rattle.rules.specs.Codons.{codonRule, codon}
-use Rattle.rules.specs.Translation.{noException, exceptionList, excepted, residuesFrom, translated, residueCount}
+use Rattle.rules.specs.Translation.{exceptionList, excepted, residuesFrom, translated, residueCount}
 use Rattle.rules.specs.Reference.{size, cdsSize, cds, codons, referenceProtein, endsInStop}
 use Rattle.rules.proofs.Lists.{all-at}
 use Rattle.rules.proofs.Translation.{length-translated}
@@ -23,19 +22,6 @@ use Rattle.codons.proofs.Sets.{letter-some}
 use Rattle.rules.specs.declared.Cds.{Cds}
 use Rattle.rules.specs.Views.{referenceOf}
 use Rattle.reference.specs.Known.{Readable}
-
--- exceptions one at a time: those behind the first i are still to be applied
-module _ (n count : ℕ) (all : List Exception) (i found : ℕ) where
-  pub apply-one : i < count → count ≤ length all → excepted (drop i (take count all)) n found
-      ≡ excepted (drop (i + 1) (take count all)) n (if eqb (getD all i noException .codon) n then getD all i noException .residue else found)
-  unfolding excepted
-  apply-one h k =
-      let fits : i < length (take count all) = rw (length-take-le count all k) h in
-      rw (drop-cons (take count all) i noException fits, getD-take count all i noException h, add-one)
-
-  pub apply-none : count ≤ i → count ≤ length all → excepted (drop i (take count all)) n found ≡ found
-  unfolding excepted
-  apply-none h k = rw (drop-of-length-le (take count all) {i = i} (rw (length-take-le count all k) h))
 
 -- a residue of a translation, by its codon
 residue-at : (t : ℕ) (es : List Exception) (u : List ℕ) (i : ℕ) → i < length u / 3

@@ -4,39 +4,13 @@ use crate::tests::early_refusal;
 use codons::letters::letter_set;
 use codons::reader::read_codon;
 use rules::Cds;
-use rules::Exception;
 use rules::Exceptions;
+use translation::excepted_at;
 ghost use mathlib.Core.Path.{_≡_};
-ghost use Prim.Native.Nat.{_≤_, _<_};
-ghost use lib.Dec.{eqb};
-ghost use Rattle.rules.specs.Bytes.{if_then_else_};
-ghost use Rattle.rules.specs.Translation.{exceptionList, excepted};
+ghost use Prim.Native.Nat.{_<_};
 ghost use Rattle.rules.specs.Reference.{endsInStop};
 ghost use Rattle.rules.specs.Views.{referenceOf};
 ghost use Rattle.reference.specs.Known.{judgedOf, Readable};
-
-// The residue of codon n: an exception's, if it is for that codon.
-fn excepted_by(x: Exception, n: usize, residue: u8) -> u8
-    ensures { λ r. ⌜ r ≡ (if eqb (x .codon) n then x .residue else residue) ⌝ }
-{
-    if x.codon == n { x.residue } else { residue }
-}
-
-// The residue of codon n, exceptions applied, the last one counting.
-fn excepted_of(e: Exceptions, n: usize, residue: u8) -> u8
-    requires { ⌜ e .count ≤ 16 ⌝ }
-    ensures { λ r. ⌜ r ≡ excepted (exceptionList e) n residue ⌝ }
-{
-    let count = e.count;
-    let all = e.all;
-    let mut found = residue;
-    let mut i = 0;
-    while i < count {
-        found = excepted_by(all[i], n, found);
-        i += 1;
-    }
-    found
-}
 
 // Whether the last CDS codon, exceptions applied, reads `*`, where none of 1 to 5 applies.
 fn ends_in_stop(letters: &[u8], c: Cds, e: Exceptions) -> bool
@@ -48,7 +22,7 @@ fn ends_in_stop(letters: &[u8], c: Cds, e: Exceptions) -> bool
     let second = letter_set(letters[at + 1]);
     let third = letter_set(letters[at + 2]);
     let residue = read_codon(c.table, first, second, third);
-    excepted_of(e, (c.ce - (c.cs - 1)) / 3, residue) == b'*'
+    excepted_at(e, (c.ce - (c.cs - 1)) / 3, residue) == b'*'
 }
 
 // The lowest of 1 to 6 that applies, or whether the letters are plain.

@@ -1,5 +1,6 @@
 // Refusals 1 to 5: what is judged of a reference before a codon is read.
 use crate::Judged;
+use codons::letters::is_residue;
 use rules::Cds;
 use rules::Exception;
 use rules::Exceptions;
@@ -32,8 +33,7 @@ fn are_bounds(letters: &[u8], c: Cds) -> bool
 fn is_exception(x: Exception, last: usize, most: usize) -> bool
     ensures { λ r. ⌜ r ≡ isException last most x ⌝ }
 {
-    let r = x.residue;
-    (last < x.codon) & (x.codon <= most) & (((b'A' <= r) & (r <= b'Z')) | (r == b'*'))
+    (last < x.codon) & (x.codon <= most) & is_residue(x.residue)
 }
 
 // At most 16, strictly rising, of `most` codons.

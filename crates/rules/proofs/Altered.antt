@@ -6,8 +6,8 @@ use mathlib.Core.List.{List, [], _∷_, _++_}
 use Prim.Native.Nat.{ℕ, zero, suc, _+_, _-_, _*_, _≤_, max, zero-le}
 use native.Mathlib.Omega.{arith}
 use lib.Dec.{leb}
-use lib.ListN.{length, take, drop, length-append, length-take, length-drop}
-use lib.Seq.{length-take-le, take-length}
+use lib.ListN.{length, take, drop, length-append, length-take, length-drop, take-append-drop}
+use lib.Seq.{length-take-le, take-length, drop-drop}
 use borrow.Author.Tests.{leb-true}
 use Rattle.rules.specs.declared.Kind.{Kind}
 use Rattle.rules.specs.declared.Kind.the-variants.{Substitution, Deletion, Delins, Insertion, Duplication, Inversion, Identity, Other}
@@ -24,14 +24,14 @@ use Rattle.rules.proofs.Tests.{and-left, and-right, all-take, all-drop,
 use Rattle.rules.proofs.Complement.{length-complement, letters-complement}
 use Rattle.rules.proofs.Parts.{letters-part}
 use Rattle.rules.proofs.Refusal.{reference-accepted, edit-allowed}
-use Rattle.rules.proofs.Span.{Span, span}
+use Rattle.rules.proofs.Span.{Span, indexes, span}
 
 length-part : (from to : ℕ) (s : List ℕ) → length (part from to s) ≤ length s
 unfolding part
 length-part from to s = simp (length-take, length-drop) (omega arith)
 
 -- what goes in is no longer than the new bases may be or than the transcript, and has letters only
-pub record Puts (most : ℕ) (s put : List ℕ) : Type 0 where
+record Puts (most : ℕ) (s put : List ℕ) : Type 0 where
   pub fits : length put ≤ max most (length s)
   pub letters : all isLetter put ≡ true
 
@@ -70,7 +70,7 @@ puts-by Inversion most s start end new n l h = turned most start end s l
 puts-by Identity most s start end new n l h = copied most start end s l
 puts-by Other most s start end new n l h = copied most start end s l
 
-pub puts : (m : Limits) (r : Reference) (e : Asked) → refusal m r e ≡ 0 → Puts (m .most) (r .letters) (swap r e .put)
+puts : (m : Limits) (r : Reference) (e : Asked) → refusal m r e ≡ 0 → Puts (m .most) (r .letters) (swap r e .put)
 unfolding swap size
 puts m r e h =
     let a = reference-accepted m r e h in
@@ -99,14 +99,14 @@ pub length-kept : (r : Reference) (e : Asked) → length (kept r e) ≤ inserted
 unfolding inserted
 length-kept r e = omega (arith, ap length (kept-is r e) ∙ length-take (length (kept r e)) (swap r e .put))
 
-pub letters-kept : (r : Reference) (e : Asked) → all isLetter (swap r e .put) ≡ true → all isLetter (kept r e) ≡ true
+letters-kept : (r : Reference) (e : Asked) → all isLetter (swap r e .put) ≡ true → all isLetter (kept r e) ≡ true
 letters-kept r e h = ap (all isLetter) (kept-is r e) ∙ all-take isLetter (length (kept r e)) (swap r e .put) h
 
 pub length-carried : (w : Swap) (s : List ℕ) → w .from ≤ w .to → w .to ≤ length s → length (carried w s) ≡ w .from + (length (w .put) + (length s - w .to))
 unfolding carried
 length-carried w s h k = simp (length-append, length-drop, length-take-le (w .from) s (omega arith))
 
-pub letters-carried : (w : Swap) (s : List ℕ) → all isLetter s ≡ true → all isLetter (w .put) ≡ true → all isLetter (carried w s) ≡ true
+letters-carried : (w : Swap) (s : List ℕ) → all isLetter s ≡ true → all isLetter (w .put) ≡ true → all isLetter (carried w s) ≡ true
 unfolding carried
 letters-carried w s h k =
     all-both isLetter (take (w .from) s) (w .put ++ drop (w .to) s) (all-take isLetter (w .from) s h)
@@ -122,7 +122,7 @@ pub record AlteredLength (r : Reference) (e : Asked) : Type 0 where
   pub parts : alteredLength r e ≡ swap r e .from + (length (kept r e) + (size r - swap r e .to))
   pub front : r .cs - 1 ≤ alteredLength r e
 
-pub length-of : (r : Reference) (e : Asked) → Span (r .cs - 1) (size r) (swap r e) → AlteredLength r e
+length-of : (r : Reference) (e : Asked) → Span (r .cs - 1) (size r) (swap r e) → AlteredLength r e
 unfolding alteredTranscript alteredLength cutSwap cutOff deleted size
 length-of r e s =
     let parts = rule (size r) (swap r e .from) (swap r e .to) (inserted r e) (length (kept r e)) (s .rising) (s .ends) (length-kept r e) in
@@ -151,3 +151,22 @@ pub altered-letters : (m : Limits) (r : Reference) (e : Asked) → refusal m r e
 unfolding alteredTranscript cutSwap
 altered-letters m r e h =
     letters-carried (cutSwap r e) (r .letters) (reference-accepted m r e h .letters) (letters-kept r e (puts m r e h .letters))
+
+-- what is put back where it was taken from leaves all as it was
+put-back : (from to : ℕ) (s : List ℕ) → from ≤ to → take from s ++ (part from to s ++ drop to s) ≡ s
+unfolding part
+put-back from to s h =
+    let on : from + (to - from) ≡ to = omega arith in
+    let behind : drop (to - from) (drop from s) ≡ drop to s = drop-drop (to - from) from s ∙ ap (λ (n : ℕ). drop n s) on in
+    rw (← behind, take-append-drop (to - from) (drop from s)) (take-append-drop from s)
+
+-- An identity that isn't refused leaves the transcript as it was.
+pub identity-stays : (m : Limits) (r : Reference) (e : Asked) → refusal m r e ≡ 0 → kindOf e ≡ Identity → alteredTranscript r e ≡ r .letters
+unfolding alteredTranscript cutSwap carried kept isInserting swap swapBy
+identity-stays m r e h k =
+    let s = r .letters in
+    let all : kept r e ≡ swap r e .put =
+    ap (λ (k : Kind). if isInserting k then cutAtStop (r .table) (frame r (swap r e)) (swap r e .put) else swap r e .put) k in
+    ap (λ (put : List ℕ). take (swap r e .from) s ++ (put ++ drop (swap r e .to) s)) all
+    ∙ ap (λ (k : Kind). carried (swapBy k s (startIndex r e) (endIndex r e) (e .new)) s) k
+    ∙ put-back (startIndex r e) (endIndex r e) s (omega (arith, indexes m r e h .rising))

@@ -1,33 +1,27 @@
 -- What an answer tells of the buffers: a refusal and Unknown change none, what is written fits, and there is a single answer.
 -- Assumes nothing.
 use mathlib.Core.Path.{_≡_, refl, sym, ap, subst, _∙_}
-use mathlib.Core.Bool.{Bool, true, false, _||_}
+use mathlib.Core.Bool.{Bool, true, false}
 use mathlib.Core.List.{List}
 use Prim.Native.Nat.{ℕ, zero, suc, _+_, _-_, _≤_}
 use native.Mathlib.Omega.{arith}
-use lib.Dec.{ltb}
-use lib.ListN.{length}
-use borrow.Author.Tests.{ltb-false, le-ltb}
+use borrow.Author.Tests.{le-ltb}
 use Rattle.rules.specs.declared.Record.the-variants.{Unknown}
 use Rattle.rules.specs.declared.Report.{Report}
 use Rattle.rules.specs.declared.Answer.{Answer}
 use Rattle.rules.specs.declared.Answer.the-variants.{Refused, Reported}
 use Rattle.rules.specs.Bytes.{firstOf, over}
 use Rattle.rules.specs.Translation.{residueCount}
-use Rattle.rules.specs.Reference.{Reference, size, cdsSize, referenceProtein}
+use Rattle.rules.specs.Reference.{Reference, size, cdsSize}
 use Rattle.rules.specs.Edit.{Asked}
-use Rattle.rules.specs.Altered.{alteredTranscript, alteredLength}
-use Rattle.rules.specs.Protein.{alteredProtein}
+use Rattle.rules.specs.Altered.{alteredLength}
 use Rattle.rules.specs.Record.{isUnknown}
 use Rattle.rules.specs.declared.Limits.{Limits}
 use Rattle.rules.specs.Refusal.{refusal, Room, roomTests, roomRefusal}
 use Rattle.rules.specs.Answer.{Outcome, writesNothing, unknownReport, fullReport, writesAll, outcomeBy, outcome, Answers}
-use Rattle.rules.proofs.Tests.{or-left, or-right, first-clear}
-use Rattle.rules.proofs.Reference.{length-protein}
 use Rattle.rules.proofs.Refusal.{reference-accepted}
-use Rattle.rules.proofs.Altered.{longestAltered, altered-length, altered-fits}
+use Rattle.rules.proofs.Altered.{longestAltered, altered-fits}
 use Rattle.rules.proofs.Records.{unknown-of}
-use Rattle.rules.proofs.Protein.{altered-room}
 
 -- which outcome it is, by the tests in their order
 module _ (m : Limits) (r : Reference) (e : Asked) (room : Room) where
@@ -48,7 +42,7 @@ module _ (m : Limits) (r : Reference) (e : Asked) (room : Room) where
   all-by h u k = rw (h, u, k)
 
 -- a refusal's number isn't 0, and it writes nothing
-pub record IsRefusal (o : Outcome) (n : ℕ) : Type 0 where
+record IsRefusal (o : Outcome) (n : ℕ) : Type 0 where
   pub number : 1 ≤ n
   pub nothing : o ≡ writesNothing (Refused n)
 
@@ -59,12 +53,12 @@ by-refused zero k n true o p q h = let z : _≡_ {A = ℕ} 0 1 = cc in absurd (o
 by-refused zero (suc k) n false o p q h = let is : suc k ≡ n = cc in record { number = omega arith; nothing = ap (λ (n : ℕ). writesNothing (Refused n)) is }
 by-refused zero zero n false o p q h = let z : _≡_ {A = ℕ} 0 1 = cc in absurd (omega arith)
 
-pub refused-writes : (m : Limits) (r : Reference) (e : Asked) (room : Room) (n : ℕ) → outcome m r e room .answer ≡ Refused n → IsRefusal (outcome m r e room) n
+refused-writes : (m : Limits) (r : Reference) (e : Asked) (room : Room) (n : ℕ) → outcome m r e room .answer ≡ Refused n → IsRefusal (outcome m r e room) n
 unfolding outcome writesAll
 refused-writes m r e room n h = by-refused (refusal m r e) (roomRefusal r e room) n (isUnknown r e) (writesAll r e) (fullReport r e) refl h
 
 -- Unknown: zero lengths, no flag, and nothing written
-pub record IsUnknown (o : Outcome) (p : Report) : Type 0 where
+record IsUnknown (o : Outcome) (p : Report) : Type 0 where
   pub report : p ≡ unknownReport
   pub nothing : o ≡ writesNothing (Reported unknownReport)
 
@@ -75,7 +69,7 @@ by-unknown zero k true o p q f known h x = record { report = cc; nothing = refl 
 by-unknown zero (suc k) false o p q f known h x = let z : _≡_ {A = ℕ} 0 1 = cc in absurd (omega arith)
 by-unknown zero zero false o p q f known h x = let same : q ≡ p = cc in let z : _≡_ {A = ℕ} 0 1 = cc (known (ap (λ (p : Report). p .found) same ∙ x)) in absurd (omega arith)
 
-pub unknown-writes : (m : Limits) (r : Reference) (e : Asked) (room : Room) (p : Report) → outcome m r e room .answer ≡ Reported p → p .found ≡ Unknown → IsUnknown (outcome m r e room) p
+unknown-writes : (m : Limits) (r : Reference) (e : Asked) (room : Room) (p : Report) → outcome m r e room .answer ≡ Reported p → p .found ≡ Unknown → IsUnknown (outcome m r e room) p
 unfolding outcome writesAll fullReport
 unknown-writes m r e room p h x = by-unknown (refusal m r e) (roomRefusal r e room) (isUnknown r e) (writesAll r e) p (fullReport r e) refl (unknown-of r e) h x
 
@@ -86,7 +80,7 @@ pub record Unchanged (transcript transcript′ reference reference′ altered al
   pub altered-stays : altered′ ≡ altered
 
 module _ (a b : Answer) (t t′ p p′ q q′ : List ℕ) where
-  pub nothing-changes : Answers (writesNothing a) b t t′ p p′ q q′ → Unchanged t t′ p p′ q q′
+  nothing-changes : Answers (writesNothing a) b t t′ p p′ q q′ → Unchanged t t′ p p′ q q′
   unfolding writesNothing over
   nothing-changes x = record { transcript-stays = x .holds-transcript; reference-stays = x .holds-reference; altered-stays = x .holds-altered }
 
@@ -115,26 +109,6 @@ single o a₁ a₂ t t₁ t₂ p p₁ p₂ q q₁ q₂ x y =
       transcript = x .holds-transcript ∙ sym (y .holds-transcript);
       reference = x .holds-reference ∙ sym (y .holds-reference);
       altered = x .holds-altered ∙ sym (y .holds-altered);
-    }
-
--- what is written fits its buffer
-pub record Fits (r : Reference) (e : Asked) (room : Room) : Type 0 where
-  pub transcript : length (alteredTranscript r e) ≤ room .transcript
-  pub reference : length (referenceProtein r) ≤ room .reference
-  pub altered : length (alteredProtein r e) ≤ room .altered
-
-pub fits : (m : Limits) (r : Reference) (e : Asked) (room : Room) → refusal m r e ≡ 0 → roomRefusal r e room ≡ 0 → Fits r e room
-unfolding roomRefusal roomTests
-fits m r e room h k =
-    let short = ltb (room .reference) (residueCount (cdsSize r)) in
-    let cut = ltb (room .altered) (residueCount (alteredLength r e + 1 - r .cs)) in
-    let eleven = first-clear (ltb (room .transcript) (alteredLength r e)) 10 _ k in
-    let twelve = first-clear (short || cut) 11 _ (eleven .1) in
-    let bounds = reference-accepted m r e h .bounds in
-    record {
-      transcript = omega (arith, ltb-false (room .transcript) (alteredLength r e) (eleven .0), altered-length m r e h .is);
-      reference = omega (arith, ltb-false (room .reference) (residueCount (cdsSize r)) (or-left short cut (twelve .0)), length-protein r bounds);
-      altered = omega (arith, ltb-false (room .altered) (residueCount (alteredLength r e + 1 - r .cs)) (or-right short cut (twelve .0)), altered-room m r e h);
     }
 
 -- buffers for the longest altered transcript, and for its residues, are never too short

@@ -36,7 +36,7 @@ of-letters p b = of-keys p letters b
 unfoldable pub exchanged : ℕ → ℕ
 exchanged s = 8 * (s % 2) + 4 * (s / 2 % 2) + 2 * (s / 4 % 2) + s / 8 % 2
 
-pub letter-complement : (b : ℕ) → isLetter b ≡ true → isLetter (complement b) ≡ true
+letter-complement : (b : ℕ) → isLetter b ≡ true → isLetter (complement b) ≡ true
 unfolding all isLetter letterSet complement partnerIn
 letter-complement b h = of-letters (λ x. isLetter (complement x)) b refl h
 
@@ -45,10 +45,6 @@ unfolding all letterSet complement partnerIn exchanged
 set-complement b h =
     eqb-true (letterSet (complement b)) (exchanged (letterSet b))
     (of-letters (λ x. eqb (letterSet (complement x)) (exchanged (letterSet x))) b refl h)
-
-pub complement-twice : (b : ℕ) → isLetter b ≡ true → complement (complement b) ≡ b
-unfolding all complement partnerIn
-complement-twice b h = eqb-true (complement (complement b)) b (of-letters (λ x. eqb (complement (complement x)) x) b refl h)
 
 pub length-complement : (s : List ℕ) → length (reverseComplement s) ≡ length s
 unfolding reverseComplement

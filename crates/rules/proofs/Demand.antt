@@ -3,20 +3,22 @@
 use mathlib.Core.Path.{_≡_, refl, sym, ap, ap₂, subst, _∙_}
 use mathlib.Core.Bool.{Bool, true, false}
 use mathlib.Core.List.{List, _++_}
-use Prim.Native.Nat.{ℕ, _+_, _-_, _≤_, zero-le}
+use Prim.Native.Nat.{ℕ, _+_, _-_, _≤_, _<_, zero-le}
 use native.Mathlib.Nat.{le-refl, add-comm}
 use native.Mathlib.Omega.{arith}
-use lib.ListN.{length, take, drop, length-append, length-drop, take-append-drop}
+use lib.ListN.{length, take, drop, getD, length-append, length-drop, take-append-drop}
 use lib.Seq.{length-take-le, drop-drop, drop-append-add}
 use Rattle.rules.specs.declared.Change.{Change}
 use Rattle.rules.specs.declared.Record.the-variants.{Changed}
+use Rattle.rules.specs.Bytes.{same}
 use Rattle.rules.specs.Trims.{commonPrefix, commonSuffix}
 use Rattle.rules.specs.Reference.{Reference, referenceProtein}
 use Rattle.rules.specs.Edit.{Asked}
 use Rattle.rules.specs.Altered.{frameshift}
 use Rattle.rules.specs.Protein.{alteredProtein}
 use Rattle.rules.specs.Record.{ending, partOf, changeAt, changeOf, recordOf, replayed}
-use Rattle.rules.proofs.Trims.{cp-take, cp-append, cs-drop, cs-append}
+use Rattle.rules.proofs.Over.{tail-is}
+use Rattle.rules.proofs.Trims.{cp-le-l, cp-le-r, cp-take, cp-next, cp-append, not-same, cs-drop, cs-append}
 use Rattle.rules.proofs.Records.{changed-of}
 
 abbrev pub deletedBy : Change → List ℕ → List ℕ
@@ -46,10 +48,25 @@ pub record Least (R A : List ℕ) (c : Change) : Type 0 where
   pub fewest : (P D I S : List ℕ) → Splits R A P D I S → length (deletedBy c R) + length (insertedBy c A) ≤ length D + length I
   pub latest : (P D I S : List ℕ) → Splits R A P D I S → length P ≤ c .number - 1
 
--- of a reference and an edit; without the flag the parts are the least
-pub record Demand (r : Reference) (e : Asked) (c : Change) : Type 0 where
-  pub tells : Tells (referenceProtein r) (alteredProtein r e) c
-  pub least : frameshift r e ≡ false → Least (referenceProtein r) (alteredProtein r e) c
+-- The first n-1 residues of R and A are the same. The next ones differ, or one of the two proteins has ended there, and not both.
+pub record Differs (R A : List ℕ) (n : ℕ) : Type 0 where
+  pub in-reference : n - 1 ≤ length R
+  pub in-altered : n - 1 ≤ length A
+  pub same-before : take (n - 1) R ≡ take (n - 1) A
+  pub next-differ : n - 1 < length R → n - 1 < length A → getD R (n - 1) 0 ≡ getD A (n - 1) 0 → ⊥
+  pub one-goes-on : length R ≤ n - 1 → length A ≤ n - 1 → ⊥
+
+-- Deleted is all of R from the number on, and inserted all of A.
+pub record Rest (R A : List ℕ) (c : Change) : Type 0 where
+  pub deleted : deletedBy c R ≡ drop (c .number - 1) R
+  pub inserted : insertedBy c A ≡ drop (c .number - 1) A
+
+-- Demand 3 of a change of R to A: with the flag the parts are all the rest, without it they are the least.
+pub record Demand (flag : Bool) (R A : List ℕ) (c : Change) : Type 0 where
+  pub tells : Tells R A c
+  pub differs : Differs R A (c .number)
+  pub rest : flag ≡ true → Rest R A c
+  pub least : flag ≡ false → Least R A c
 
 -- a list behind its first s elements, without its last n
 middle : ℕ → ℕ → List ℕ → List ℕ
@@ -110,7 +127,7 @@ length-three : (p d t : List ℕ) → length (p ++ (d ++ t)) ≡ length p + (len
 length-three p d t = simp length-append
 
 -- of any two proteins, with the flag or without
-pub tells-of : (flag : Bool) (R A : List ℕ) → Tells R A (changeOf flag R A)
+tells-of : (flag : Bool) (R A : List ℕ) → Tells R A (changeOf flag R A)
 unfolding changeOf changeAt partOf middle last-n
 tells-of flag R A =
     let s = commonPrefix R A in
@@ -128,8 +145,28 @@ tells-of flag R A =
       back = swapped s n A R (sym begin) (sym end);
     }
 
+-- of any two proteins that aren't the same
+differs-of : (R A : List ℕ) (n : ℕ) → n - 1 ≡ commonPrefix R A → same R A ≡ false → Differs R A n
+differs-of R A n e h =
+    record {
+      in-reference = rw e (cp-le-l R A);
+      in-altered = rw e (cp-le-r R A);
+      same-before = rw e (cp-take (commonPrefix R A) R A (le-refl (commonPrefix R A)));
+      next-differ = rw e (cp-next R A);
+      one-goes-on = λ k l. not-same R A h (omega (arith, cp-le-l R A)) (omega (arith, cp-le-r R A));
+    }
+
+-- with the flag
+rest-of : (R A : List ℕ) → Rest R A (changeOf true R A)
+unfolding changeOf changeAt partOf ending
+rest-of R A =
+    let s = commonPrefix R A in
+    let one : s + 1 - 1 ≡ s = omega arith in
+    let none : (n : ℕ) → n - s - 0 ≡ n - s = λ n. omega arith in
+    record { deleted = rw (one, none (length R)) (tail-is s R); inserted = rw (one, none (length A)) (tail-is s A) }
+
 -- without the flag
-pub least-of : (R A : List ℕ) → Least R A (changeOf false R A)
+least-of : (R A : List ℕ) → Least R A (changeOf false R A)
 unfolding changeOf changeAt partOf middle
 least-of R A =
     let s = commonPrefix R A in
@@ -143,12 +180,16 @@ least-of R A =
     }
 
 -- Demand 3. Nothing is asked of the reference or of the edit.
-pub demand : (r : Reference) (e : Asked) (c : Change) → recordOf r e ≡ Changed c → Demand r e c
+pub demand : (r : Reference) (e : Asked) (c : Change) → recordOf r e ≡ Changed c → Demand (frameshift r e) (referenceProtein r) (alteredProtein r e) c
 demand r e c h =
     let R = referenceProtein r in
     let A = alteredProtein r e in
-    let is : changeOf (frameshift r e) R A ≡ c = sym (changed-of r e c h .is) in
+    let told = changed-of r e c h in
+    let is : changeOf (frameshift r e) R A ≡ c = sym (told .is) in
+    let tells = subst (Tells R A) is (tells-of (frameshift r e) R A) in
     record {
-      tells = subst (Tells R A) is (tells-of (frameshift r e) R A);
+      tells = tells;
+      differs = differs-of R A (c .number) (omega (arith, tells .number)) (told .differs);
+      rest = λ f. subst (Rest R A) (ap (λ (t : Bool). changeOf t R A) (sym f) ∙ is) (rest-of R A);
       least = λ f. subst (Least R A) (ap (λ (t : Bool). changeOf t R A) (sym f) ∙ is) (least-of R A);
     }

@@ -2,8 +2,8 @@
 pub mod Lists
 pub mod Over
 pub mod Fills
-pub mod Trims
 pub mod Tests
+pub mod Trims
 pub mod Translation
 pub mod Reading
 pub mod Complement
@@ -17,11 +17,6 @@ pub mod Records
 pub mod Demand
 pub mod Protein
 pub mod Answers
+pub mod KindNumbers
 pub mod Thirteen
-pub mod Checks
-pub mod CodonChecks
-pub mod PlainChecks
-pub mod CallChecks
-pub mod EdgeChecks
-pub mod StoredChecks
-pub mod LineChecks
+pub mod Doubtful

@@ -1,12 +1,12 @@
 -- Laws of `over`: what a buffer holds once lists are written to its front, one behind the other.
 -- Assumes nothing.
-use mathlib.Core.Path.{_≡_, refl, sym, ap, subst, _∙_}
-use mathlib.Core.List.{List, [], _∷_, _++_, reverse, append-assoc, append-nil}
+use mathlib.Core.Path.{_≡_, refl, sym, ap, _∙_}
+use mathlib.Core.List.{List, [], _∷_, _++_, append-assoc, append-nil}
 use Prim.Native.Nat.{ℕ, suc, _+_, _-_, _≤_, _<_}
 use native.Mathlib.Numerals.{add-one}
 use native.Mathlib.Omega.{arith}
-use lib.ListN.{length, take, drop, getD, set, length-append, length-take, length-drop, take-append-drop, List·getD-append, drop-of-length-le}
-use lib.Seq.{length-take-le, take-length, drop-length, take-all, take-at, drop-at, drop-drop, take-append-seam, drop-append-seam, take-append-le, drop-append-le, take-suc-set, drop-set-lt}
+use lib.ListN.{length, take, drop, set, length-append, length-drop, take-append-drop, drop-of-length-le}
+use lib.Seq.{take-length, take-all, take-at, drop-at, drop-drop, take-suc-set, drop-set-lt}
 use borrow.Rule.Slice.PartMut.{putMid}
 use Rattle.rules.specs.Bytes.{over}
 
@@ -28,22 +28,12 @@ pub read-back : (p d d′ : List ℕ) (n : ℕ) → n ≡ length p → d′ ≡ 
 unfolding over
 read-back p d d′ n e q = rw q (take-at p (drop (length p) d) n (sym e))
 
-pub read-behind : (p d d′ : List ℕ) (n first : ℕ) → n ≡ length p → first ≤ n → d′ ≡ over p d → take (n - first) (drop first d′) ≡ drop first p
-unfolding over
-read-behind p d d′ n first e h q =
-    rw (q, drop-append-le first p (drop (length p) d) (omega arith))
-    (take-at (drop first p) (drop (length p) d) (n - first) (length-drop first p ∙ omega arith))
-
-pub read-at : (p d d′ : List ℕ) (i : ℕ) → i < length p → d′ ≡ over p d → getD d′ i 0 ≡ getD p i 0
-unfolding over
-read-at p d d′ i h q = rw q (List·getD-append p (drop (length p) d) 0 i h)
-
-pub over-append : (p q d : List ℕ) → over (p ++ q) d ≡ p ++ over q (drop (length p) d)
+over-append : (p q d : List ℕ) → over (p ++ q) d ≡ p ++ over q (drop (length p) d)
 unfolding over
 over-append p q d = simp (append-assoc, length-append, drop-drop)
 
 -- p is at the front of the buffer, and the part behind it is lent on, for q
-pub lent-on : (p q d : List ℕ) (n : ℕ) → n ≡ length p → length p ≤ length d → putMid n (length (over p d) - n) (over p d) (over q (take (length (over p d) - n) (drop n (over p d)))) ≡ over (p ++ q) d
+lent-on : (p q d : List ℕ) (n : ℕ) → n ≡ length p → length p ≤ length d → putMid n (length (over p d) - n) (over p d) (over q (take (length (over p d) - n) (drop n (over p d)))) ≡ over (p ++ q) d
 unfolding over
 lent-on p q d n e h =
     let k = length (over p d) - n in
@@ -77,7 +67,7 @@ unfolding overFrom over
 from-end n d = take-append-drop n d
 
 -- a turn stores its first
-pub from-more : (n x : ℕ) (p d : List ℕ) → n < length d → overFrom n (x ∷ p) d ≡ overFrom (n + 1) p (set d n x)
+from-more : (n x : ℕ) (p d : List ℕ) → n < length d → overFrom n (x ∷ p) d ≡ overFrom (n + 1) p (set d n x)
 unfolding overFrom over
 from-more n x p d h =
     let e : n + suc (length p) ≡ suc n + length p = omega arith in

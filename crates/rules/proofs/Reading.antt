@@ -60,7 +60,7 @@ module _ (t : ℕ) (es : List Exception) where
       rest-of n (drop (i * 3) s) (omega arith) ∙ ap restOf left
 
   -- a piece of whole codons, and what stands behind it: no X between them
-  pub residues-append : (n : ℕ) (s u : List ℕ) → length s % 3 ≡ 0 → residuesFrom t es n (s ++ u) ≡ residuesFrom t es n s ++ residuesFrom t es (n + length s / 3) u
+  residues-append : (n : ℕ) (s u : List ℕ) → length s % 3 ≡ 0 → residuesFrom t es n (s ++ u) ≡ residuesFrom t es n s ++ residuesFrom t es (n + length s / 3) u
   unfolding residuesFrom
   residues-append n [] u h = ap (λ (k : ℕ). residuesFrom t es k u) (omega arith)
   residues-append n (a ∷ []) u h = absurd (omega arith)
@@ -119,7 +119,7 @@ before-rest zero = refl
 before-rest (suc r) = refl
 
 -- a `*` in the first of two lists is the first; where there is none, the first of the second is
-pub before-append : (rs qs : List ℕ) → beforeStop rs < length rs → beforeStop (rs ++ qs) ≡ beforeStop rs
+before-append : (rs qs : List ℕ) → beforeStop rs < length rs → beforeStop (rs ++ qs) ≡ beforeStop rs
 unfolding beforeStop
 before-append [] qs h = absurd (omega arith)
 before-append (r ∷ rs) qs h = at (eqb r (byte "*")) h (before-append rs qs)
@@ -128,7 +128,7 @@ before-append (r ∷ rs) qs h = at (eqb r (byte "*")) h (before-append rs qs)
     at true k f = refl
     at false k f = ap suc (f (omega arith))
 
-pub before-none : (rs qs : List ℕ) → length rs ≤ beforeStop rs → beforeStop (rs ++ qs) ≡ length rs + beforeStop qs
+before-none : (rs qs : List ℕ) → length rs ≤ beforeStop rs → beforeStop (rs ++ qs) ≡ length rs + beforeStop qs
 unfolding beforeStop
 before-none [] qs h = omega arith
 before-none (r ∷ rs) qs h = at (eqb r (byte "*")) h (before-none rs qs)

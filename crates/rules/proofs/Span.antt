@@ -40,7 +40,7 @@ pub record Placed (cs ce L : ℕ) (p : Position) : Type 0 where
   pub index-is : index cs ce L p ≡ max (cs - 1) (min (place cs ce p) L)
 
 module _ (cs ce L : ℕ) (first : 1 ≤ cs) (rising : cs ≤ ce) (inside : ce ≤ L) where
-  pub placed : (p : Position) → isOutside cs ce p ≡ false → Placed cs ce L p
+  placed : (p : Position) → isOutside cs ce p ≡ false → Placed cs ce L p
   unfolding place isOutside index isBefore isBehind
   placed (Plus p) h =
       let w = within p (ce + 1 - cs) h in
@@ -143,7 +143,7 @@ span-by Inversion s first L start end new h k l = record { front = h; rising = o
 span-by Identity s first L start end new h k l = record { front = h; rising = omega arith; ends = l }
 span-by Other s first L start end new h k l = record { front = h; rising = omega arith; ends = l }
 
-pub span-of : (r : Reference) (e : Asked) → Indexes r e → Span (r .cs - 1) (size r) (swap r e)
+span-of : (r : Reference) (e : Asked) → Indexes r e → Span (r .cs - 1) (size r) (swap r e)
 unfolding swap
 span-of r e i = span-by (kindOf e) (r .letters) (r .cs - 1) (size r) (startIndex r e) (endIndex r e) (e .new) (i .front) (i .rising) (i .ends)
 

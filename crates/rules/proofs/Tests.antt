@@ -1,7 +1,7 @@
 -- Laws of tests and of the first that holds.
 -- Assumes nothing.
 use mathlib.Core.Path.{_≡_, refl, sym, ap, _∙_}
-use mathlib.Core.Bool.{Bool, true, false, _&&_, _||_, and-assoc}
+use mathlib.Core.Bool.{Bool, true, false, _&&_, _||_}
 use mathlib.Core.List.{List, [], _∷_, _++_, map, reverse, reverseAux}
 use Prim.Native.Nat.{ℕ, suc}
 use native.Mathlib.Omega.{arith}
@@ -9,6 +9,7 @@ use lib.Dec.{ltb}
 use lib.ListN.{take, drop, take-append-drop}
 use borrow.Author.Tests.{ltb-true}
 use Rattle.rules.specs.Bytes.{if_then_else_, all, Test, _↯_, firstOf}
+use Rattle.rules.proofs.Lists.{all-append}
 
 pub and-left : (a b : Bool) → (a && b) ≡ true → a ≡ true
 and-left true b h = refl
@@ -65,19 +66,14 @@ first-before (t ∷ ts) us n h = at (t .holds) h (first-before ts us n)
 
 -- each element of a part, of two lists in a row, of a list backwards
 module _ {A : Type 0} (p : A → Bool) where
-  pub all-append : (s t : List A) → all p (s ++ t) ≡ (all p s && all p t)
-  unfolding all
-  all-append [] t = refl
-  all-append (x ∷ s) t = rw (all-append s t) (sym (and-assoc (p x) (all p s) (all p t)))
-
   pub all-take : (n : ℕ) (s : List A) → all p s ≡ true → all p (take n s) ≡ true
-  all-take n s h = and-left (all p (take n s)) (all p (drop n s)) (sym (all-append (take n s) (drop n s)) ∙ ap (all p) (take-append-drop n s) ∙ h)
+  all-take n s h = and-left (all p (take n s)) (all p (drop n s)) (sym (all-append p (take n s) (drop n s)) ∙ ap (all p) (take-append-drop n s) ∙ h)
 
   pub all-drop : (n : ℕ) (s : List A) → all p s ≡ true → all p (drop n s) ≡ true
-  all-drop n s h = and-right (all p (take n s)) (all p (drop n s)) (sym (all-append (take n s) (drop n s)) ∙ ap (all p) (take-append-drop n s) ∙ h)
+  all-drop n s h = and-right (all p (take n s)) (all p (drop n s)) (sym (all-append p (take n s) (drop n s)) ∙ ap (all p) (take-append-drop n s) ∙ h)
 
   pub all-both : (s t : List A) → all p s ≡ true → all p t ≡ true → all p (s ++ t) ≡ true
-  all-both s t h k = all-append s t ∙ and-both (all p s) (all p t) h k
+  all-both s t h k = all-append p s t ∙ and-both (all p s) (all p t) h k
 
   all-aux : (s t : List A) → all p s ≡ true → all p t ≡ true → all p (reverseAux s t) ≡ true
   unfolding all

@@ -1,32 +1,32 @@
 -- Laws of the common beginning and the common ending of two lists.
 -- Assumes nothing.
-use mathlib.Core.Path.{_≡_, refl, sym, ap, subst, _∙_}
+use mathlib.Core.Path.{_≡_, refl, sym, ap, _∙_}
 use mathlib.Core.Bool.{Bool, true, false, _&&_, and-self}
-use mathlib.Core.List.{List, [], _∷_, _++_, reverse, append-assoc, append-nil, reverse-append, reverse-reverse}
-use Prim.Native.Nat.{ℕ, zero, suc, _+_, _-_, _≤_, _<_, min, zero-le, suc-le-suc}
-use native.Mathlib.Numerals.{add-one}
-use native.Mathlib.Nat.{le-refl, suc-add, sub-zero, zero-add}
+use mathlib.Core.List.{List, [], _∷_, _++_, reverse, reverse-append, reverse-reverse}
+use Prim.Native.Nat.{ℕ, zero, suc, _+_, _-_, _≤_, _<_, zero-le, suc-le-suc}
+use native.Mathlib.Nat.{suc-add, sub-zero, zero-add}
 use native.Mathlib.Omega.{arith}
 use lib.Dec.{eqb, eqb·zero-suc, eqb·suc-suc}
-use lib.ListN.{length, take, drop, getD, length-append, length-take, length-drop, length-reverse, take-append-drop, drop-of-length-le}
-use lib.Seq.{take-length, take-suc, drop-cons, length-take-le, take-append-seam, take-at}
+use lib.ListN.{length, take, drop, getD, length-drop, length-reverse, take-append-drop}
+use lib.Seq.{take-length, take-suc, drop-cons, take-at}
 use borrow.Author.Tests.{eq-eqb, ne-eqb, eqb-true, eqb-false}
 use Rattle.rules.specs.Bytes.{if_then_else_, same}
 use Rattle.rules.specs.Trims.{commonPrefix, commonSuffix}
+use Rattle.rules.proofs.Tests.{and-left, and-right}
 
-pub cp-same : (x y : ℕ) (a b : List ℕ) → x ≡ y → commonPrefix (x ∷ a) (y ∷ b) ≡ suc (commonPrefix a b)
+cp-same : (x y : ℕ) (a b : List ℕ) → x ≡ y → commonPrefix (x ∷ a) (y ∷ b) ≡ suc (commonPrefix a b)
 unfolding commonPrefix
 cp-same x y a b e = rw (eq-eqb x y e)
 
-pub cp-differ : (x y : ℕ) (a b : List ℕ) → (x ≡ y → ⊥) → commonPrefix (x ∷ a) (y ∷ b) ≡ zero
+cp-differ : (x y : ℕ) (a b : List ℕ) → (x ≡ y → ⊥) → commonPrefix (x ∷ a) (y ∷ b) ≡ zero
 unfolding commonPrefix
 cp-differ x y a b e = rw (ne-eqb x y e)
 
-pub cp-nil-l : (b : List ℕ) → commonPrefix [] b ≡ zero
+cp-nil-l : (b : List ℕ) → commonPrefix [] b ≡ zero
 unfolding commonPrefix
 cp-nil-l b = refl
 
-pub cp-nil-r : (a : List ℕ) → commonPrefix a [] ≡ zero
+cp-nil-r : (a : List ℕ) → commonPrefix a [] ≡ zero
 unfolding commonPrefix
 cp-nil-r [] = refl
 cp-nil-r (x ∷ a) = refl
@@ -91,6 +91,38 @@ same-lengths a b h = same-whole a b ∙ at (eqb (commonPrefix a b) (length a)) r
 pub same-equal : (a b : List ℕ) → length a ≡ length b → same a b ≡ eqb (commonPrefix a b) (length a)
 same-equal a b h = same-whole a b ∙ rw (← h, and-self)
 
+-- where both are equal throughout, they are the same; lists that aren't, are not
+pub same-self : (a : List ℕ) → same a a ≡ true
+unfolding same
+same-self [] = refl
+same-self (x ∷ a) = rw (eq-eqb x x refl) (same-self a)
+
+pub same-is : (a b : List ℕ) → same a b ≡ true → a ≡ b
+unfolding same
+same-is [] [] h = refl
+same-is [] (y ∷ b) h = cc
+same-is (x ∷ a) [] h = cc
+same-is (x ∷ a) (y ∷ b) h =
+    let first : x ≡ y = eqb-true x y (and-left (eqb x y) (same a b) h) in
+    let others : a ≡ b = same-is a b (and-right (eqb x y) (same a b) h) in
+    cc
+
+pub not-same : (a b : List ℕ) → same a b ≡ false → length a ≡ commonPrefix a b → length b ≡ commonPrefix a b → ⊥
+not-same a b h k l = let z : _≡_ {A = ℕ} 0 1 = cc (same-whole a b, eq-eqb (commonPrefix a b) (length a) (sym k), eq-eqb (commonPrefix a b) (length b) (sym l)) in omega arith
+
+-- the next elements differ
+pub cp-next : (a b : List ℕ) → commonPrefix a b < length a → commonPrefix a b < length b → getD a (commonPrefix a b) 0 ≡ getD b (commonPrefix a b) 0 → ⊥
+unfolding commonPrefix
+cp-next [] b h k e = omega arith
+cp-next (x ∷ a) [] h k e = omega arith
+cp-next (x ∷ a) (y ∷ b) h k e = at (eqb x y) refl h k e (cp-next a b)
+  where
+    at : (t : Bool) → eqb x y ≡ t → (if t then suc (commonPrefix a b) else 0) < suc (length a) → (if t then suc (commonPrefix a b) else 0) < suc (length b)
+        → getD (x ∷ a) (if t then suc (commonPrefix a b) else 0) 0 ≡ getD (y ∷ b) (if t then suc (commonPrefix a b) else 0) 0
+        → (commonPrefix a b < length a → commonPrefix a b < length b → getD a (commonPrefix a b) 0 ≡ getD b (commonPrefix a b) 0 → ⊥) → ⊥
+    at true q h k e r = r (omega arith) (omega arith) e
+    at false q h k e r = eqb-false x y q e
+
 -- one step of a loop that goes from the front
 module _ (a b : List ℕ) (i : ℕ) where
   pub cp-more : i < length a → i < length b → getD a i 0 ≡ getD b i 0 → commonPrefix (drop i a) (drop i b) ≡ suc (commonPrefix (drop (suc i) a) (drop (suc i) b))
@@ -99,22 +131,16 @@ module _ (a b : List ℕ) (i : ℕ) where
   pub cp-stop : i < length a → i < length b → (getD a i 0 ≡ getD b i 0 → ⊥) → commonPrefix (drop i a) (drop i b) ≡ zero
   cp-stop h k e = rw (drop-cons a i 0 h, drop-cons b i 0 k) (cp-differ _ _ _ _ e)
 
-  pub cp-end-l : length a ≤ i → commonPrefix (drop i a) (drop i b) ≡ zero
-  cp-end-l h = rw (drop-of-length-le a {i = i} h) (cp-nil-l (drop i b))
-
-  pub cp-end-r : length b ≤ i → commonPrefix (drop i a) (drop i b) ≡ zero
-  cp-end-r h = rw (drop-of-length-le b {i = i} h) (cp-nil-r (drop i a))
-
 -- one step of a loop that goes from the end
 reverse-take : (a : List ℕ) (m : ℕ) → m < length a → reverse (take (suc m) a) ≡ getD a m 0 ∷ reverse (take m a)
 reverse-take a m h = rw (take-suc a m 0 h, reverse-append)
 
 module _ (a b : List ℕ) (m n : ℕ) (h : m < length a) (k : n < length b) where
-  pub cs-more : getD a m 0 ≡ getD b n 0 → commonSuffix (take (suc m) a) (take (suc n) b) ≡ suc (commonSuffix (take m a) (take n b))
+  cs-more : getD a m 0 ≡ getD b n 0 → commonSuffix (take (suc m) a) (take (suc n) b) ≡ suc (commonSuffix (take m a) (take n b))
   unfolding commonSuffix
   cs-more e = rw (reverse-take a m h, reverse-take b n k) (cp-same _ _ _ _ e)
 
-  pub cs-stop : (getD a m 0 ≡ getD b n 0 → ⊥) → commonSuffix (take (suc m) a) (take (suc n) b) ≡ zero
+  cs-stop : (getD a m 0 ≡ getD b n 0 → ⊥) → commonSuffix (take (suc m) a) (take (suc n) b) ≡ zero
   unfolding commonSuffix
   cs-stop e = rw (reverse-take a m h, reverse-take b n k) (cp-differ _ _ _ _ e)
 

@@ -3,11 +3,15 @@
 use mathlib.Core.Path.{_≡_, refl, sym, ap, subst, _∙_}
 use mathlib.Core.List.{List}
 use Prim.Native.Nat.{ℕ, zero, suc}
+use native.Mathlib.Omega.{arith}
 use Rattle.rules.specs.declared.Exceptions.{Exceptions}
+use Rattle.rules.specs.declared.Change.{Change}
 use Rattle.rules.specs.declared.Limits.{Limits}
+use Rattle.rules.specs.declared.Record.the-variants.{Changed}
+use Rattle.rules.specs.declared.Report.{Report}
 use Rattle.rules.specs.declared.Answer.{Answer}
 use Rattle.rules.specs.declared.Answer.the-variants as answer
-use Rattle.rules.specs.Bytes.{Result, refused, unless}
+use Rattle.rules.specs.Bytes.{Result, given, refused, unless}
 use Rattle.rules.specs.Reference.{Reference}
 use Rattle.rules.specs.Edit.{Asked}
 use Rattle.rules.specs.Record.{partOf}
@@ -18,6 +22,8 @@ use Rattle.rules.specs.Views.{referenceOf}
 use Rattle.rules.proofs.Refusal.{refused-reference}
 use Rattle.rules.proofs.Answers.{refused-by, Alike, single}
 use Rattle.altseq.proofs.Answering.{writes-nothing}
+use Rattle.altseq.proofs.Promised as promised
+use Rattle.altseq.proofs.Promised.{Replays}
 use Rattle.stored.specs.declared.places.StoredAt.{StoredAt}
 use Rattle.stored.specs.declared.places.Stored.{Stored}
 use Rattle.stored.specs.declared.places.Stored.the-variants.{At}
@@ -66,3 +72,10 @@ module _ (m : Limits) (s : List ℕ) (p : StoredAt) (a : Asked) (room : Room) wh
 pub single-answer : (m : Limits) (x : Result Reference) (a : Asked) (room : Room) (a₁ a₂ : Answer) (t t₁ t₂ p p₁ p₂ q q₁ q₂ : List ℕ)
     → Answers (outcomeOf m x a room) a₁ t t₁ p p₁ q q₁ → Answers (outcomeOf m x a room) a₂ t t₂ p p₂ q q₂ → Alike a₁ a₂ t₁ t₂ p₁ p₂ q₁ q₂
 single-answer m x a room a₁ a₂ t t₁ t₂ p p₁ p₂ q q₁ q₂ h k = single (outcomeOf m x a room) a₁ a₂ t t₁ t₂ p p₁ p₂ q q₁ q₂ h k
+
+-- demand 3, of the bytes in the buffers of an edit of a stored reference that is answered Changed
+pub demanded : (m : Limits) (x : Result Reference) (a : Asked) (room : Room) (p : Report) (c : Change) (t t′ q q′ s s′ : List ℕ)
+    → Answers (outcomeOf m x a room) (answer.Reported p) t t′ q q′ s s′ → p .found ≡ Changed c → Replays p c q′ s′
+unfolding outcomeOf writesNothing
+demanded m (refused n) a room p c t t′ q q′ s s′ h f = let z : _≡_ {A = ℕ} 0 1 = cc in absurd (omega arith)
+demanded m (given r) a room p c t t′ q q′ s s′ h f = promised.demanded m r a room p c t t′ q q′ s s′ h f

@@ -1,5 +1,4 @@
 // "Port order and changed forms": the altered transcript is built into a second buffer, which the caller lends.
-use codons::complement::complements;
 use edits::plans::Plan;
 use edits::plans::Source;
 use sequences::write_revcomp;
@@ -30,8 +29,7 @@ pub fn write_put(letters: &[u8], plan: Plan, new: &[u8], out: &mut [u8]) -> usiz
         }
         Source::Turned => {
             let first = end - kept;
-            let complements = complements();
-            write_revcomp(&letters[first..end], &complements, out);
+            write_revcomp(&letters[first..end], out);
             kept
         }
     }

@@ -73,7 +73,7 @@ fn excepted_by(x: Exception, n: usize, r: u8) -> u8
 }
 
 // The residue of codon n: r, unless an exception replaces it, the last one counting.
-pub(crate) fn excepted_at(e: Exceptions, n: usize, r: u8) -> u8
+pub fn excepted_at(e: Exceptions, n: usize, r: u8) -> u8
     requires { ⌜ e .count ≤ 16 ⌝ }
     ensures { λ y. ⌜ y ≡ excepted (exceptionList e) n r ⌝ }
 {

@@ -6,7 +6,7 @@ mod stops;
 mod translate;
 
 pub use bases::all_bases;
-pub use bases::all_fold_to_bases;
+pub use exceptions::excepted_at;
 pub use stops::first_stop;
 pub use stops::write_through_stop;
 pub use translate::translate_cds;

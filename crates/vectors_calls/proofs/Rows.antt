@@ -18,7 +18,7 @@ use Rattle.rules.specs.Bytes.{bytes, if_then_else_, over}
 use Rattle.rules.specs.Translation.{noException}
 use Rattle.rules.proofs.Over.{tail-is}
 use Rattle.vectors_calls.specs.Fields.{fieldAt, wordAt, numberAt}
-use Rattle.vectors_calls.specs.Letters.{next, filled, laid, laidAt, placeBefore, cdsIn, referenceIn, newIn}
+use Rattle.vectors_calls.specs.Letters.{next, filled, laid, laidAt, placeBefore, codingIn, referenceIn, newIn}
 use Rattle.vectors_calls.specs.Given.{byRule, listed, exceptionAt, exceptionsFrom, exceptionsOf}
 
 -- letters by rule
@@ -106,8 +106,8 @@ markers m = replicate m 46
 
 -- the letters of a line's reference
 module _ (line : List ℕ) where
-  cds-length : (n : ℕ) → length (cdsIn line n) ≡ n
-  unfolding cdsIn
+  cds-length : (n : ℕ) → length (codingIn line n) ≡ n
+  unfolding codingIn
   cds-length n =
       let first = filled 65 67 1 n in
       let second = laidAt (placeBefore (numberAt 1 line) 1) (bytes "ATG") first in
@@ -116,15 +116,15 @@ module _ (line : List ℕ) where
       ∙ filled-length 65 67 1 n
 
   pub cds-by : (out₁ out₂ out₃ : List ℕ) (n cs ce a b : ℕ) → cs ≡ numberAt 1 line → a ≡ placeBefore cs 1 → ce ≡ numberAt 2 line → b ≡ placeBefore ce 3
-      → out₁ ≡ filled 65 67 1 n → out₂ ≡ laidAt a (bytes "ATG") out₁ → out₃ ≡ laidAt b (bytes "TAA") out₂ → out₃ ≡ cdsIn line n
-  unfolding cdsIn
+      → out₁ ≡ filled 65 67 1 n → out₂ ≡ laidAt a (bytes "ATG") out₁ → out₃ ≡ laidAt b (bytes "TAA") out₂ → out₃ ≡ codingIn line n
+  unfolding codingIn
   cds-by out₁ out₂ out₃ n cs ce a b h k l m e₁ e₂ e₃ = e₃ ∙ rw (e₂, e₁, k, h, m, l)
 
   pub reference-length : (n : ℕ) → length (referenceIn line n) ≡ n
   unfolding referenceIn
-  reference-length n = laid-at-length (numberAt 15 line) (wordAt 14 line) (cdsIn line n) ∙ cds-length n
+  reference-length n = laid-at-length (numberAt 15 line) (wordAt 14 line) (codingIn line n) ∙ cds-length n
 
-  pub reference-by : (out₁ out₂ w : List ℕ) (n at : ℕ) → out₁ ≡ cdsIn line n → at ≡ numberAt 15 line → w ≡ wordAt 14 line → out₂ ≡ laidAt at w out₁ → out₂ ≡ referenceIn line n
+  pub reference-by : (out₁ out₂ w : List ℕ) (n at : ℕ) → out₁ ≡ codingIn line n → at ≡ numberAt 15 line → w ≡ wordAt 14 line → out₂ ≡ laidAt at w out₁ → out₂ ≡ referenceIn line n
   unfolding referenceIn
   reference-by out₁ out₂ w n at e k l h = h ∙ rw (e, k, l)
 

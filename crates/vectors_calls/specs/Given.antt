@@ -1,14 +1,18 @@
--- The edit and the exceptions that a line gives.
+-- The bounds, the table, the edit and the exceptions that a line gives.
 use Prim.Native.Nat.{ℕ, zero, suc, _+_, _-_, _*_, min}
 use mathlib.Core.List.{List, [], _∷_, _++_}
 use lib.Dec.{eqb}
 use lib.ListN.{getD, replicate}
+use Rattle.rules.specs.declared.Cds.{Cds}
 use Rattle.rules.specs.declared.Edit.{Edit}
 use Rattle.rules.specs.declared.Exception.{Exception}
 use Rattle.rules.specs.declared.Exceptions.{Exceptions}
 use Rattle.rules.specs.Bytes.{byte, if_then_else_}
 use Rattle.rules.specs.Translation.{noException}
 use Rattle.vectors_calls.specs.Fields.{fieldAt, numberAt, positionIn, kindIn}
+
+unfoldable pub cdsIn : List ℕ → Cds
+cdsIn line = record { cs = numberAt 1 line; ce = numberAt 2 line; table = numberAt 3 line }
 
 unfoldable pub editIn : List ℕ → Edit
 editIn line = record { kind = kindIn (fieldAt 4 line); start = positionIn (fieldAt 5 line); end = positionIn (fieldAt 6 line) }

@@ -30,13 +30,13 @@ unfoldable pub placeBefore : ℕ → ℕ → ℕ
 placeBefore n back = if leb back n then n - back else largest
 
 -- ATG from cs on and TAA up to ce; around them A or C, of which no table makes a stop
-unfoldable pub cdsIn : List ℕ → ℕ → List ℕ
-cdsIn line n =
+unfoldable pub codingIn : List ℕ → ℕ → List ℕ
+codingIn line n =
     laidAt (placeBefore (numberAt 2 line) 3) (bytes "TAA") (laidAt (placeBefore (numberAt 1 line) 1) (bytes "ATG") (filled (byte "A") (byte "C") 1 n))
 
 -- then the line's own letters
 unfoldable pub referenceIn : List ℕ → ℕ → List ℕ
-referenceIn line n = laidAt (numberAt 15 line) (wordAt 14 line) (cdsIn line n)
+referenceIn line n = laidAt (numberAt 15 line) (wordAt 14 line) (codingIn line n)
 
 -- C or G, of which no table makes a stop either, and the line's own letters
 unfoldable pub newIn : List ℕ → ℕ → List ℕ

@@ -16,10 +16,20 @@ use crate::printing::TRANSCRIPT_ROOM;
 use crate::printing::print_answer;
 use altseq::build_altseq;
 use numbers::least;
+use rules::Cds;
 use rules::Edit;
 ghost use mathlib.Core.Path.{_≡_};
 ghost use Prim.Native.Nat.{_≤_};
-ghost use Rattle.vectors_calls.specs.Given.{editIn, listedFrom};
+ghost use Rattle.vectors_calls.specs.Given.{cdsIn, editIn, listedFrom};
+
+fn cds_of(line: &[u8]) -> Cds
+    ensures { λ r. ⌜ r ≡ cdsIn (now (line .entry)) ⌝ }
+{
+    let cs = number(line, fields::CS);
+    let ce = number(line, fields::CE);
+    let table = number(line, fields::TABLE);
+    Cds { cs, ce, table }
+}
 
 fn edit_of(line: &[u8]) -> Edit
     ensures { λ r. ⌜ r ≡ editIn (now (line .entry)) ⌝ }
@@ -53,9 +63,7 @@ fn answer(line: &[u8], letters: &[u8], new: &[u8]) {
     let e = exceptions_of(line, listed_from(line), number(line, fields::COUNT));
     let found = build_altseq(
         letters,
-        number(line, fields::CS),
-        number(line, fields::CE),
-        number(line, fields::TABLE),
+        cds_of(line),
         e,
         edit_of(line),
         new,

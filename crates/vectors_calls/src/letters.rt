@@ -9,7 +9,7 @@ ghost use Prim.Native.Nat.{_≤_, _<_};
 ghost use lib.Dec.{ltb};
 ghost use lib.ListN.{length, replicate};
 ghost use Rattle.rules.specs.Bytes.{if_then_else_, over};
-ghost use Rattle.vectors_calls.specs.Letters.{next as nextNumber, filled, laid, laidAt, placeBefore, cdsIn, referenceIn, newIn};
+ghost use Rattle.vectors_calls.specs.Letters.{next as nextNumber, filled, laid, laidAt, placeBefore, codingIn, referenceIn, newIn};
 
 // One letter more than a transcript may have, and one new base more than an edit may have.
 pub const LETTERS_ROOM: usize = 16385;
@@ -82,7 +82,7 @@ fn place_before(n: usize, back: usize) -> usize
 
 // ATG from cs on and TAA up to ce; around them A or C, of which no table makes a stop.
 fn write_cds(line: &[u8], out: &mut [u8])
-    ensures { λ _. ⌜ now (out .exit) ≡ cdsIn (now (line .entry)) (length (now (out .entry))) ⌝ }
+    ensures { λ _. ⌜ now (out .exit) ≡ codingIn (now (line .entry)) (length (now (out .entry))) ⌝ }
 {
     let start = place_before(number(line, fields::CS), 1);
     let stop = place_before(number(line, fields::CE), 3);

@@ -7,9 +7,18 @@ use codons::tables::residue_in;
 use codons::tables::residues_of;
 use translation::translate_cds;
 ghost use mathlib.Core.Path.{_≡_};
-ghost use Prim.Native.Nat.{_+_, _*_, _<_, _≤_};
+ghost use Prim.Native.Nat.{_<_};
 ghost use lib.ListN.{length};
 ghost use Rattle.codons.specs.Tables.{HoldsCode};
+ghost use Rattle.vectors_plain.specs.Rows.{numberAt, lettersFrom};
+
+// The codons of the fifteen letters, and their letters.
+const CODONS: usize = 3375;
+
+const CODONS_LETTERS: usize = 10125;
+
+// The places of a table.
+const PLACES: usize = 4096;
 
 // First base slowest, order T, C, A, G.
 const PLAIN: [u8; 192] = *b"\
@@ -27,30 +36,30 @@ fn print_code(table: usize) {
     print_answer(answer, &out);
 }
 
-// Codon k of the fifteen letters, first letter slowest, to its place.
-fn put_codon(letters: &[u8; 15], k: usize, seq: &mut [u8])
-    requires { ⌜ k * 3 + 3 ≤ length (now seq) ⌝ }
-    requires { ⌜ k < 3375 ⌝ }
-    ensures { λ _. ⌜ length (now (seq .exit)) ≡ length (now (seq .entry)) ⌝ }
+// Which of the fifteen letters stands at a place of all their codons in a row, first letter slowest.
+fn number_at(j: usize) -> usize
+    requires { ⌜ j < 10125 ⌝ }
+    ensures { λ r. ⌜ r ≡ numberAt j ⌝ }
+    ensures within { λ r. ⌜ r < 15 ⌝ }
 {
-    let a = k / 225;
-    let b = k / 15 % 15;
-    let c = k % 15;
-    seq[k * 3] = letters[a];
-    seq[k * 3 + 1] = letters[b];
-    seq[k * 3 + 2] = letters[c];
+    match j % 3 {
+        0 => j / 675,
+        1 => j / 45 % 15,
+        _ => j / 3 % 15,
+    }
 }
 
 // All codons of the fifteen letters.
 fn put_codons(seq: &mut [u8])
     requires { ⌜ length (now seq) ≡ 10125 ⌝ }
-    ensures { λ _. ⌜ length (now (seq .exit)) ≡ 10125 ⌝ }
+    ensures { λ _. ⌜ now (seq .exit) ≡ lettersFrom 0 10125 ⌝ }
 {
     let letters = *b"ACGTRYSWKMBDHVN";
-    let mut k = 0;
-    while k < 3375 {
-        put_codon(&letters, k, seq);
-        k += 1;
+    let mut j = 0;
+    while j < CODONS_LETTERS {
+        let k = number_at(j);
+        seq[j] = letters[k];
+        j += 1;
     }
 }
 
@@ -76,9 +85,9 @@ fn print_counts(residues: &[u8]) {
 }
 
 fn print_ambiguous(table: usize) {
-    let mut seq = [0u8; 10125];
+    let mut seq = [0u8; CODONS_LETTERS];
     put_codons(&mut seq);
-    let mut out = [0u8; 3375];
+    let mut out = [0u8; CODONS];
     let answer = translate_cds(&seq, table, true, &mut out);
     io::write_all(1, b"ambiguous ");
     print_number(table);
@@ -89,8 +98,8 @@ fn print_ambiguous(table: usize) {
 }
 
 // 1 where the table and the plain reader differ at a place of the table, which they never do.
-fn differs(table: usize, lut: &[u8; 4096], k: usize) -> usize
-    requires { ⌜ HoldsCode table (now lut) ⌝ }
+fn differs(table: usize, residues: &[u8; 4096], k: usize) -> usize
+    requires { ⌜ HoldsCode table (now residues) ⌝ }
     requires { ⌜ (table < 3) × (k < 4096) ⌝ }
     ensures { λ r. ⌜ r ≡ 0 ⌝ }
 {
@@ -106,7 +115,7 @@ fn differs(table: usize, lut: &[u8; 4096], k: usize) -> usize
     if c == 0 {
         return 0;
     }
-    let x = residue_in(table, lut, a, b, c);
+    let x = residue_in(table, residues, a, b, c);
     let y = read_codon(table, a, b, c);
     if x == y {
         return 0;
@@ -119,11 +128,11 @@ fn differing(table: usize) -> usize
     requires { ⌜ table < 3 ⌝ }
     ensures { λ r. ⌜ r ≡ 0 ⌝ }
 {
-    let lut = residues_of(table);
+    let residues = residues_of(table);
     let mut n = 0;
     let mut k = 0;
-    while k < 4096 {
-        n += differs(table, &lut, k);
+    while k < PLACES {
+        n += differs(table, &residues, k);
         k += 1;
     }
     n

@@ -6,8 +6,24 @@ use rules::Exceptions;
 use rules::Written;
 use sequences::revcomp;
 use translation::translate_cds;
+ghost use mathlib.Core.Path.{_≡_};
+ghost use lib.ListN.{replicate};
+ghost use Rattle.rules.specs.Bytes.{count as countOf};
+ghost use Rattle.rules.specs.Translation.{noException};
 
-pub fn no_exceptions() -> Exceptions {
+// One letter more than a transcript may have, and a residue more than they translate to.
+const LETTERS: usize = 16385;
+
+const RESIDUES: usize = 5463;
+
+// The residues that have names, and the letters of their names.
+const NAMED: usize = 25;
+
+const NAMES: usize = 75;
+
+pub fn no_exceptions() -> Exceptions
+    ensures { λ r. ⌜ (r .all ≡ replicate 16 noException) × (r .count ≡ 0) ⌝ }
+{
     Exceptions {
         all: [Exception {
             codon: 0,
@@ -39,11 +55,11 @@ pub fn print_answer(answer: Written, out: &[u8]) {
 }
 
 pub fn print_names() {
-    let mut three = [0u8; 75];
+    let mut three = [0u8; NAMES];
     let answer = aa1_to_aa3(b"ARNDCQEGHILKMFPSTWYVUXBZ*", &mut three);
     io::write_all(1, b"names");
     print_answer(answer, &three);
-    let mut one = [0u8; 25];
+    let mut one = [0u8; NAMED];
     let back = aa3_to_aa1(&three, &mut one);
     io::write_all(1, b"names");
     print_answer(back, &one);
@@ -57,7 +73,9 @@ pub fn print_complement() {
 }
 
 // How many of the bytes are b.
-pub fn count_of(s: &[u8], b: u8) -> usize {
+pub fn count_of(s: &[u8], b: u8) -> usize
+    ensures { λ r. ⌜ r ≡ countOf b (now (s .entry)) ⌝ }
+{
     let mut n = 0;
     let mut i = 0;
     while i < s.len() {
@@ -71,7 +89,7 @@ pub fn count_of(s: &[u8], b: u8) -> usize {
 
 // Translates so many letters A: the number of residues, and how many of them are K and X.
 fn print_length(letters: &[u8], n: usize) {
-    let mut out = [b'.'; 5463];
+    let mut out = [b'.'; RESIDUES];
     io::write_all(1, b"length ");
     print_number(n);
     if letters.len() < n {
@@ -97,7 +115,7 @@ fn print_length(letters: &[u8], n: usize) {
 }
 
 pub fn print_lengths() {
-    let letters = [b'A'; 16385];
+    let letters = [b'A'; LETTERS];
     print_length(&letters, 0);
     print_length(&letters, 1);
     print_length(&letters, 2);

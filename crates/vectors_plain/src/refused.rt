@@ -9,6 +9,8 @@ use rules::Exceptions;
 use rules::Written;
 use sequences::revcomp;
 use translation::translate_cds_with_exceptions;
+ghost use mathlib.Core.Path.{_≡_};
+ghost use lib.ListN.{replicate};
 
 fn print_outcome(name: &[u8], answer: Written, out: &[u8]) {
     io::write_all(1, name);
@@ -33,8 +35,10 @@ fn try_translation(name: &[u8], seq: &[u8], table: usize, e: Exceptions, full: b
     print_outcome(name, answer, &out);
 }
 
-// Sixteen exceptions for codon 1, of which so many are given.
-fn exceptions(codon: usize, residue: u8, count: usize) -> Exceptions {
+// Sixteen exceptions for a codon, of which so many are given.
+fn exceptions(codon: usize, residue: u8, count: usize) -> Exceptions
+    ensures { λ r. ⌜ (r .all ≡ replicate 16 (record { codon = codon; residue = residue })) × (r .count ≡ count) ⌝ }
+{
     Exceptions {
         all: [Exception { codon, residue }; 16],
         count,

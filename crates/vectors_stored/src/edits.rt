@@ -8,8 +8,21 @@ use rules::Kind;
 use rules::Position;
 use rules::Record;
 use stored::build_altseq_stored;
+ghost use mathlib.Core.Path.{_≡_};
+ghost use lib.Dec.{eqb};
+ghost use Rattle.rules.specs.Bytes.{if_then_else_};
+ghost use Rattle.rules.specs.Values.{kindAt};
 
-fn kind_of(number: u8) -> Kind {
+// Room for each answer of the cases.
+const TRANSCRIPT_ROOM: usize = 32;
+
+const REFERENCE_ROOM: usize = 8;
+
+const ALTERED_ROOM: usize = 16;
+
+fn kind_of(number: u8) -> Kind
+    ensures { λ r. ⌜ r ≡ kindAt number ⌝ }
+{
     match number {
         1 => Kind::Substitution,
         2 => Kind::Deletion,
@@ -22,7 +35,9 @@ fn kind_of(number: u8) -> Kind {
     }
 }
 
-fn position_of(sign: u8, n: usize) -> Position {
+fn position_of(sign: u8, n: usize) -> Position
+    ensures { λ r. ⌜ r ≡ (if eqb sign 45 then Position.Minus n else if eqb sign 42 then Position.Star n else Position.Plus n) ⌝ }
+{
     match sign {
         b'-' => Position::Minus(n),
         b'*' => Position::Star(n),
@@ -67,14 +82,14 @@ fn print_bytes(s: &[u8]) {
 
 // The answer, and what the three buffers of dots hold then.
 fn print_outcome(s: &[u8], edit: Edit, new: &[u8]) {
-    let mut tx = [b'.'; 32];
-    let mut rp = [b'.'; 8];
-    let mut ap = [b'.'; 16];
-    let answer = build_altseq_stored(s, edit, new, &mut tx, &mut rp, &mut ap);
+    let mut transcript = [b'.'; TRANSCRIPT_ROOM];
+    let mut reference = [b'.'; REFERENCE_ROOM];
+    let mut altered = [b'.'; ALTERED_ROOM];
+    let answer = build_altseq_stored(s, edit, new, &mut transcript, &mut reference, &mut altered);
     print_answer(answer);
-    print_bytes(&tx);
-    print_bytes(&rp);
-    print_bytes(&ap);
+    print_bytes(&transcript);
+    print_bytes(&reference);
+    print_bytes(&altered);
 }
 
 // An edit: the kind's number, two positions, each a sign and a number of two bytes, and the new bases.

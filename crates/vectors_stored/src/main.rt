@@ -13,6 +13,13 @@ use fields::two_bytes;
 ghost use Prim.Native.Nat.{_≤_};
 ghost use lib.ListN.{length};
 
+// The longest name and the longest edit, and the most cases.
+const NAME_ROOM: usize = 256;
+
+const EDIT_ROOM: usize = 256;
+
+const MOST_CASES: usize = 65536;
+
 // The next string, in the buffer; none where the input has ended or the buffer is too short.
 fn read_string(space: &mut [u8]) -> usize
     ensures { λ r. ⌜ r ≤ length (now (space .exit)) ⌝ }
@@ -47,10 +54,10 @@ fn print_next(name: &mut [u8], form: &mut [u8], edit: &mut [u8]) -> bool {
 }
 
 fn main() {
-    let mut name = [0u8; 256];
+    let mut name = [0u8; NAME_ROOM];
     let mut form = io::large_buffer();
-    let mut edit = [0u8; 256];
-    let mut left = 65536usize;
+    let mut edit = [0u8; EDIT_ROOM];
+    let mut left = MOST_CASES;
     while 0 < left {
         if !print_next(&mut name, &mut form, &mut edit) {
             return;

@@ -41,9 +41,9 @@ sub-first c =
 write-revcomp-requires : tie.Need-write-revcomp-requires
 unfolding part
 write-revcomp-requires c κs =
-    let a = c .before .before .before .before .before .before .before .before .before .args in
-    let letters = letters-part (a .plan .end - a .plan .kept) (a .plan .end) (now (a .letters)) (c .before .before .before .before .before .before .before .before .before .pre .0 .letters-are) in
-    (search needs, (letters, search needs))
+    let a = c .before .before .before .before .before .before .before .args in
+    let letters = letters-part (a .plan .end - a .plan .kept) (a .plan .end) (now (a .letters)) (c .before .before .before .before .before .before .before .pre .0 .letters-are) in
+    (letters, search needs)
 
 returns : tie.Need-returns
 returns c =
@@ -73,8 +73,8 @@ returns-2 c =
 returns-3 : tie.Need-returns-3
 unfolding part
 returns-3 c =
-    let a = c .before .before .before .before .before .before .before .before .before .before .before .before .args in
-    let turned = turned-goes-in (a .plan) (now (a .letters)) (now (a .new)) (c .before .before .before .before .before .before .before .before .before .before .before .before .pre .0) (c .before .before .before .before .before .before .before .enum-told3 .given .1) in
+    let a = c .before .before .before .before .before .before .before .before .before .before .args in
+    let turned = turned-goes-in (a .plan) (now (a .letters)) (now (a .new)) (c .before .before .before .before .before .before .before .before .before .before .pre .0) (c .before .before .before .before .before .enum-told3 .given .1) in
     (refl, c .before .before .write-revcomp .ensures ∙ ap (λ (l : List ℕ). over l (now (a .out))) turned)
 
 pub write-put-spec : {M : Type 1} → statement M
@@ -92,7 +92,6 @@ write-put-spec =
     (λ c κs. search needs)
     (λ c. search needs)
     sub-first
-    (λ c κs. search needs)
     (λ c. search needs)
     (λ c. search needs)
     (λ c. search needs)

@@ -1,6 +1,6 @@
 -- `garumbott::numbers::kind_at` meets its contract. Assumes nothing.
 use borrow.Author.Needs.{needs}
-use Rattle.garumbott.proofs.Given.{kind-other}
+use Rattle.rules.proofs.KindNumbers.{kind-other}
 use Rattle.garumbott.proofs.numbers.kind_at.Statement.{statement}
 use Rattle.garumbott.proofs.numbers.kind_at.Tie as tie
 

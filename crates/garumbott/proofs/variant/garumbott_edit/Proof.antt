@@ -1,9 +1,10 @@
 -- `garumbott::variant::garumbott_edit` meets its contract. Assumes nothing.
+use mathlib.Core.Path.{ap, _∙_}
 use borrow.Author.Needs.{needs}
 use lib.ListN.{length}
 use Rattle.rules.specs.Refusal.{limits}
 use Rattle.rules.specs.Views.{cdsOf}
-use Rattle.garumbott.specs.Host.{hostAsked}
+use Rattle.garumbott.specs.Host.{hostAsked, transcribedOf}
 use Rattle.garumbott.proofs.Excepted.{edited-given}
 use Rattle.garumbott.proofs.Given.{given-edit}
 use Rattle.garumbott.proofs.variant.garumbott_edit.Statement.{statement}
@@ -11,16 +12,18 @@ use Rattle.garumbott.proofs.variant.garumbott_edit.Tie as tie
 
 returns : tie.Need-returns
 returns c =
-    let a = c .before .before .before .before .before .before .before .before .before .before .args in
-    let x = c .before .before .build-transcript .ensures in
-    let edit = given-edit (a .kind) (a .start-star) (a .start) (a .end-star) (a .end) (c .before .before .before .before .before .before .before .before .before .before .fits .start) (c .before .before .before .before .before .before .before .before .before .before .fits .end) (c .before .before .before .before .edit-at .result) (c .before .before .before .before .edit-at .ensures) in
+    let a = c .before .before .before .before .before .before .before .before .before .before .before .before .args in
+    let x = c .before .before .before .build-transcript .ensures in
+    let edit = given-edit (a .kind) (a .start-star) (a .start) (a .end-star) (a .end) (c .before .before .before .before .before .before .before .before .before .before .before .before .fits .start) (c .before .before .before .before .before .before .before .before .before .before .before .before .fits .end) (c .before .before .before .before .before .edit-at .result) (c .before .before .before .before .before .edit-at .ensures) in
     let same = edited-given limits (a .letters .now) (cdsOf (a .cs) (a .ce) (a .table)) (hostAsked (a .kind) (a .start-star) (a .start) (a .end-star) (a .end) (a .bases .now)) (length (a .transcript .now)) (a .exceptions .now) in
-    (rw (← same, ← edit, ← c .before .before .before .before .before .exceptions-in .ensures) (x .0), rw (← same, ← edit, ← c .before .before .before .before .before .exceptions-in .ensures) (x .1))
+    rw (← same, ← edit, ← c .before .before .before .before .before .before .exceptions-in .ensures, ← c .before .before .before .before .before .before .before .cds-at .ensures) (c .transcribed-of .ensures ∙ ap transcribedOf (x .0), x .1)
 
 pub garumbott-edit-spec : {M : Type 1} → statement M
 garumbott-edit-spec =
     tie.close
     (tie.spec
+    (λ c κs. search needs)
+    (λ c κs. search needs)
     (λ c κs. search needs)
     (λ c κs. search needs)
     (λ c κs. search needs)

@@ -37,16 +37,16 @@ read-codon-requires c κs =
       ),
     )
 
-excepted-of-requires : tie.Need-excepted-of-requires
-excepted-of-requires c κs =
+excepted-at-requires : tie.Need-excepted-at-requires
+excepted-at-requires c κs =
     let a = c .before .before .before .before .before .before .before .before .before .before .before .args in
     few-exceptions (a .letters .now) (a .c) (a .e) (c .before .before .before .before .before .before .before .before .before .before .before .pre)
 
 returns : tie.Need-returns
 returns c =
     let a = c .before .before .before .before .before .before .before .before .before .before .before .before .args in
-    last-residue (a .letters .now) (a .c) (a .e) (c .before .before .before .before .before .before .before .before .before .before .before .before .pre) _ (c .before .before .before .read-codon .result) (c .excepted-of .result) (residues-are (a .letters .now) (a .c) (a .e) (c .before .before .before .before .before .before .before .before .before .before .before .before .pre))
-    (c .before .before .before .before .before .before .before .before .letter-set .result) (c .before .before .before .before .before .before .letter-set2 .result) (c .before .before .before .before .letter-set3 .result) (c .before .before .before .before .before .before .before .before .letter-set .ensures .0) (c .before .before .before .before .before .before .letter-set2 .ensures .0) (c .before .before .before .before .letter-set3 .ensures .0) (c .before .before .before .read-codon .ensures) (c .excepted-of .ensures)
+    last-residue (a .letters .now) (a .c) (a .e) (c .before .before .before .before .before .before .before .before .before .before .before .before .pre) _ (c .before .before .before .read-codon .result) (c .excepted-at .result) (residues-are (a .letters .now) (a .c) (a .e) (c .before .before .before .before .before .before .before .before .before .before .before .before .pre))
+    (c .before .before .before .before .before .before .before .before .letter-set .result) (c .before .before .before .before .before .before .letter-set2 .result) (c .before .before .before .before .letter-set3 .result) (c .before .before .before .before .before .before .before .before .letter-set .ensures .0) (c .before .before .before .before .before .before .letter-set2 .ensures .0) (c .before .before .before .before .letter-set3 .ensures .0) (c .before .before .before .read-codon .ensures) (c .excepted-at .ensures)
 
 shared-slice-read-letter-set : tie.Need-shared-slice-read-letter-set
 shared-slice-read-letter-set c =
@@ -69,5 +69,5 @@ ends-in-stop-spec =
     read-codon-requires
     (λ c. search needs)
     (λ c. search needs)
-    excepted-of-requires
+    excepted-at-requires
     returns)

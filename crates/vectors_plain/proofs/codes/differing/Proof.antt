@@ -6,10 +6,10 @@ use Rattle.vectors_plain.proofs.codes.differing.Statement.{statement}
 use Rattle.vectors_plain.proofs.codes.differing.Tie as tie
 
 abbrev Inv-loop : tie.InvT-loop
-Inv-loop table lut n₀ k₀ n k = (k ≤ 4096) × (n ≡ 0)
+Inv-loop table residues n₀ k₀ n k = (k ≤ 4096) × (n ≡ 0)
 
 abbrev μ-loop : tie.MeasureT-loop
-μ-loop table lut n₀ k₀ n k = 4096 - k
+μ-loop table residues n₀ k₀ n k = 4096 - k
 
 pub differing-spec : {M : Type 1} → statement M
 differing-spec =

@@ -1,0 +1,2 @@
+-- Laws of the definitions that the functions go by.
+pub mod Rows

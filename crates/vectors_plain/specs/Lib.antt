@@ -1,0 +1,2 @@
+-- What the program's rows are made of.
+pub mod Rows
