@@ -127,6 +127,7 @@ module _ (m : Limits) (s : List ℕ) (k : Known) (e : Exceptions) (protein : Lis
       refused : (n : ℕ) → refusal m (referenceOf s (k .cds) e) a ≡ n → 1 ≤ n → outcome m (referenceOf s (k .cds) e) a room ≡ writesNothing (answer.Refused n)
       refused zero h some = absurd (omega arith)
       refused (suc n) h some = refused-by m (referenceOf s (k .cds) e) a room n h
+
       by : (d : Decision) → decisionOf (m .most) (k .several) (bare s (k .cds)) a ≡ d
           → outcome m (referenceOf s (k .cds) e) a room ≡ decidedOutcome (referenceOf s (k .cds) e) (withRoom (k .cds) room d) (a .new)
       by (decision.Refused n) h =

@@ -60,7 +60,14 @@ fn answer_decided(
         Decision::Refused(n) => Answer::Refused(n),
         Decision::Unknown => Answer::Reported(unknown_report()),
         Decision::Goes(plan) => Answer::Reported(carry_out(
-            letters, known, e, protein, plan, new, transcript, altered,
+            letters,
+            known,
+            e,
+            protein,
+            plan,
+            new,
+            transcript,
+            altered,
         )),
     }
 }
@@ -116,8 +123,25 @@ pub fn build_altseq(
         Checked::Refused(n) => Answer::Refused(n),
         Checked::Known(known) => {
             let residues = known.residues;
-            let decision = decide_in(letters, known, edit, new, transcript.len(), reference.len(), altered.len());
-            let answer = answer_decided(letters, known, e, &protein[..residues], decision, new, transcript, altered);
+            let decision = decide_in(
+                letters,
+                known,
+                edit,
+                new,
+                transcript.len(),
+                reference.len(),
+                altered.len(),
+            );
+            let answer = answer_decided(
+                letters,
+                known,
+                e,
+                &protein[..residues],
+                decision,
+                new,
+                transcript,
+                altered,
+            );
             copy_reference(answer, &protein[..residues], reference);
             answer
         }

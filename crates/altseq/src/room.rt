@@ -9,7 +9,13 @@ ghost use Rattle.edits.specs.declared.plans.Plan.{Plan};
 ghost use Rattle.altseq.specs.Decided.{withRoom};
 
 // What was decided, but 11 or 12 where what the edit writes has no room in the three buffers.
-pub(crate) fn with_room(decided: Decision, c: Cds, transcript: usize, reference: usize, altered: usize) -> Decision
+pub(crate) fn with_room(
+    decided: Decision,
+    c: Cds,
+    transcript: usize,
+    reference: usize,
+    altered: usize,
+) -> Decision
     requires { ⌜ Bounded c ⌝ }
     requires { ⌜ ((p : Plan) → decided ≡ Decision.Goes p → c .cs - 1 ≤ p .length) ⌝ }
     ensures { λ r. ⌜ r ≡ withRoom c (record { transcript = transcript; reference = reference; altered = altered }) decided ⌝ }

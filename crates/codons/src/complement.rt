@@ -16,11 +16,11 @@ pub fn complements() -> [u8; 32]
 }
 
 // The complement of a letter, from the table.
-pub fn complement_of(letters: &[u8; 32], b: u8) -> u8
-    requires { ⌜ HoldsComplements (now letters) ⌝ }
+pub fn complement_of(complements: &[u8; 32], b: u8) -> u8
+    requires { ⌜ HoldsComplements (now complements) ⌝ }
     requires { ⌜ isLetter b ≡ true ⌝ }
     ensures { λ r. ⌜ r ≡ complement b ⌝ }
 {
     let i = (b % 32) as usize;
-    letters[i]
+    complements[i]
 }

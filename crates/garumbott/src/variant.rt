@@ -64,7 +64,5 @@ pub extern "C" fn garumbott_record(
     let cds = cds_at(cs, ce, table);
     let e = exceptions_in(exceptions);
     let edit = edit_at(kind, start_star, start, end_star, end);
-    answer_of(build_altseq(
-        letters, cds, e, edit, bases, transcript, reference, altered,
-    ))
+    answer_of(build_altseq(letters, cds, e, edit, bases, transcript, reference, altered))
 }

@@ -14,7 +14,6 @@ ghost use Rattle.rules.specs.Translation.{residueCount};
 ghost use Rattle.rules.specs.Refusal.{referenceRefusal};
 ghost use Rattle.rules.specs.Views.{referenceOf};
 ghost use Rattle.reference.specs.Known.{proteinUnless, checkedOf};
-
 pub use stop::judge_reference;
 
 // What is known of a reference that isn't refused; its letters, its exceptions and R are lent beside it. `residues` is R's length. The letters
@@ -38,7 +37,13 @@ pub enum Checked {
 }
 
 // 1 to 6, or what is known of the reference from then on. R is in the buffer unless the reference is refused.
-pub fn check_reference(letters: &[u8], cds: Cds, e: Exceptions, longest: usize, protein: &mut [u8]) -> Checked
+pub fn check_reference(
+    letters: &[u8],
+    cds: Cds,
+    e: Exceptions,
+    longest: usize,
+    protein: &mut [u8],
+) -> Checked
     requires { ⌜ longest < 4294967296 ⌝ }
     requires { ⌜ residueCount longest ≤ length (now protein) ⌝ }
     ensures { λ r. ⌜ r ≡ checkedOf longest (now (letters .entry)) cds e ⌝ }

@@ -53,7 +53,13 @@ fn several_stops(protein: &[u8]) -> bool
 }
 
 // Reads R into the buffer, and tells what is known of the reference from then on.
-pub(crate) fn read_reference(letters: &[u8], c: Cds, e: Exceptions, plain: bool, protein: &mut [u8]) -> Known
+pub(crate) fn read_reference(
+    letters: &[u8],
+    c: Cds,
+    e: Exceptions,
+    plain: bool,
+    protein: &mut [u8],
+) -> Known
     requires { ⌜ Readable (now letters) c e ⌝ }
     requires { ⌜ plain ≡ all isBase (now letters) ⌝ }
     requires { ⌜ codons (bare (now letters) c) ≤ length (now protein) ⌝ }

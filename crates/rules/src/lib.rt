@@ -47,7 +47,9 @@ pub struct Cds {
 
 // The longest transcript that the library takes, the residues of its protein, and the most new bases of an edit.
 pub const LONGEST: usize = 16384;
+
 pub const LONGEST_PROTEIN: usize = 5462;
+
 pub const MOST: usize = 4096;
 
 // The longest transcript, and the most new bases.

@@ -26,9 +26,9 @@ pub fn all_letters(seq: &[u8]) -> bool
     good
 }
 
-// Writes the reverse complement of letters, by the table of complements, from the buffer's start.
-pub fn write_revcomp(seq: &[u8], letters: &[u8; 32], out: &mut [u8])
-    requires { ⌜ HoldsComplements (now letters) ⌝ }
+// Writes the reverse complement of letters, by the table of complements, to the buffer's start.
+fn write_reversed(seq: &[u8], complements: &[u8; 32], out: &mut [u8])
+    requires { ⌜ HoldsComplements (now complements) ⌝ }
     requires { ⌜ all isLetter (now seq) ≡ true ⌝ }
     requires { ⌜ length (now seq) ≤ length (now out) ⌝ }
     ensures { λ _. ⌜ now (out .exit) ≡ over (reverseComplement (now (seq .entry))) (now (out .entry)) ⌝ }
@@ -36,9 +36,19 @@ pub fn write_revcomp(seq: &[u8], letters: &[u8; 32], out: &mut [u8])
     let n = seq.len();
     let mut i = 0;
     while i < n {
-        out[i] = complement_of(letters, seq[n - 1 - i]);
+        out[i] = complement_of(complements, seq[n - 1 - i]);
         i += 1;
     }
+}
+
+// Writes the reverse complement of letters to the buffer's start.
+pub fn write_revcomp(seq: &[u8], out: &mut [u8])
+    requires { ⌜ all isLetter (now seq) ≡ true ⌝ }
+    requires { ⌜ length (now seq) ≤ length (now out) ⌝ }
+    ensures { λ _. ⌜ now (out .exit) ≡ over (reverseComplement (now (seq .entry))) (now (out .entry)) ⌝ }
+{
+    let complements = complements();
+    write_reversed(seq, &complements, out);
 }
 
 // The reverse complement: 15 for too little room, then 2 for a byte that is none of the fifteen letters.
@@ -52,7 +62,6 @@ pub fn revcomp(seq: &[u8], out: &mut [u8]) -> Written
     if !all_letters(seq) {
         return Written::Refused(2);
     }
-    let letters = complements();
-    write_revcomp(seq, &letters, out);
+    write_revcomp(seq, out);
     Written::Bytes(seq.len())
 }

@@ -36,7 +36,7 @@ fn block_folds_to_bases(s: &[u8]) -> bool
 }
 
 // Whether each byte is a base of plain translation: A, C, G, T, U, of either case. The first block with another letter ends it.
-pub fn all_fold_to_bases(s: &[u8]) -> bool
+pub(crate) fn all_fold_to_bases(s: &[u8]) -> bool
     ensures { λ r. ⌜ r ≡ all foldsToBase (now (s .entry)) ⌝ }
 {
     let mut i = 0;

@@ -1,12 +1,12 @@
 // Translation of a byte string: one residue a whole codon, exceptions applied, then one X for a rest.
 mod bases;
 mod exceptions;
+mod packed;
 mod reading;
 mod stops;
 mod translate;
 
 pub use bases::all_bases;
-pub use bases::all_fold_to_bases;
 pub use stops::first_stop;
 pub use stops::write_through_stop;
 pub use translate::translate_cds;

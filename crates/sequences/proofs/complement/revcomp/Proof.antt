@@ -16,11 +16,11 @@ returns-2 : tie.Need-returns-2
 returns-2 c = refuses _ _ _ (complement-other _ _ (search needs) (sym (c .before .all-letters .ensures) ∙ not-true _ (c .if2 .taken)))
 
 write-revcomp-requires : tie.Need-write-revcomp-requires
-write-revcomp-requires c κs = (search needs, (sym (c .before .before .before .before .all-letters .ensures) ∙ not-false _ (c .before .before .before .if2 .left), search needs))
+write-revcomp-requires c κs = (sym (c .before .before .all-letters .ensures) ∙ not-false _ (c .before .if2 .left), search needs)
 
 returns-3 : tie.Need-returns-3
 returns-3 c =
-    let known = sym (c .before .before .before .before .before .before .before .all-letters .ensures) ∙ not-false _ (c .before .before .before .before .before .before .if2 .left) in
+    let known = sym (c .before .before .before .before .before .all-letters .ensures) ∙ not-false _ (c .before .before .before .before .if2 .left) in
     gives _ _ _ _ _ (complement-given _ _ (search needs) known) (sym (length-complement _)) (c .before .before .write-revcomp .ensures)
 
 pub revcomp-spec : {M : Type 1} → statement M
@@ -30,7 +30,6 @@ revcomp-spec =
     returns
     (λ c κs. search needs)
     returns-2
-    (λ c κs. search needs)
     write-revcomp-requires
     (λ c. search needs)
     returns-3)

@@ -1,35 +1,18 @@
--- `translation::all_bases` meets its contract. The invariant: what is left tells of the whole.
+-- `translation::all_bases` meets its contract. The invariant: what is left decides.
 -- Assumes nothing.
-use mathlib.Core.Path.{_≡_, refl, sym, _∙_}
-use Prim.Native.Nat.{_-_, _≤_}
-use native.Mathlib.Omega.{arith}
+use Prim.Native.Nat.{_-_}
 use borrow.Author.Needs.{needs}
-use lib.ListN.{length, drop}
-use Rattle.rules.specs.Bytes.{all}
-use Rattle.rules.proofs.Lists.{all-end}
+use lib.ListN.{length}
 use Rattle.codons.specs.Tables.{isBase}
-use Rattle.translation.proofs.Blocks.{was-false, was-true, block-more, block-stop}
+use Rattle.codons.proofs.Loops.{Passed, passed-none, passed-more, passed-not, passed-all}
 use Rattle.translation.proofs.bases.all_bases.Statement.{statement}
 use Rattle.translation.proofs.bases.all_bases.Tie as tie
 
 abbrev Inv-loop : tie.InvT-loop
-Inv-loop s i₀ i = (i ≤ length s) × (all isBase (drop i s) ≡ all isBase s)
+Inv-loop s i₀ i = Passed isBase s i
 
 abbrev μ-loop : tie.MeasureT-loop
 μ-loop s i₀ i = length s - i
-
-returns : tie.Need-returns Inv-loop μ-loop
-returns c =
-    sym (block-stop isBase (c .before .before .before .before .before .before .before .args .s .now) (c .before .before .before .before .before .loop .i) _ (search needs) (sym (c .before .block-bases .ensures) ∙ was-false (c .before .block-bases .result) (c .if1 .taken))) ∙ c .before .before .before .before .before .loop .inv .1
-
-loop-again : tie.Need-loop-again Inv-loop μ-loop
-loop-again c = (
-  search needs,
-  sym (block-more isBase (c .before .before .before .before .before .before .before .args .s .now) (c .before .before .before .before .before .loop .i) _ (search needs) (sym (c .before .block-bases .ensures) ∙ was-true (c .before .block-bases .result) (c .if1 .left))) ∙ c .before .before .before .before .before .loop .inv .1,
-)
-
-returns-2 : tie.Need-returns-2 Inv-loop μ-loop
-returns-2 c = sym (all-end isBase (c .before .before .before .args .s .now) (c .before .loop .i) (c .loop-test .left)) ∙ c .before .loop .inv .1
 
 pub all-bases-spec : {M : Type 1} → statement M
 all-bases-spec =
@@ -37,7 +20,7 @@ all-bases-spec =
     (tie.spec
     Inv-loop
     μ-loop
-    (λ c. (search needs, refl))
+    (λ c. passed-none isBase _)
     (λ c. search needs)
     (λ c κs. search needs)
     (λ c. search needs)
@@ -45,7 +28,7 @@ all-bases-spec =
     (λ c. search needs)
     (λ c. search needs)
     (λ c κs. search needs)
-    returns
+    (λ c. passed-not (c .before .before .before .before .before .loop .inv) _ (search needs) (c .before .block-bases .ensures) (c .if1 .taken))
     (λ c. search needs)
-    loop-again
-    returns-2)
+    (λ c. passed-more (c .before .before .before .before .before .loop .inv) _ (search needs) (c .before .block-bases .ensures) (search needs) (c .if1 .left))
+    (λ c. passed-all (c .before .loop .inv) (c .loop-test .left)))

@@ -1,31 +1,18 @@
 -- `translation::block_folds_to_bases` meets its contract. The invariant: what was found and what is left decide.
 -- Assumes nothing.
-use mathlib.Core.Bool.{_&&_}
-use mathlib.Core.Path.{_≡_, refl, sym, _∙_}
-use Prim.Native.Nat.{_-_, _≤_}
+use Prim.Native.Nat.{_-_}
 use borrow.Author.Needs.{needs}
-use lib.ListN.{length, drop}
-use Rattle.rules.specs.Bytes.{all}
-use Rattle.rules.proofs.Lists.{all-and, all-and-end}
+use lib.ListN.{length}
 use Rattle.codons.specs.Tables.{foldsToBase}
+use Rattle.codons.proofs.Loops.{Tested, tested-none, tested-more, tested-all}
 use Rattle.translation.proofs.bases.block_folds_to_bases.Statement.{statement}
 use Rattle.translation.proofs.bases.block_folds_to_bases.Tie as tie
 
 abbrev Inv-loop : tie.InvT-loop
-Inv-loop s good₀ i₀ good i = (i ≤ length s) × (good && all foldsToBase (drop i s) ≡ all foldsToBase s)
+Inv-loop s good₀ i₀ good i = Tested foldsToBase s good i
 
 abbrev μ-loop : tie.MeasureT-loop
 μ-loop s good₀ i₀ good i = length s - i
-
-loop-again : tie.Need-loop-again Inv-loop μ-loop
-loop-again c =
-    let at-loop = c .before .before .before in
-    (search needs, all-and foldsToBase (at-loop .before .before .args .s .now) (at-loop .loop .i) (at-loop .loop .good) (c .folds-to-base .result) (c .before .before .loop-test .taken) (c .folds-to-base .ensures) ∙ at-loop .loop .inv .1)
-
-returns : tie.Need-returns Inv-loop μ-loop
-returns c =
-    let at-loop = c .before in
-    sym (all-and-end foldsToBase (at-loop .before .before .args .s .now) (at-loop .loop .i) (at-loop .loop .good) (c .loop-test .left)) ∙ at-loop .loop .inv .1
 
 pub block-folds-to-bases-spec : {M : Type 1} → statement M
 block-folds-to-bases-spec =
@@ -33,10 +20,10 @@ block-folds-to-bases-spec =
     (tie.spec
     Inv-loop
     μ-loop
-    (λ c. (search needs, refl))
+    (λ c. tested-none foldsToBase _)
     (λ c. search needs)
     (λ c κs. search needs)
     (λ c. search needs)
     (λ c. search needs)
-    loop-again
-    returns)
+    (λ c. tested-more (c .before .before .before .loop .inv) (c .before .before .loop-test .taken) (c .folds-to-base .ensures))
+    (λ c. tested-all (c .before .loop .inv) (c .loop-test .left)))

@@ -1,4 +1,4 @@
--- `sequences::complement::write_revcomp` meets its contract. The invariant: writing the complements that are left gives the whole.
+-- `sequences::complement::write_reversed` meets its contract. The invariant: writing the complements that are left gives the whole.
 -- Assumes nothing.
 use mathlib.Core.Path.{_≡_, refl}
 use Prim.Native.Nat.{_-_, _≤_}
@@ -10,18 +10,18 @@ use Rattle.rules.specs.Complement.{reverseComplement}
 use Rattle.rules.proofs.Lists.{all-at}
 use Rattle.rules.proofs.Over.{overFrom}
 use Rattle.sequences.proofs.complement.Laws.{put-start, put-letter, put-last}
-use Rattle.sequences.proofs.complement.write_revcomp.Statement.{statement}
-use Rattle.sequences.proofs.complement.write_revcomp.Tie as tie
+use Rattle.sequences.proofs.complement.write_reversed.Statement.{statement}
+use Rattle.sequences.proofs.complement.write_reversed.Tie as tie
 
 abbrev Inv-loop : tie.InvT-loop
-Inv-loop seq letters out₀ n i₀ out i =
+Inv-loop seq complements out₀ n i₀ out i =
     (i ≤ n)
     × (n ≡ length seq)
     × (length out ≡ length out₀)
     × (overFrom i (reverseComplement (take (length seq - i) seq)) out ≡ over (reverseComplement seq) out₀)
 
 abbrev μ-loop : tie.MeasureT-loop
-μ-loop seq letters out₀ n i₀ out i = n - i
+μ-loop seq complements out₀ n i₀ out i = n - i
 
 loop-holds : tie.Need-loop-holds Inv-loop μ-loop
 loop-holds c = (search needs, refl, refl, put-start _ _)
@@ -42,8 +42,8 @@ loop-again c =
 returns : tie.Need-returns Inv-loop μ-loop
 returns c = put-last (c .before .before .before .before .args .seq .now) _ _ _ (search needs) (c .before .loop .inv .3)
 
-pub write-revcomp-spec : {M : Type 1} → statement M
-write-revcomp-spec =
+pub write-reversed-spec : {M : Type 1} → statement M
+write-reversed-spec =
     tie.close
     (tie.spec
     Inv-loop

@@ -1,0 +1,60 @@
+-- Laws of tests of each byte of a string, by loops that go one at a time or in blocks, whatever the test. Assumes nothing.
+use mathlib.Core.Path.{_≡_, refl, sym, ap, _∙_}
+use mathlib.Core.Bool.{Bool, true, false, _&&_, not, and-eq-true-iff}
+use mathlib.Core.List.{List, [], _∷_}
+use Prim.Native.Nat.{ℕ, _+_, _-_, _≤_, _<_}
+use native.Mathlib.Omega.{arith}
+use lib.ListN.{length, getD, take, drop, take-append-drop}
+use lib.Seq.{drop-drop}
+use borrow.Author.Tests.{not-true, not-false}
+use Rattle.rules.specs.Bytes.{all}
+use Rattle.rules.proofs.Lists.{all-and, all-and-end, all-append, all-end}
+
+-- what all pass that pass another test
+pub all-implied : (p q : ℕ → Bool) → ((x : ℕ) → p x ≡ true → q x ≡ true) → (s : List ℕ) → all p s ≡ true → all q s ≡ true
+unfolding all
+all-implied p q f [] e = refl
+all-implied p q f (x ∷ s) e =
+    let both = and-eq-true-iff (p x) (all p s) .0 e in
+    rw (f x (both .0), all-implied p q f s (both .1))
+
+-- the bytes before i were tested, and all of them passed if `good`: what was found and what is left decide
+pub record Tested (p : ℕ → Bool) (s : List ℕ) (good : Bool) (i : ℕ) : Type 0 where
+  pub within : i ≤ length s
+  pub decides : good && all p (drop i s) ≡ all p s
+
+pub tested-none : (p : ℕ → Bool) (s : List ℕ) → Tested p s true 0
+tested-none p s = record { within = omega arith; decides = refl }
+
+pub tested-more : {p : ℕ → Bool} {s : List ℕ} {good : Bool} {i : ℕ} {one : Bool} → Tested p s good i → i < length s → one ≡ p (getD s i 0) → Tested p s (good && one) (i + 1)
+tested-more {p} {s} {good} {i} {one} t h e =
+    record { within = omega arith; decides = all-and p s i good one h e ∙ t .decides }
+
+pub tested-all : {p : ℕ → Bool} {s : List ℕ} {good : Bool} {i : ℕ} → Tested p s good i → length s ≤ i → good ≡ all p s
+tested-all {p} {s} {good} {i} t h = sym (all-and-end p s i good h) ∙ t .decides
+
+-- the blocks before i passed: what is left decides
+pub record Passed (p : ℕ → Bool) (s : List ℕ) (i : ℕ) : Type 0 where
+  pub within : i ≤ length s
+  pub decides : all p (drop i s) ≡ all p s
+
+pub passed-none : (p : ℕ → Bool) (s : List ℕ) → Passed p s 0
+passed-none p s = record { within = omega arith; decides = refl }
+
+module _ {p : ℕ → Bool} {s : List ℕ} {i : ℕ} (t : Passed p s i) where
+  pub passed-all : length s ≤ i → true ≡ all p s
+  passed-all h = sym (all-end p s i h) ∙ t .decides
+
+  module _ (end : ℕ) {r : Bool} (h : i ≤ end) (is : r ≡ all p (take (end - i) (drop i s))) where
+    block : all p (drop i s) ≡ r && all p (drop end s)
+    block =
+        let at : i + (end - i) ≡ end = omega arith in
+        ap (all p) (sym (take-append-drop (end - i) (drop i s)))
+        ∙ all-append p (take (end - i) (drop i s)) (drop (end - i) (drop i s))
+        ∙ rw (drop-drop (end - i) i s, at, is)
+
+    pub passed-more : end ≤ length s → not r ≡ false → Passed p s end
+    passed-more k e = record { within = k; decides = sym (block ∙ rw (not-false r e)) ∙ t .decides }
+
+    pub passed-not : not r ≡ true → false ≡ all p s
+    passed-not e = sym (block ∙ rw (not-true r e)) ∙ t .decides
