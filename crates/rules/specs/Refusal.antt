@@ -16,11 +16,11 @@ use Rattle.rules.specs.Record.{recordOf}
 abbrev pub limits : Limits
 limits = record { longest = 16384; most = 4096 }
 
--- 1 to 6, and 0 where none applies
+-- 1 to 6 or 28, and 0 where none applies
 unfoldable pub referenceRefusal : ℕ → Reference → ℕ
 referenceRefusal longest r = firstOf (referenceTests longest r)
 
--- 1 to 10, and 0 where none applies
+-- 1 to 10, 28 among them, and 0 where none applies
 unfoldable pub refusal : Limits → Reference → Asked → ℕ
 refusal m r e = firstOf (referenceTests (m .longest) r ++ editTests (m .most) r e)
 
@@ -30,7 +30,7 @@ pub record Room : Type 0 where
   pub reference : ℕ
   pub altered : ℕ
 
--- 11: transcript buffer shorter than the altered length; 12: a protein buffer shorter than CDS/3 or ceil((altered length-cs+1)/3)
+-- 11: transcript buffer shorter than the altered length; 12: a protein buffer shorter than CDS/3 rounded up or ceil((altered length-cs+1)/3)
 unfoldable pub roomTests : ℕ → ℕ → ℕ → Room → List Test
 roomTests coding cs altered room =
     ltb (room .transcript) altered ↯ 11

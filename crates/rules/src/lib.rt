@@ -38,11 +38,13 @@ pub struct Exceptions {
     pub count: usize,
 }
 
-// The bounds and the table of a reference; its letters and its exceptions are lent beside them.
+// The bounds and the table of a reference, and how its CDS ends: 0 at a stop, 1 without one, 2 in one or two bases of a codon. Its letters and
+// its exceptions are lent beside them.
 pub struct Cds {
     pub cs: usize,
     pub ce: usize,
     pub table: usize,
+    pub end: usize,
 }
 
 // The longest transcript that the library takes, the residues of its protein, and the most new bases of an edit.
