@@ -14,12 +14,12 @@ use Rattle.rules.specs.Bytes.{byte, all, count}
 use Rattle.rules.specs.Letters.{isLetter}
 use Rattle.rules.specs.Codons.{isTable}
 use Rattle.rules.specs.Translation.{noException, residueCount, isResidue}
-use Rattle.rules.specs.Reference.{Reference, atStop, cutCodon, size, isSize, cdsSize, fitsEnd, areBounds, cds, codons, areRising, fitExceptions, referenceProtein, endsInStop, isCutShort, referenceTests}
+use Rattle.rules.specs.Reference.{Reference, atStop, isShortEnd, size, isSize, cdsSize, fitsEnd, areBounds, cds, codons, areRising, fitExceptions, referenceProtein, endsInStop, isCutShort, referenceTests}
 use Rattle.rules.specs.Refusal.{referenceRefusal}
 use Rattle.rules.proofs.Tests.{and-left, and-right, and-implies, first-clear}
 use Rattle.rules.proofs.Translation.{length-translated}
 
--- 1 <= cs <= ce <= L; ce-cs+1 is divisible by 3, or not, by the end, and at least 6
+-- 1 <= cs <= ce <= L; ce-cs+1 fits the end and is at least 6
 pub record Bounds (r : Reference) : Type 0 where
   pub first : 1 ≤ r .cs
   pub rising : r .cs ≤ r .ce
@@ -27,7 +27,7 @@ pub record Bounds (r : Reference) : Type 0 where
   pub ends : fitsEnd (r .end) (cdsSize r) ≡ true
   pub long : 6 ≤ cdsSize r
 
--- neither 1 to 6 nor 28 apply
+-- none of 1 to 5, 6 and 28 applies
 pub record Accepted (longest : ℕ) (r : Reference) : Type 0 where
   pub some : 1 ≤ size r
   pub fits : size r ≤ longest
@@ -114,7 +114,7 @@ protein-read longest r h =
       counted = counted;
       two = omega (arith, a .bounds .long);
       last = λ k. ap (λ (n : ℕ). getD (referenceProtein r) (n - 1) 0) (whole k) ∙ a .stop k;
-      none = λ k. eqb-true (count (byte "*") (referenceProtein r)) 0 (and-right (leb (r .end) cutCodon && eqb (r .ce) (size r)) _ (a .cut k));
+      none = λ k. eqb-true (count (byte "*") (referenceProtein r)) 0 (and-right (isShortEnd (r .end) && eqb (r .ce) (size r)) _ (a .cut k));
     }
 
 -- a codon number above `last` and at most `most`, and a residue A to Z or `*`

@@ -25,8 +25,9 @@ storedWith s =
 -- E8: references cut short
 abbrev pub cutShort : List Decided
 cutShort =
-    -- 3 by the end: an unknown one keeps the old rule
+    -- 3 by the end, at least 6 bases for each; an unknown one keeps the old rule
     edited (ending 2 "ATGGCC" []) "1=" ⇒ "refused 3"
+    ∷ edited (ending 2 "ATGGC" []) "1=" ⇒ "refused 3"
     ∷ edited (ending 9 "ATGGCCA" []) "1=" ⇒ "refused 3"
     ∷ edited (ending 9 "ATGTAA" []) "1=" ⇒ "refused 28"
     -- 6 is for an end at a stop alone

@@ -1,7 +1,7 @@
 -- "Reference": letters, bounds, table, exceptions and how the CDS ends, and the reference protein R.
 use Prim.Native.Nat.{ℕ, _+_, _-_, _/_, _%_}
 use mathlib.Core.List.{List, [], _∷_}
-use mathlib.Core.Bool.{Bool, true, _&&_, not}
+use mathlib.Core.Bool.{Bool, true, _&&_, _||_, not}
 use lib.Dec.{eqb, leb, ltb}
 use lib.ListN.{length, take, drop, getD}
 use Rattle.rules.specs.declared.Exception.{Exception}
@@ -28,6 +28,10 @@ noStop = 1
 abbrev pub cutCodon : ℕ
 cutCodon = 2
 
+-- a known end, and not at a stop
+unfoldable pub isShortEnd : ℕ → Bool
+isShortEnd end = eqb end noStop || eqb end cutCodon
+
 -- L
 unfoldable pub size : Reference → ℕ
 size r = length (r .letters)
@@ -44,7 +48,7 @@ cdsSize r = r .ce + 1 - r .cs
 unfoldable pub fitsEnd : ℕ → ℕ → Bool
 fitsEnd end n = if eqb end cutCodon then not (eqb (n % 3) 0) else eqb (n % 3) 0
 
--- 1 <= cs <= ce <= L; ce-cs+1 is divisible by 3, or not, by the end, and at least 6
+-- 1 <= cs <= ce <= L; ce-cs+1 fits the end and is at least 6
 unfoldable pub areBounds : Reference → Bool
 areBounds r =
     leb 1 (r .cs) && leb (r .cs) (r .ce) && leb (r .ce) (size r) && fitsEnd (r .end) (cdsSize r) && leb 6 (cdsSize r)
@@ -74,11 +78,11 @@ referenceProtein r = translated (r .table) (r .exceptions) (cds r)
 unfoldable pub endsInStop : Reference → Bool
 endsInStop r = eqb (getD (referenceProtein r) (codons r - 1) 0) (byte "*")
 
--- a known end, ce = L and no `*` in R
+-- the last two need ce = L and no `*` in R
 unfoldable pub isCutShort : Reference → Bool
-isCutShort r = leb (r .end) cutCodon && eqb (r .ce) (size r) && eqb (count (byte "*") (referenceProtein r)) 0
+isCutShort r = isShortEnd (r .end) && eqb (r .ce) (size r) && eqb (count (byte "*") (referenceProtein r)) 0
 
--- 1 to 6; 6 only for ends at a stop, 28 in its place for the others
+-- 1 to 5, then 6 for an end at a stop and 28 for the others
 unfoldable pub referenceTests : ℕ → Reference → List Test
 referenceTests longest r =
     not (isSize longest (size r)) ↯ 1

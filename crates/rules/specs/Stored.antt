@@ -7,7 +7,7 @@ use lib.Dec.{eqb, leb, ltb}
 use lib.ListN.{length, take, drop, getD}
 use Rattle.rules.specs.declared.Exception.{Exception}
 use Rattle.rules.specs.Bytes.{if_then_else_, Result, given, refused, unless}
-use Rattle.rules.specs.Reference.{Reference, atStop, noStop, cutCodon}
+use Rattle.rules.specs.Reference.{Reference, atStop, isShortEnd}
 use Rattle.rules.specs.Refusal.{referenceRefusal}
 
 -- a number of two bytes, high byte first
@@ -70,8 +70,8 @@ unfoldable pub contentOf : ℕ → List Tagged → Option (List ℕ)
 contentOf t [] = none
 contentOf t (f ∷ fs) = if eqb (f .tag) t then some (f .content) else contentOf t fs
 
--- tags 1 to 4 and 8: 1 letters; 2 bounds, two bytes each; 3 table, one byte; 4 exceptions, three bytes each; 8 how the CDS ends, one byte, 1
--- for no stop and 2 for a cut codon
+-- tags 1 to 4 and 8: 1 letters; 2 bounds, two bytes each; 3 table, one byte; 4 exceptions, three bytes each; 8 how the CDS ends,
+-- one byte, absent for a stop
 unfoldable pub referenceForm : Form
 referenceForm =
     record {
@@ -80,7 +80,7 @@ referenceForm =
           if eqb tag 2 then eqb (length content) 4
           else if eqb tag 3 then eqb (length content) 1
           else if eqb tag 4 then eqb (length content % 3) 0
-          else if eqb tag 8 then eqb (length content) 1 && (eqb (getD content 0 0) noStop || eqb (getD content 0 0) cutCodon)
+          else if eqb tag 8 then eqb (length content) 1 && isShortEnd (getD content 0 0)
           else true;
     }
 
@@ -111,12 +111,12 @@ assembled (some letters) (some bounds) (some table) exceptions end =
       end = getD end 0 atStop;
     })
 
--- the reference that fields hold, or their refusal; 1 to 6 and 28 aren't judged
+-- the reference that fields hold, or their refusal; 1 to 5, 6 or 28 aren't judged
 unfoldable pub assembledIn : Result (List Tagged) → Result Reference
 assembledIn (refused n) = refused n
 assembledIn (given fs) = assembled (contentOf 1 fs) (contentOf 2 fs) (contentOf 3 fs) (orEmpty (contentOf 4 fs)) (orEmpty (contentOf 8 fs))
 
--- then 1 to 6, or 28 in 6's place
+-- then 1 to 5, 6 or 28
 unfoldable pub checked : ℕ → Result Reference → Result Reference
 checked longest (refused n) = refused n
 checked longest (given r) = unless (referenceRefusal longest r) r
