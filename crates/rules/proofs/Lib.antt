@@ -17,6 +17,7 @@ pub mod Records
 pub mod Demand
 pub mod Checks
 pub mod Protein
+pub mod Silent
 pub mod Answers
 pub mod KindNumbers
 pub mod Thirteen
