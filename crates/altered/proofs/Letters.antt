@@ -8,11 +8,16 @@ use native.Mathlib.Omega.{arith}
 use lib.ListN.{length, take, drop, getD, length-drop, List·getD-append}
 use lib.Seq.{length-take-le, getD-take, getD-drop, getD-append-add}
 use Rattle.rules.specs.Bytes.{all}
-use Rattle.rules.specs.Letters.{isLetter}
+use Rattle.rules.specs.Letters.{letterSet, isLetter}
 use Rattle.rules.specs.Complement.{complement, reverseComplement}
 use Rattle.rules.specs.Altered.{part, carried}
-use Rattle.rules.proofs.Complement.{complement-last}
+use Rattle.rules.proofs.Tests.{all-take, all-drop, all-both}
+use Rattle.rules.proofs.Lists.{all-at}
+use Rattle.rules.proofs.Complement.{complement-last, letters-complement}
+use Rattle.rules.proofs.Parts.{letters-part}
+use Rattle.codons.proofs.Sets.{letter-some}
 use Rattle.edits.specs.declared.plans.Plan.{Plan}
+use Rattle.edits.specs.declared.plans.Source.{Source}
 use Rattle.edits.specs.declared.plans.Source.the-variants.{New, Copy, Turned}
 use Rattle.edits.specs.Plans.{sourceBytes, goesIn}
 use Rattle.transcript.specs.Carrying.{Sourced, carriedBy}
@@ -52,6 +57,13 @@ module _ (p : Plan) (letters new : List ℕ) (x : Sourced p letters new) (i : �
       (sym (complement-at (drop (p .start) letters) n i (omega (arith, x .ends)) (omega arith)
       ∙ ap complement (getD-drop (p .start) letters (n - 1 - i) 0 ∙ ap (λ (k : ℕ). getD letters k 0) place)))
 
+-- what goes in has letters only
+source-letters : (x : Source) (start end : ℕ) (letters new : List ℕ) → all isLetter letters ≡ true → all isLetter new ≡ true → all isLetter (sourceBytes x start end letters new) ≡ true
+unfolding sourceBytes
+source-letters New start end letters new h k = k
+source-letters Copy start end letters new h k = letters-part start end letters h
+source-letters Turned start end letters new h k = letters-complement (part start end letters) (letters-part start end letters h)
+
 -- the altered transcript
 module _ (p : Plan) (letters new : List ℕ) (m : Makes p letters new) where
   pub length-made : length (carriedBy p letters new) ≡ p .from + (p .kept + (length letters - p .to))
@@ -89,3 +101,16 @@ module _ (p : Plan) (letters new : List ℕ) (m : Makes p letters new) where
       sym (ap (λ (j : ℕ). getD (carriedBy p letters new) j 0) place
       ∙ getD-append-add (take (p .from) letters) (goesIn p letters new ++ drop (p .to) letters) (length (goesIn p letters new) + n) 0
       ∙ getD-append-add (goesIn p letters new) (drop (p .to) letters) n 0 ∙ getD-drop (p .to) letters n 0 ∙ ap (λ (j : ℕ). getD letters j 0) old)
+
+  letters-made : all isLetter (carriedBy p letters new) ≡ true
+  unfolding carriedBy carried goesIn
+  letters-made =
+      let old = m .source .letters-are in
+      let put = source-letters (p .source) (p .start) (p .end) letters new old (m .new-letters) in
+      all-both isLetter (take (p .from) letters) (goesIn p letters new ++ drop (p .to) letters) (all-take isLetter (p .from) letters old)
+      (all-both isLetter (goesIn p letters new) (drop (p .to) letters)
+      (all-take isLetter (p .kept) (sourceBytes (p .source) (p .start) (p .end) letters new) put) (all-drop isLetter (p .to) letters old))
+
+  -- a letter's set
+  pub some-set : (i : ℕ) → i < length (carriedBy p letters new) → 0 < letterSet (getD (carriedBy p letters new) i 0)
+  some-set i h = letter-some (getD (carriedBy p letters new) i 0) (all-at isLetter (carriedBy p letters new) i letters-made h)

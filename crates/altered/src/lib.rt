@@ -1,9 +1,16 @@
 // The altered transcript read over its plan, without writing it.
+use codons::letters::letter_set;
+use codons::reader::read_codon;
 use edits::plans::Plan;
 use edits::plans::Source;
+use rules::Exceptions;
+use translation::excepted_at;
 ghost use mathlib.Core.Path.{_≡_};
-ghost use Prim.Native.Nat.{_<_};
+ghost use Prim.Native.Nat.{_+_, _*_, _≤_, _<_};
 ghost use lib.ListN.{length, getD};
+ghost use Rattle.rules.specs.Letters.{letterSet};
+ghost use Rattle.rules.specs.Codons.{codon};
+ghost use Rattle.rules.specs.Translation.{exceptionList, excepted};
 ghost use Rattle.rules.specs.Complement.{complement};
 ghost use Rattle.edits.specs.Plans.{goesIn};
 ghost use Rattle.transcript.specs.Carrying.{Sourced, carriedBy};
@@ -63,4 +70,36 @@ pub fn letter_at(letters: &[u8], plan: Plan, new: &[u8], i: usize) -> u8
         return put_at(letters, plan, new, past);
     }
     letters[past - kept + to]
+}
+
+// The set of a letter of the altered transcript.
+fn set_at(letters: &[u8], plan: Plan, new: &[u8], i: usize) -> usize
+    requires { ⌜ Makes plan (now letters) (now new) ⌝ }
+    requires { ⌜ i < length (carriedBy plan (now letters) (now new)) ⌝ }
+    ensures { λ r. ⌜ r ≡ letterSet (getD (carriedBy plan (now (letters .entry)) (now (new .entry))) i 0) ⌝ }
+    ensures some { λ r. ⌜ (0 < r) × (r < 16) ⌝ }
+{
+    letter_set(letter_at(letters, plan, new, i))
+}
+
+// The residue of a codon of the altered transcript, counted from 0 behind `first`, exceptions applied.
+pub fn residue_at(
+    letters: &[u8],
+    table: usize,
+    plan: Plan,
+    new: &[u8],
+    e: Exceptions,
+    first: usize,
+    k: usize,
+) -> u8
+    requires { ⌜ Makes plan (now letters) (now new) ⌝ }
+    requires { ⌜ first + k * 3 + 3 ≤ length (carriedBy plan (now letters) (now new)) ⌝ }
+    requires { ⌜ (table < 3) × (e .count ≤ 16) ⌝ }
+    ensures { λ r. ⌜ r ≡ excepted (exceptionList e) (k + 1) (codon table (getD (carriedBy plan (now (letters .entry)) (now (new .entry))) (first + k * 3) 0) (getD (carriedBy plan (now (letters .entry)) (now (new .entry))) (first + k * 3 + 1) 0) (getD (carriedBy plan (now (letters .entry)) (now (new .entry))) (first + k * 3 + 2) 0)) ⌝ }
+{
+    let at = first + k * 3;
+    let a = set_at(letters, plan, new, at);
+    let b = set_at(letters, plan, new, at + 1);
+    let c = set_at(letters, plan, new, at + 2);
+    excepted_at(e, k + 1, read_codon(table, a, b, c))
 }
