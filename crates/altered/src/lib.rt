@@ -3,6 +3,8 @@ use codons::letters::letter_set;
 use codons::reader::read_codon;
 use edits::plans::Plan;
 use edits::plans::Source;
+use exceptions::moved_all;
+use numbers::least;
 use rules::Exceptions;
 use translation::excepted_at;
 ghost use mathlib.Core.Path.{_≡_};
@@ -12,6 +14,9 @@ ghost use Rattle.rules.specs.Letters.{letterSet};
 ghost use Rattle.rules.specs.Codons.{codon};
 ghost use Rattle.rules.specs.Translation.{exceptionList, excepted};
 ghost use Rattle.rules.specs.Complement.{complement};
+ghost use Rattle.rules.specs.Trims.{commonPrefix};
+ghost use Rattle.rules.specs.Exceptions.{suffixBehind, movedAll};
+ghost use Rattle.exceptions.specs.Moving.{Given};
 ghost use Rattle.edits.specs.Plans.{goesIn};
 ghost use Rattle.transcript.specs.Carrying.{Sourced, carriedBy};
 ghost use Rattle.altered.specs.Over.{Makes};
@@ -102,4 +107,58 @@ pub fn residue_at(
     let b = set_at(letters, plan, new, at + 1);
     let c = set_at(letters, plan, new, at + 2);
     excepted_at(e, k + 1, read_codon(table, a, b, c))
+}
+
+// How many first letters an edit leaves: those before it, and those equal behind them. The altered transcript has `made` bases, here and below.
+fn shared_front(letters: &[u8], plan: Plan, new: &[u8], made: usize) -> usize
+    requires { ⌜ Makes plan (now letters) (now new) ⌝ }
+    requires { ⌜ made ≡ length (carriedBy plan (now letters) (now new)) ⌝ }
+    ensures { λ r. ⌜ r ≡ commonPrefix (now (letters .entry)) (carriedBy plan (now (letters .entry)) (now (new .entry))) ⌝ }
+{
+    let n = least(letters.len(), made);
+    let mut i = plan.from;
+    while i < n {
+        if letters[i] != letter_at(letters, plan, new, i) {
+            return i;
+        }
+        i += 1;
+    }
+    n
+}
+
+// How many last letters it leaves behind the prefix: those behind the edit, and those equal before them.
+fn shared_back(letters: &[u8], plan: Plan, new: &[u8], made: usize, prefix: usize) -> usize
+    requires { ⌜ Makes plan (now letters) (now new) ⌝ }
+    requires { ⌜ made ≡ length (carriedBy plan (now letters) (now new)) ⌝ }
+    requires { ⌜ (prefix ≤ length (now letters)) × (prefix ≤ made) ⌝ }
+    ensures { λ r. ⌜ r ≡ suffixBehind prefix (now (letters .entry)) (carriedBy plan (now (letters .entry)) (now (new .entry))) ⌝ }
+{
+    let size = letters.len();
+    let n = least(size, made) - prefix;
+    let mut i = least(size - plan.to, n);
+    while i < n {
+        if letters[size - 1 - i] != letter_at(letters, plan, new, made - 1 - i) {
+            return i;
+        }
+        i += 1;
+    }
+    n
+}
+
+// The exceptions of the altered transcript. The CDS begins at index `first`.
+pub fn moved_over(letters: &[u8], plan: Plan, new: &[u8], first: usize, e: Exceptions) -> Exceptions
+    requires { ⌜ Makes plan (now letters) (now new) ⌝ }
+    requires { ⌜ first ≤ plan .from ⌝ }
+    requires { ⌜ Given first (now letters) e ⌝ }
+    ensures { λ r. ⌜ exceptionList r ≡ movedAll (commonPrefix (now (letters .entry)) (carriedBy plan (now (letters .entry)) (now (new .entry)))) first (now (letters .entry)) (carriedBy plan (now (letters .entry)) (now (new .entry))) (exceptionList e) ⌝ }
+    ensures few { λ r. ⌜ r .count ≤ 16 ⌝ }
+{
+    if e.count == 0 {
+        return e;
+    }
+    let size = letters.len();
+    let made = plan.from + plan.kept + (size - plan.to);
+    let prefix = shared_front(letters, plan, new, made);
+    let suffix = shared_back(letters, plan, new, made, prefix);
+    moved_all(e, first, prefix, suffix, size, made)
 }
