@@ -8,13 +8,13 @@ use native.Mathlib.Omega.{arith}
 use lib.Dec.{eqb, ltb, leb}
 use lib.ListN.{length, take, drop, length-append, length-take, length-drop, take-append-drop}
 use lib.Seq.{length-take-le, take-at, drop-at, drop-drop}
-use borrow.Author.Tests.{eq-eqb, ne-eqb, eqb-true, eqb-false, le-ltb, ltb-true, ltb-false, le-leb, lt-leb}
+use borrow.Author.Tests.{eq-eqb, ne-eqb, eqb-true, eqb-false, le-ltb, ltb-true, ltb-false, le-leb, lt-leb, not-true, not-false}
 use Rattle.rules.specs.Bytes.{same}
 use Rattle.rules.specs.Trims.{commonPrefix, commonSuffix}
 use Rattle.rules.specs.Record.{ending, replayed}
-use Rattle.rules.specs.Check.{stands, replays, beginsThere, leavesEnding}
+use Rattle.rules.specs.Check.{Proposal, stands, replays, beginsThere, leavesEnding, isShortest}
 use Rattle.rules.proofs.Over.{tail-is}
-use Rattle.rules.proofs.Trims.{same-lengths, same-is, cp-le-l, cs-le-l}
+use Rattle.rules.proofs.Trims.{same-lengths, cp-le-l, cs-le-l}
 use Rattle.proposals.specs.Proposed.{proposed}
 
 -- a number from 1 to one more than the residues
@@ -55,12 +55,6 @@ module _ (number : ℕ) (D put R : List ℕ) (k : ℕ) (e : k ≡ min (number - 
   pub stands-not : length R - k < length D → false ≡ stands (proposed number D put) R
   stands-not h = sym (same-lengths (take (length D) (drop k R)) D (λ q. omega (arith, length-take (length D) (drop k R), length-drop k R))) ∙ at-place
 
-  -- there is room for it
-  pub stands-within : stands (proposed number D put) R ≡ true → (k ≤ length R) × (k + length D ≤ length R)
-  stands-within h =
-      let there = ap length (same-is (take (length D) (drop k R)) D (at-place ∙ h)) in
-      (omega arith, omega (arith, length-take (length D) (drop k R), length-drop k R))
-
 -- two lists in a row are the same as a third where each is the same as its part
 same-append : (p q a : List ℕ) → same (p ++ q) a ≡ same p (take (length p) a) && same q (drop (length p) a)
 unfolding same
@@ -94,16 +88,22 @@ module _ (R A P : List ℕ) (at end : ℕ) (within : at ≤ length R) where
       )
       (and-assoc (same (take at R) (take at A)) (same P (take (length P) (drop at A))) (same (drop end R) (drop (at + length P) A)))
 
--- a proposal whose deleted residues stand in R
-module _ (number : ℕ) (D put R A : List ℕ) where
-  pub replays-not : stands (proposed number D put) R ≡ false → false ≡ replays (proposed number D put) R A
-  unfolding replays
-  replays-not h = rw h
+-- the places of the residues that give way, whether or not the number lies behind R
+pub replayed-at : (number : ℕ) (D put R A : List ℕ) (k end : ℕ) (given : Bool) → k ≡ min (number - 1) (length R) → end ≡ min (k + length D) (length R)
+    → given ≡ same (take k R ++ (put ++ drop end R)) A → given ≡ same (replayed number D put R) A
+unfolding replayed
+replayed-at number D put R A k end given e f g =
+    rw (take-before R (number - 1) k e, drop-behind R (number - 1) k e (length D), drop-before R (k + length D) end f) g
 
-  pub replays-by : (k : ℕ) → k ≡ min (number - 1) (length R) → stands (proposed number D put) R ≡ true
-      → same (take k R ++ (put ++ drop (k + length D) R)) A ≡ replays (proposed number D put) R A
-  unfolding replays replayed
-  replays-by k e h = rw (h, take-before R (number - 1) k e, drop-behind R (number - 1) k e (length D))
+-- both answers, t being the first
+module _ (p : Proposal) (R A : List ℕ) (t : Bool) (first : t ≡ replays p R A) where
+  pub both-no : not t ≡ true → (false ≡ replays p R A) × (false ≡ isShortest p R A)
+  unfolding isShortest
+  both-no h = let no = sym first ∙ not-true t h in (sym no, rw no)
+
+  pub first-yes : not t ≡ false → (second : Bool) → second ≡ (beginsThere p R A && leavesEnding p R A) → (true ≡ replays p R A) × (second ≡ isShortest p R A)
+  unfolding isShortest
+  first-yes h second e = let yes = sym first ∙ not-false t h in (sym yes, rw yes e)
 
 -- two tests of numbers that hold together
 eqb-same : (a b c d : ℕ) → (a ≡ b → c ≡ d) → (c ≡ d → a ≡ b) → eqb a b ≡ eqb c d

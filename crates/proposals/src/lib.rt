@@ -1,5 +1,6 @@
 // "Check records from older annotators": a proposed record's form, and its two answers over two proteins, R and A.
 use codons::letters::is_residue;
+use numbers::least;
 use sequences::common_prefix_len;
 use sequences::common_suffix_len;
 use sequences::equals;
@@ -11,6 +12,7 @@ ghost use lib.Dec.{eqb, ltb};
 ghost use lib.ListN.{length, take, drop};
 ghost use Rattle.rules.specs.Bytes.{same, all};
 ghost use Rattle.rules.specs.Translation.{isResidue};
+ghost use Rattle.rules.specs.Record.{replayed};
 ghost use Rattle.rules.specs.Check.{stands, replays, beginsThere, leavesEnding, isShortest, isProposal};
 ghost use Rattle.proposals.specs.Proposed.{proposed};
 
@@ -48,13 +50,10 @@ pub fn is_proposal(residues: usize, number: usize, deleted: &[u8], inserted: &[u
 fn residues_before(residues: usize, number: usize) -> usize
     ensures { λ r. ⌜ r ≡ min (number - 1) residues ⌝ }
 {
-    if residues < number {
-        return residues;
-    }
     if number == 0 {
         return 0;
     }
-    number - 1
+    least(number - 1, residues)
 }
 
 // Whether the deleted residues stand in R at a number, whatever is inserted.
@@ -70,7 +69,7 @@ fn stands_at(reference: &[u8], number: usize, deleted: &[u8]) -> bool
 }
 
 // Whether A is R with `put` for the residues from `at` to `end`.
-fn gives(reference: &[u8], altered: &[u8], at: usize, end: usize, put: &[u8]) -> bool
+fn is_replaced(reference: &[u8], altered: &[u8], at: usize, end: usize, put: &[u8]) -> bool
     requires { ⌜ (at ≤ length (now reference)) × (end ≤ length (now reference)) ⌝ }
     ensures { λ r. ⌜ r ≡ same (take at (now (reference .entry)) ++ (now (put .entry) ++ drop end (now (reference .entry)))) (now (altered .entry)) ⌝ }
 {
@@ -87,6 +86,15 @@ fn gives(reference: &[u8], altered: &[u8], at: usize, end: usize, put: &[u8]) ->
     before & there & equals(&reference[end..], &altered[behind..])
 }
 
+// Whether R becomes A where the inserted residues replace those at a number, as many as are deleted.
+fn gives(reference: &[u8], altered: &[u8], number: usize, deleted: &[u8], inserted: &[u8]) -> bool
+    ensures { λ r. ⌜ r ≡ same (replayed number (now (deleted .entry)) (now (inserted .entry)) (now (reference .entry))) (now (altered .entry)) ⌝ }
+{
+    let at = residues_before(reference.len(), number);
+    let end = least(at + deleted.len(), reference.len());
+    is_replaced(reference, altered, at, end, inserted)
+}
+
 // Whether a proposal replays: the deleted residues stand in R at the number, and replacing them gives A.
 fn replays_to(
     reference: &[u8],
@@ -97,11 +105,8 @@ fn replays_to(
 ) -> bool
     ensures { λ r. ⌜ r ≡ replays (proposed number (now (deleted .entry)) (now (inserted .entry))) (now (reference .entry)) (now (altered .entry)) ⌝ }
 {
-    if !stands_at(reference, number, deleted) {
-        return false;
-    }
-    let at = residues_before(reference.len(), number);
-    gives(reference, altered, at, at + deleted.len(), inserted)
+    let there = stands_at(reference, number, deleted);
+    there & gives(reference, altered, number, deleted, inserted)
 }
 
 // Whether a proposal begins where the proteins part, and stops before the longest ending that they share behind that.
