@@ -1,0 +1,1 @@
+-- Laws that this crate's proofs and the crates above cite.
