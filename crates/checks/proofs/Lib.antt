@@ -1,1 +1,3 @@
 -- Laws that this crate's proofs and the crates above cite.
+pub mod Changing
+pub mod Deciding

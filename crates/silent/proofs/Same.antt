@@ -31,7 +31,7 @@ use Rattle.altered.specs.Over.{Makes}
 use Rattle.silent.specs.Comparing.{codingBy, proteinWith, Compares}
 
 -- none are counted, none are there
-no-exceptions : (e : Exceptions) → e .count ≡ 0 → exceptionList e ≡ []
+pub no-exceptions : (e : Exceptions) → e .count ≡ 0 → exceptionList e ≡ []
 no-exceptions e h = by (exceptionList e) (length-exceptions e ∙ h)
   where
     by : {A : Type 0} (xs : List A) → length xs ≡ 0 → xs ≡ []
