@@ -67,6 +67,19 @@ module _ (s : List ℕ) (k : Known) (e : Exceptions) (protein : List ℕ) (known
       by (suc n) true = refl
       by (suc n) false = refl
 
+  -- only a plan that goes, goes on
+  pub changed-goes : (p : Plan) → changingIn r a room ≡ Goes p → decidedIn (k .several) (bare s (k .cds)) a room ≡ Goes p
+  unfolding decidedIn
+  changed-goes p h = by changed (withRoom (k .cds) room (decisionOf (limits .most) (k .several) (bare s (k .cds)) a)) (sym (decided-on (decisionOf (limits .most) (k .several) (bare s (k .cds)) a) refl) ∙ h)
+    where
+      by : (b : Bool) (d : Decision) → changedBy b d ≡ Goes p → d ≡ Goes p
+      by true (Refused n) q = let z : _≡_ {A = ℕ} 0 1 = cc in absurd (omega arith)
+      by false (Refused n) q = let z : _≡_ {A = ℕ} 0 1 = cc in absurd (omega arith)
+      by true Unknown q = let z : _≡_ {A = ℕ} 0 1 = cc in absurd (omega arith)
+      by false Unknown q = let z : _≡_ {A = ℕ} 0 1 = cc in absurd (omega arith)
+      by true (Goes f) q = q
+      by false (Goes f) q = let z : _≡_ {A = ℕ} 0 1 = cc in absurd (omega arith)
+
   module _ (d : Decision) (is : d ≡ decidedIn (k .several) (bare s (k .cds)) a room) where
     deciding : changingIn r a room ≡ changedBy changed d
     unfolding decidedIn

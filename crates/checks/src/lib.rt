@@ -1,4 +1,6 @@
 // What is decided of an edit whose record is checked, before a byte is written: its refusals, 26 among them, or what it does.
+mod answer;
+
 use altered::moved_over;
 use altseq::decide_in;
 use edits::decision::Decision;
@@ -14,6 +16,8 @@ ghost use Rattle.rules.specs.Views.{asked, referenceOf};
 ghost use Rattle.reference.specs.Known.{Knows};
 ghost use Rattle.altseq.specs.Carried.{proteinBy};
 ghost use Rattle.checks.specs.Changing.{changingIn, Changes};
+pub use answer::Question;
+pub use answer::check_altseq;
 
 // The bytes lent for the altered transcript, R and A.
 pub struct Room {
