@@ -37,12 +37,12 @@ verdictBy q r p new =
 unfoldable pub judgedOutcome : Proposal → Reference → Plan → List ℕ → CheckOutcome
 judgedOutcome q r p new =
     if isProposal q (referenceProtein r) then
-      record {
-        answer = Judged (verdictBy q r p new);
-        transcript = carriedBy p (r .letters) new;
-        reference = referenceProtein r;
-        altered = proteinBy r p new;
-      }
+    record {
+      answer = Judged (verdictBy q r p new);
+      transcript = carriedBy p (r .letters) new;
+      reference = referenceProtein r;
+      altered = proteinBy r p new;
+    }
     else checksNothing 27
 
 -- by what was decided

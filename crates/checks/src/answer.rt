@@ -116,7 +116,14 @@ fn judge_decided(
                 number,
             };
             judge_going(
-                letters, going, protein, new, deleted, inserted, transcript, altered,
+                letters,
+                going,
+                protein,
+                new,
+                deleted,
+                inserted,
+                transcript,
+                altered,
             )
         }
     }
@@ -166,7 +173,15 @@ pub fn check_altseq(
                 reference: reference.len(),
                 altered: altered.len(),
             };
-            let decision = decide_changing(letters, known, e, &protein[..residues], edit, new, room);
+            let decision = decide_changing(
+                letters,
+                known,
+                e,
+                &protein[..residues],
+                edit,
+                new,
+                room,
+            );
             let decided = Decided {
                 known,
                 e,

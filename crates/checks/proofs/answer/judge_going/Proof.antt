@@ -43,8 +43,7 @@ returns-2 c =
     let judged = c .judge in
     let asked = c .before .before .before .before .before .before .before .before .before .before in
     let a = asked .before .before .before .before .before .before .before .before .before .before .before .args in
-    let x = asked .before .before .before .before .before .before .before .before .before .before .before .pre in
-    (
+    let x = asked .before .before .before .before .before .before .before .before .before .before .before .pre in (
       judged-answer (a .letters .now) (a .going .known) (a .going .e) (a .protein .now) (a .going .plan) (a .new .now) (a .transcript .now) (a .altered .now) x (proposed (a .going .number) (a .deleted .now) (a .inserted .now)) (asked .is-proposal .result) (asked .is-proposal .ensures (referenceProtein (referenceOf (a .letters .now) (a .going .known .cds) (a .going .e))) (sym (ap length (x .known .read)))) (c .before .before .before .before .before .before .before .before .before .if1 .left) (wrote .carry-out .result) (wrote .carry-out .ensures .0) (a .transcript .now) _ (wrote .carry-out .ensures .1 .1) (judged .result .replays) (judged .result .shortest) (judged .ensures .0) (judged .ensures .1),
       (
         judged-transcript (a .letters .now) (a .going .known) (a .going .e) (a .protein .now) (a .going .plan) (a .new .now) (a .transcript .now) (a .altered .now) x (proposed (a .going .number) (a .deleted .now) (a .inserted .now)) (asked .is-proposal .result) (asked .is-proposal .ensures (referenceProtein (referenceOf (a .letters .now) (a .going .known .cds) (a .going .e))) (sym (ap length (x .known .read)))) (c .before .before .before .before .before .before .before .before .before .if1 .left) (wrote .carry-out .result) (wrote .carry-out .ensures .0) _ _ (wrote .carry-out .ensures .1 .1) (wrote .carry-out .ensures .1 .0),
