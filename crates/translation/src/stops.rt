@@ -1,9 +1,9 @@
 // The first stop, and the residues through it.
 use crate::exceptions::excepted_at;
 use crate::exceptions::next_exception;
+use crate::packed::pair_at;
+use crate::packed::place_at;
 use crate::reading::codon_at;
-use crate::reading::pair_at;
-use crate::reading::place_at;
 use codons::letters::folded_sets;
 use codons::tables::plain_code;
 use codons::tables::residues_of;

@@ -4,8 +4,7 @@ use Rattle.translation.proofs.reading.write_letters.Statement.{statemen
 use Rattle.translation.proofs.reading.write_letters.Tie as tie
 
 write-plain-requires : tie.Need-write-plain-requires
-write-plain-requires c κs =
-    (search needs, (c .before .before .before .before .before .before .pre .1 .1 .0 (c .before .before .before .if1 .taken), search needs))
+write-plain-requires c κs = (search needs, (c .before .before .before .before .before .before .pre .1 .1 .0 (c .before .before .before .if1 .taken), search needs))
 
 pub write-letters-spec : {M : Type 1} → statement M
 write-letters-spec =
@@ -16,6 +15,10 @@ write-letters-spec =
     (λ c κs. search needs)
     (λ c κs. search needs)
     (λ c κs. search needs)
+    (λ c κs. search needs)
+    (λ c κs. search needs)
+    (λ c. search needs)
+    (λ c. search needs)
     (λ c. search needs)
     (λ c. search needs)
     (λ c. search needs)

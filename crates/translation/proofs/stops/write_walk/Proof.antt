@@ -1,6 +1,6 @@
 -- `translation::write_walk` meets its contract, whichever way is taken. Assumes nothing.
 use borrow.Author.Needs.{needs}
-use Rattle.translation.proofs.Blocks.{never}
+use Rattle.translation.proofs.Residues.{never}
 use Rattle.translation.proofs.Walks.{both}
 use Rattle.translation.proofs.stops.write_walk.Statement.{statement}
 use Rattle.translation.proofs.stops.write_walk.Tie as tie

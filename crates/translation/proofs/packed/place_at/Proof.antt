@@ -1,8 +1,8 @@
 -- `translation::place_at` meets its contract. Assumes nothing.
 use borrow.Author.Needs.{needs}
 use Rattle.translation.specs.Residues.{placeAt}
-use Rattle.translation.proofs.reading.place_at.Statement.{statement}
-use Rattle.translation.proofs.reading.place_at.Tie as tie
+use Rattle.translation.proofs.packed.place_at.Statement.{statement}
+use Rattle.translation.proofs.packed.place_at.Tie as tie
 
 returns : tie.Need-returns
 unfolding placeAt
