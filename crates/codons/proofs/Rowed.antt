@@ -1,7 +1,7 @@
 -- Laws of rows of residues: a row more is put, and what all of them hold. Assumes nothing.
 use mathlib.Core.Path.{_≡_, refl, sym, ap, _∙_}
 use mathlib.Core.Bool.{Bool, true, false}
-use mathlib.Core.List.{List}
+use mathlib.Core.List.{List, [], _∷_}
 use Prim.Native.Nat.{ℕ, zero, suc, _+_, _*_, _/_, _%_, _≤_, _<_}
 use native.Mathlib.Numerals.{add-one}
 use native.Mathlib.Omega.{arith}
@@ -10,8 +10,8 @@ use lib.ListN.{length, getD, set, replicate, length-set, length-replicate, getD-
 use lib.Seq.{getD-set-same, getD-set-other}
 use borrow.Author.Tests.{eqb-true, eqb-false, ltb-true}
 use Rattle.rules.specs.Bytes.{byte, if_then_else_}
-use Rattle.rules.specs.Codons.{codonRule}
-use Rattle.codons.specs.Rows.{numberRule, pairAt, rowIn, HoldsRows, HoldsBoxes, HoldsLetters}
+use Rattle.rules.specs.Codons.{residueX, codonRule}
+use Rattle.codons.specs.Rows.{numberRule, pairs, pairAt, rowIn, HoldsRows, HoldsBoxes, HoldsLetters}
 use Rattle.codons.proofs.Listed.{listed, listed-at, at-each}
 
 -- a rule of rows, by the place among them
@@ -42,23 +42,44 @@ row-small (suc k) pair = at (eqb pair (pairAt (suc k))) (rowIn (suc k) pair) (ro
     at true m h = omega arith
     at false m h = omega arith
 
--- a pair reads as its row's pair does, which antt computes of each code
-same-code : (t : ℕ) → ((j : ℕ) → j < 4096 → numberRule t (pairAt (rowIn 20 (j / 16)) / 16) (pairAt (rowIn 20 (j / 16)) % 16) (j % 16) ≡ numberRule t (j / 16 / 16) (j / 16 % 16) (j % 16))
-    → (a b c : ℕ) → a < 16 → b < 16 → c < 16 → numberRule t (pairAt (rowIn 20 (a * 16 + b)) / 16) (pairAt (rowIn 20 (a * 16 + b)) % 16) c ≡ numberRule t a b c
-same-code t each a b c ha hb hc =
-    let j : ℕ = (a * 16 + b) * 16 + c in
-    let e : j / 16 ≡ a * 16 + b = omega arith in
-    let ec : j % 16 ≡ c = omega arith in
-    let ea : (a * 16 + b) / 16 ≡ a = omega arith in
-    let eb : (a * 16 + b) % 16 ≡ b = omega arith in
-    rw (e, ec, ea, eb) at (each j (omega arith))
+-- whether a pair has a row of its own
+abbrev among : ℕ → List ℕ → Bool
+among p [] = false
+among p (q ∷ qs) = elim (eqb p q) [ true ↦ true | false ↦ among p qs ]
+
+-- the row of a pair has that pair, or is the first, which antt computes
+own-row : (p : ℕ) → p < 256 → (if among p pairs then pairAt (rowIn 20 p) else rowIn 20 p) ≡ (if among p pairs then p else 0)
+unfolding rowIn
+own-row p h = at-each 256 0 (λ (k : ℕ). if among k pairs then pairAt (rowIn 20 k) else rowIn 20 k) (λ (k : ℕ). if among k pairs then k else 0) refl p h
+
+-- in a code, what a pair with no row of its own reads at a place
+abbrev otherAt : ℕ → ℕ → ℕ
+otherAt t j = if among (j / 16) pairs then residueX else numberRule t (j / 16 / 16) (j / 16 % 16) (j % 16)
+
+-- it reads X, which antt computes of each code
+others : (t : ℕ) → t < 3 → (j : ℕ) → j < 4096 → otherAt t j ≡ residueX
+unfolding codonRule
+others zero h j l = at-each 4096 0 (otherAt 0) (λ (k : ℕ). residueX) refl j l
+others (suc zero) h j l = at-each 4096 0 (otherAt 1) (λ (k : ℕ). residueX) refl j l
+others (suc (suc zero)) h j l = at-each 4096 0 (otherAt 2) (λ (k : ℕ). residueX) refl j l
+others (suc (suc (suc t))) h j l = absurd (omega arith)
+
+-- a pair reads as its row's pair does
+same-case : (t p c : ℕ) (o : Bool) → (if o then pairAt (rowIn 20 p) else rowIn 20 p) ≡ (if o then p else 0) → (if o then residueX else numberRule t (p / 16) (p % 16) c) ≡ residueX
+    → numberRule t (pairAt (rowIn 20 p) / 16) (pairAt (rowIn 20 p) % 16) c ≡ numberRule t (p / 16) (p % 16) c
+unfolding codonRule
+same-case t p c true own other = rw own
+same-case t p c false own other = rw own (sym other)
 
 same-row : (t : ℕ) → t < 3 → (a b c : ℕ) → a < 16 → b < 16 → c < 16 → numberRule t (pairAt (rowIn 20 (a * 16 + b)) / 16) (pairAt (rowIn 20 (a * 16 + b)) % 16) c ≡ numberRule t a b c
-unfolding rowIn codonRule
-same-row zero h = same-code 0 (λ j l. at-each 4096 0 (λ (k : ℕ). numberRule 0 (pairAt (rowIn 20 (k / 16)) / 16) (pairAt (rowIn 20 (k / 16)) % 16) (k % 16)) (λ (k : ℕ). numberRule 0 (k / 16 / 16) (k / 16 % 16) (k % 16)) refl j l)
-same-row (suc zero) h = same-code 1 (λ j l. at-each 4096 0 (λ (k : ℕ). numberRule 1 (pairAt (rowIn 20 (k / 16)) / 16) (pairAt (rowIn 20 (k / 16)) % 16) (k % 16)) (λ (k : ℕ). numberRule 1 (k / 16 / 16) (k / 16 % 16) (k % 16)) refl j l)
-same-row (suc (suc zero)) h = same-code 2 (λ j l. at-each 4096 0 (λ (k : ℕ). numberRule 2 (pairAt (rowIn 20 (k / 16)) / 16) (pairAt (rowIn 20 (k / 16)) % 16) (k % 16)) (λ (k : ℕ). numberRule 2 (k / 16 / 16) (k / 16 % 16) (k % 16)) refl j l)
-same-row (suc (suc (suc t))) h = absurd (omega arith)
+same-row t h a b c ha hb hc =
+    let p : ℕ = a * 16 + b in
+    let j : ℕ = p * 16 + c in
+    let ea : p / 16 ≡ a = omega arith in
+    let eb : p % 16 ≡ b = omega arith in
+    let ep : j / 16 ≡ p = omega arith in
+    let ec : j % 16 ≡ c = omega arith in
+    same-case t p c (among p pairs) (own-row p (omega arith)) (rw (ep, ec) at (others t h j (omega arith))) ∙ rw (ea, eb)
 
 module _ (t : ℕ) (rows : List ℕ) (code : t < 3) (holds : HoldsRows t rows) where
   row-read : (a b c : ℕ) → a < 16 → b < 16 → c < 16 → getD rows (rowIn 20 (a * 16 + b) * 16 + c) 0 ≡ numberRule t a b c

@@ -2,7 +2,7 @@
 -- Assumes nothing.
 use mathlib.Core.Path.{sym, _∙_}
 use Prim.Native.Nat.{ℕ, _-_}
-use borrow.Author.Needs.{needs}
+use native.Mathlib.Omega.{arith}
 use lib.ListN.{length}
 use Rattle.rules.specs.Letters.{isLetter, folded}
 use Rattle.rules.proofs.Lists.{all-map}
@@ -23,9 +23,9 @@ all-fold-to-letters-spec =
     Inv-loop
     μ-loop
     (λ c. tested-none (λ (b : ℕ). isLetter (folded b)) _)
-    (λ c. search needs)
-    (λ c κs. search needs)
-    (λ c. search needs)
-    (λ c. search needs)
+    (λ c. omega arith)
+    (λ c κs. omega arith)
+    (λ c. omega arith)
+    (λ c. omega arith)
     (λ c. tested-more (c .before .before .before .loop .inv) (c .before .before .loop-test .taken) (c .folds-to-letter .ensures))
     (λ c. tested-all (c .before .loop .inv) (c .loop-test .left) ∙ sym (all-map isLetter folded (c .before .before .before .args .s .now))))

@@ -1,7 +1,6 @@
 -- `translation::entries_at` meets its contract: the sum has the places of both codons. Assumes nothing.
 use Prim.Native.Nat.{ℕ, _<_}
 use native.Mathlib.Omega.{arith}
-use borrow.Author.Needs.{needs}
 use lib.ListN.{getD}
 use Rattle.translation.proofs.Entries.{entry-first, entry-second}
 use Rattle.translation.proofs.packed.entries_at.Statement.{statement}
@@ -18,7 +17,7 @@ pub entries-at-spec : {M : Type 1} → statement M
 entries-at-spec =
     tie.close
     (tie.spec
-    (λ c. search needs)
-    (λ c κs. search needs)
-    (λ c κs. search needs)
+    (λ c. omega arith)
+    (λ c κs. omega arith)
+    (λ c κs. omega arith)
     returns)

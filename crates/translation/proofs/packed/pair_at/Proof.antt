@@ -1,7 +1,6 @@
 -- `translation::pair_at` meets its contract: the product has the places of both codons. Assumes nothing.
 use Prim.Native.Nat.{ℕ, _<_}
 use native.Mathlib.Omega.{arith}
-use borrow.Author.Needs.{needs}
 use lib.Bits.{and-le-r}
 use lib.ListN.{getD}
 use Rattle.translation.proofs.Places.{first-place, second-place}
@@ -19,7 +18,7 @@ pub pair-at-spec : {M : Type 1} → statement M
 pair-at-spec =
     tie.close
     (tie.spec
-    (λ c. search needs)
-    (λ c κs. search needs)
+    (λ c. omega arith)
+    (λ c κs. omega arith)
     (λ c. omega (arith, and-le-r (c .eight-at .result) 0x060606060606))
     returns)

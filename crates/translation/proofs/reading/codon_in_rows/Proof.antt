@@ -2,7 +2,6 @@
 use mathlib.Core.Path.{_≡_}
 use Prim.Native.Nat.{_%_, _<_}
 use native.Mathlib.Omega.{arith}
-use borrow.Author.Needs.{needs}
 use lib.ListN.{getD}
 use Rattle.codons.proofs.Rowed.{box-small}
 use Rattle.translation.proofs.Entries.{rows-read}
@@ -28,10 +27,10 @@ pub codon-in-rows-spec : {M : Type 1} → statement M
 codon-in-rows-spec =
     tie.close
     (tie.spec
-    (λ c κs. search needs)
-    (λ c. search needs)
-    (λ c κs. search needs)
-    (λ c. search needs)
-    (λ c. search needs)
+    (λ c κs. omega arith)
+    (λ c. omega arith)
+    (λ c κs. omega arith)
+    (λ c. omega arith)
+    (λ c. omega arith)
     element-copy-out-result
     returns)

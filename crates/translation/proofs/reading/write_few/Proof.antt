@@ -61,12 +61,12 @@ write-few-spec =
     μ-loop
     loop-holds
     (λ c κs. search needs)
-    (λ c. search needs)
-    (λ c. search needs)
-    (λ c. search needs)
+    (λ c. omega arith)
+    (λ c. omega arith)
+    (λ c. omega arith)
     loop-again
-    (λ c. search needs)
+    (λ c. omega arith)
     (λ c. search needs)
     returns
-    (λ c. search needs)
+    (λ c. omega arith)
     returns-2)

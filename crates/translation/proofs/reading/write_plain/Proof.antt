@@ -105,33 +105,33 @@ write-plain-spec =
     Inv-loop2
     μ-loop2
     loop-holds
-    (λ c. search needs)
-    (λ c. search needs)
-    (λ c κs. search needs)
-    (λ c. search needs)
-    (λ c κs. search needs)
-    (λ c. search needs)
-    (λ c. search needs)
-    (λ c. search needs)
-    (λ c. search needs)
-    (λ c. simp length-set (search needs))
-    (λ c. search needs)
-    (λ c. search needs)
-    (λ c. simp length-set (search needs))
-    (λ c. search needs)
-    (λ c. search needs)
-    (λ c. simp length-set (search needs))
-    (λ c. search needs)
-    (λ c. search needs)
+    (λ c. omega arith)
+    (λ c. omega arith)
+    (λ c κs. omega arith)
+    (λ c. omega arith)
+    (λ c κs. omega arith)
+    (λ c. omega arith)
+    (λ c. omega arith)
+    (λ c. omega arith)
+    (λ c. omega arith)
+    (λ c. simp length-set (omega arith))
+    (λ c. omega arith)
+    (λ c. omega arith)
+    (λ c. simp length-set (omega arith))
+    (λ c. omega arith)
+    (λ c. omega arith)
+    (λ c. simp length-set (omega arith))
+    (λ c. omega arith)
+    (λ c. omega arith)
     loop-again
     loop2-holds
-    (λ c κs. search needs)
+    (λ c κs. omega arith)
     element-copy-out-out-5
-    (λ c. search needs)
-    (λ c. search needs)
-    (λ c. search needs)
+    (λ c. omega arith)
+    (λ c. omega arith)
+    (λ c. omega arith)
     loop2-again
-    (λ c. search needs)
+    (λ c. omega arith)
     same-length
     returns
     same-length-2

@@ -85,17 +85,17 @@ translate-cds-spec =
     (tie.spec
     returns
     returns-2
-    (λ c κs. search needs)
+    (λ c κs. omega arith)
     returns-3
-    (λ c. search needs)
+    (λ c. omega arith)
     slice-aggregate-all-fold-to-bases
-    (λ c κs. search needs)
+    (λ c κs. omega arith)
     write-letters-requires
-    (λ c. search needs)
+    (λ c. omega arith)
     returns-4
     slice-aggregate-all-fold-to-letters
-    (λ c κs. search needs)
+    (λ c κs. omega arith)
     write-letters-requires-2
-    (λ c. search needs)
+    (λ c. omega arith)
     returns-5
     returns-6)

@@ -1,7 +1,6 @@
 -- `translation::translate_cds_with_exceptions` meets its contract: exceptions that are taken decide no refusal. Assumes nothing.
 use mathlib.Core.Path.{_≡_, sym, _∙_}
 use native.Mathlib.Omega.{arith}
-use borrow.Author.Needs.{needs}
 use borrow.Author.Tests.{not-true, not-false}
 use lib.ListN.{length}
 use Rattle.rules.specs.Translation.{exceptionList, translation}
@@ -49,13 +48,13 @@ translate-cds-with-exceptions-spec =
     tie.close
     (tie.spec
     returns
-    (λ c κs. search needs)
+    (λ c κs. omega arith)
     returns-2
-    (λ c κs. search needs)
-    (λ c. search needs)
-    (λ c. search needs)
+    (λ c κs. omega arith)
+    (λ c. omega arith)
+    (λ c. omega arith)
     put-exceptions-requires
-    (λ c. search needs)
+    (λ c. omega arith)
     returns-3
-    (λ c. search needs)
+    (λ c. omega arith)
     returns-4)
