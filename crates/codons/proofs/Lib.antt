@@ -6,5 +6,4 @@ pub mod Partners
 pub mod Rowed
 pub mod Expanded
 pub mod Agreement
-pub mod Loops
 pub mod Single
