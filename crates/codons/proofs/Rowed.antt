@@ -8,10 +8,10 @@ use native.Mathlib.Omega.{arith}
 use lib.Dec.{eqb, ltb, lit<}
 use lib.ListN.{length, getD, set, replicate, length-set, length-replicate, getD-replicate}
 use lib.Seq.{getD-set-same, getD-set-other}
-use borrow.Author.Tests.{eqb-true, eqb-false, ltb-true}
+use borrow.Author.Tests.{eqb-true, eqb-false, ltb-true, ne-eqb}
 use Rattle.rules.specs.Bytes.{byte, if_then_else_}
 use Rattle.rules.specs.Codons.{residueX, codonRule}
-use Rattle.codons.specs.Rows.{numberRule, pairs, pairAt, rowIn, HoldsRows, HoldsBoxes, HoldsLetters}
+use Rattle.codons.specs.Rows.{numberRule, pairs, pairAt, rowIn, HoldsRows, HoldsLetters}
 use Rattle.codons.proofs.Listed.{listed, listed-at, at-each}
 
 -- a rule of rows, by the place among them
@@ -86,103 +86,74 @@ module _ (t : ℕ) (rows : List ℕ) (code : t < 3) (holds : HoldsRows t rows) w
   row-read a b c ha hb hc =
       holds .entry (rowIn 20 (a * 16 + b)) c (row-small 19 (a * 16 + b)) hc ∙ same-row t code a b c ha hb hc
 
-  -- the first two letters tell the row, and the third the place in it
-  module _ (boxes : List ℕ) (of : HoldsBoxes boxes) where
-    pub box-small : (pair : ℕ) → pair < 256 → getD boxes pair 0 < 20
-    box-small pair h = rw (of .entry pair h) (row-small 19 pair)
-
-    pub box-read : (a b c : ℕ) → a < 16 → b < 16 → c < 16 → getD rows (getD boxes (a * 16 + b) 0 * 16 + c) 0 ≡ numberRule t a b c
-    box-read a b c ha hb hc = rw (of .entry (a * 16 + b) (omega arith)) (row-read a b c ha hb hc)
-
 pair-small : (k : ℕ) → k < 20 → pairAt k < 256
 pair-small k h = ltb-true (pairAt k) 256 (at-each 20 false (λ (j : ℕ). ltb (pairAt j) 256) (λ (j : ℕ). true) refl k h)
 
--- the first k rows' pairs know their rows
-pub record Boxed (all : List ℕ) (k : ℕ) : Type 0 where
-  pub long : length all ≡ 256
-  pub entry : (pair : ℕ) → pair < 256 → getD all pair 0 ≡ rowIn k pair
-
-pub boxed-none : Boxed (replicate 256 0) 0
-unfolding rowIn
-boxed-none = record { long = length-replicate {A = ℕ} 256 0; entry = λ pair h. getD-replicate {A = ℕ} 256 pair 0 0 h }
-
-pub boxed-more : (all : List ℕ) (k q : ℕ) → Boxed all k → k < 20 → q ≡ pairAt k → Boxed (set all q k) (k + 1)
-unfolding rowIn
-boxed-more all k q b h is =
-    record { long = length-set all q k ∙ b .long; entry = λ pair l. rw (add-one, is) (by pair l (eqb pair (pairAt k)) refl) }
-  where
-    by : (pair : ℕ) → pair < 256 → (e : Bool) → eqb pair (pairAt k) ≡ e → getD (set all (pairAt k) k) pair 0 ≡ (if e then k else rowIn k pair)
-    by pair l true e = rw (eqb-true pair (pairAt k) e) (getD-set-same all (pairAt k) k 0 (omega (arith, b .long, pair-small k h)))
-    by pair l false e = getD-set-other all (pairAt k) pair k 0 (eqb-false pair (pairAt k) e) ∙ b .entry pair l
-
-pub boxed-all : (all : List ℕ) (k : ℕ) → Boxed all k → k ≡ 20 → HoldsBoxes all
-boxed-all all k b is = record { entry = λ pair h. b .entry pair h ∙ ap (λ (n : ℕ). rowIn n pair) is }
-
--- the first residues of row k are put at its pair, and nothing else
-pub record Put (rows old all : List ℕ) (k pair n : ℕ) : Type 0 where
+-- the first k rows' residues of third letter c are put, and nothing else
+pub record Put (rows old all : List ℕ) (c k : ℕ) : Type 0 where
   pub long : length all ≡ 4096
-  pub done : (c : ℕ) → c < n → getD all (c * 256 + pair) 0 ≡ getD rows (k * 16 + c) 0
-  pub kept : (c p : ℕ) → p < 256 → (p ≡ pair → n ≤ c) → getD all (c * 256 + p) 0 ≡ getD old (c * 256 + p) 0
+  pub done : (p : ℕ) → p < 256 → getD all (c * 256 + p) 0 ≡ getD rows (rowIn k p * 16 + c) 0
+  pub kept : (d p : ℕ) → p < 256 → (d ≡ c → ⊥) → getD all (d * 256 + p) 0 ≡ getD old (d * 256 + p) 0
 
-module _ (rows old : List ℕ) (k pair : ℕ) (small : pair < 256) where
-  pub put-none : length old ≡ 4096 → Put rows old old k pair 0
-  put-none l = record { long = l; done = λ c h. absurd (omega arith); kept = λ c p h f. refl }
+module _ (rows old : List ℕ) (c : ℕ) where
+  pub put-none : length old ≡ 4096 → ((p : ℕ) → p < 256 → getD old (c * 256 + p) 0 ≡ getD rows (rowIn 0 p * 16 + c) 0) → Put rows old old c 0
+  put-none l first = record { long = l; done = first; kept = λ d p h n. refl }
 
-  pub put-more : (all : List ℕ) (n : ℕ) → Put rows old all k pair n → n < 16 → Put rows old (set all (n * 256 + pair) (getD rows (k * 16 + n) 0)) k pair (n + 1)
-  put-more all n w h =
+  pub put-more : (all : List ℕ) (k pair : ℕ) → c < 16 → Put rows old all c k → k < 20 → pair ≡ pairAt k → Put rows old (set all (c * 256 + pair) (getD rows (k * 16 + c) 0)) c (k + 1)
+  unfolding rowIn
+  put-more all k pair small w h is =
       record {
-        long = length-set all (n * 256 + pair) (getD rows (k * 16 + n) 0) ∙ w .long;
-        done = λ c l. by c l (eqb c n) refl;
-        kept = λ c p l f. getD-set-other all (n * 256 + pair) (c * 256 + p) (getD rows (k * 16 + n) 0) 0 (λ e. differs c p l f e) ∙ w .kept c p l (λ e. omega (arith, f e));
+        long = length-set all (c * 256 + pair) (getD rows (k * 16 + c) 0) ∙ w .long;
+        done = λ p l. rw (add-one, is) (by p l (eqb p (pairAt k)) refl);
+        kept = λ d p l n. getD-set-other all (c * 256 + pair) (d * 256 + p) (getD rows (k * 16 + c) 0) 0 (λ e. n (omega (arith, e, is, pair-small k h))) ∙ w .kept d p l n;
       }
     where
-      differs : (c p : ℕ) → p < 256 → (p ≡ pair → n + 1 ≤ c) → c * 256 + p ≡ n * 256 + pair → ⊥
-      differs c p l f e =
-          let same : p ≡ pair = omega arith in
-          omega (arith, f same)
+      by : (p : ℕ) → p < 256 → (b : Bool) → eqb p (pairAt k) ≡ b → getD (set all (c * 256 + pairAt k) (getD rows (k * 16 + c) 0)) (c * 256 + p) 0 ≡ getD rows ((if b then k else rowIn k p) * 16 + c) 0
+      by p l true e = rw (eqb-true p (pairAt k) e) (getD-set-same all (c * 256 + pairAt k) (getD rows (k * 16 + c) 0) 0 (omega (arith, w .long, pair-small k h)))
+      by p l false e =
+          getD-set-other all (c * 256 + pairAt k) (c * 256 + p) (getD rows (k * 16 + c) 0) 0 (λ z. eqb-false p (pairAt k) e (omega arith)) ∙ w .done p l
 
-      by : (c : ℕ) → c < n + 1 → (b : Bool) → eqb c n ≡ b → getD (set all (n * 256 + pair) (getD rows (k * 16 + n) 0)) (c * 256 + pair) 0 ≡ getD rows (k * 16 + c) 0
-      by c l true e = rw (eqb-true c n e) (getD-set-same all (n * 256 + pair) (getD rows (k * 16 + n) 0) 0 (omega (arith, w .long)))
-      by c l false e =
-          let other : c ≡ n → ⊥ = eqb-false c n e in
-          getD-set-other all (n * 256 + pair) (c * 256 + pair) (getD rows (k * 16 + n) 0) 0 (λ z. other (omega arith)) ∙ w .done c (omega (arith, other))
-
-  pub put-all : (all : List ℕ) (n : ℕ) → Put rows old all k pair n → n ≡ 16
-      → (c p : ℕ) → c < 16 → p < 256 → getD all (c * 256 + p) 0 ≡ (if eqb p pair then getD rows (k * 16 + c) 0 else getD old (c * 256 + p) 0)
-  put-all all n w is c p h l = by (eqb p pair) refl
+  pub put-all : (all : List ℕ) (k : ℕ) → Put rows old all c k → k ≡ 20
+      → (d p : ℕ) → d < 16 → p < 256 → getD all (d * 256 + p) 0 ≡ (if eqb d c then getD rows (rowIn 20 p * 16 + c) 0 else getD old (d * 256 + p) 0)
+  put-all all k w is d p h l = by (eqb d c) refl
     where
-      by : (b : Bool) → eqb p pair ≡ b → getD all (c * 256 + p) 0 ≡ (if b then getD rows (k * 16 + c) 0 else getD old (c * 256 + p) 0)
-      by true e = rw (eqb-true p pair e) (w .done c (omega arith))
-      by false e = w .kept c p l (λ z. absurd (eqb-false p pair e z))
+      by : (b : Bool) → eqb d c ≡ b → getD all (d * 256 + p) 0 ≡ (if b then getD rows (rowIn 20 p * 16 + c) 0 else getD old (d * 256 + p) 0)
+      by true e = rw (eqb-true d c e) (w .done p l ∙ ap (λ (n : ℕ). getD rows (rowIn n p * 16 + c) 0) is)
+      by false e = w .kept d p l (eqb-false d c e)
 
--- the first k rows are put
-pub record Laid (rows all : List ℕ) (k : ℕ) : Type 0 where
+-- the first n third letters are put, and the others have the first row's residues
+pub record Laid (rows all : List ℕ) (n : ℕ) : Type 0 where
   pub long : length all ≡ 4096
-  pub entry : (c p : ℕ) → c < 16 → p < 256 → getD all (c * 256 + p) 0 ≡ getD rows (rowIn k p * 16 + c) 0
+  pub done : (c p : ℕ) → c < n → c < 16 → p < 256 → getD all (c * 256 + p) 0 ≡ getD rows (rowIn 20 p * 16 + c) 0
+  pub left : (c p : ℕ) → n ≤ c → c < 16 → p < 256 → getD all (c * 256 + p) 0 ≡ getD rows (rowIn 0 p * 16 + c) 0
 
 pub laid-none : (t : ℕ) (rows : List ℕ) → HoldsRows t rows → Laid rows (replicate 4096 (byte "X")) 0
 unfolding rowIn codonRule
 laid-none t rows holds =
     record {
       long = length-replicate 4096 (byte "X");
-      entry = λ c p h l. getD-replicate 4096 (c * 256 + p) (byte "X") 0 (omega arith) ∙ sym (holds .entry 0 c (lit< tt) h);
+      done = λ c p k h l. absurd (omega arith);
+      left = λ c p k h l. getD-replicate 4096 (c * 256 + p) (byte "X") 0 (omega arith) ∙ sym (holds .entry 0 c (lit< tt) h);
     }
 
-pub laid-more : (rows all new : List ℕ) (k pair : ℕ) → Laid rows all k → length new ≡ 4096 → pair ≡ pairAt k
-    → ((c p : ℕ) → c < 16 → p < 256 → getD new (c * 256 + p) 0 ≡ (if eqb p pair then getD rows (k * 16 + c) 0 else getD all (c * 256 + p) 0))
-    → Laid rows new (k + 1)
-unfolding rowIn
-laid-more rows all new k pair w long is put =
-    record { long = long; entry = λ c p h l. put c p h l ∙ rw (add-one, is) (by c p h l (eqb p (pairAt k))) }
+pub laid-more : (rows all new : List ℕ) (n : ℕ) → Laid rows all n → length new ≡ 4096
+    → ((c p : ℕ) → c < 16 → p < 256 → getD new (c * 256 + p) 0 ≡ (if eqb c n then getD rows (rowIn 20 p * 16 + n) 0 else getD all (c * 256 + p) 0))
+    → Laid rows new (n + 1)
+laid-more rows all new n w long put =
+    record {
+      long = long;
+      done = λ c p k h l. put c p h l ∙ by c p k h l (eqb c n) refl;
+      left = λ c p k h l. put c p h l ∙ rw (ne-eqb c n (λ e. omega arith)) (w .left c p (omega arith) h l);
+    }
   where
-    by : (c p : ℕ) → c < 16 → p < 256 → (b : Bool) → (if b then getD rows (k * 16 + c) 0 else getD all (c * 256 + p) 0) ≡ getD rows ((if b then k else rowIn k p) * 16 + c) 0
-    by c p h l true = refl
-    by c p h l false = w .entry c p h l
+    by : (c p : ℕ) → c < n + 1 → c < 16 → p < 256 → (b : Bool) → eqb c n ≡ b → (if b then getD rows (rowIn 20 p * 16 + n) 0 else getD all (c * 256 + p) 0) ≡ getD rows (rowIn 20 p * 16 + c) 0
+    by c p k h l true e = rw (eqb-true c n e)
+    by c p k h l false e = w .done c p (omega (arith, eqb-false c n e)) h l
 
-pub laid-all : (t : ℕ) (rows all : List ℕ) (k : ℕ) → t < 3 → HoldsRows t rows → Laid rows all k → k ≡ 20 → HoldsLetters t all
-laid-all t rows all k code holds w is =
+pub laid-all : (t : ℕ) (rows all : List ℕ) (n : ℕ) → t < 3 → HoldsRows t rows → Laid rows all n → n ≡ 16 → HoldsLetters t all
+laid-all t rows all n code holds w is =
     record {
       entry = λ a b c ha hb hc.
           let at : c * 256 + a * 16 + b ≡ c * 256 + (a * 16 + b) = omega arith in
-          rw at (w .entry c (a * 16 + b) hc (omega arith) ∙ rw is (row-read t rows code holds a b c ha hb hc));
+          rw at (w .done c (a * 16 + b) (omega arith) hc (omega arith) ∙ row-read t rows code holds a b c ha hb hc);
     }

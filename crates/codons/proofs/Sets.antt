@@ -10,7 +10,7 @@ use Rattle.rules.specs.Bytes.{if_then_else_}
 use Rattle.rules.specs.Letters.{pick, valueOf, bases, letters, letterSet, isLetter, upper, folded}
 use Rattle.codons.specs.Tables.{foldedSet, isBase, foldsToBase, baseSet}
 use Rattle.codons.specs.Rows.{letterNumber, setAt}
-use Rattle.codons.proofs.Listed.{at-byte}
+use Rattle.codons.proofs.Listed.{listed, at-byte}
 
 pub and-left : (a b : Bool) → a && b ≡ true → a ≡ true
 and-left true b e = refl
@@ -76,11 +76,17 @@ letter-plain b e =
     let h = letter-within b e in
     rw e at (at-byte 0 (λ (k : ℕ). if isLetter k then folded k else 0) (λ (k : ℕ). if isLetter k then k else 0) refl b (omega arith))
 
+-- two rules that antt computes alike for all letters of plain translation
+pub at-letter : {A : Type 0} (d : A) (f g : ℕ → A)
+    → listed (λ (k : ℕ). if isLetter (folded k) then f k else d) 0 256 ≡ listed (λ (k : ℕ). if isLetter (folded k) then g k else d) 0 256
+    → (b : ℕ) → isLetter (folded b) ≡ true → f b ≡ g b
+at-letter d f g same b e =
+    rw e at (at-byte d (λ (k : ℕ). if isLetter (folded k) then f k else d) (λ (k : ℕ). if isLetter (folded k) then g k else d) same b (plain-byte b (letter-within (folded b) e .1)))
+
 -- the set of a letter is what its number stands for
 pub letter-number : (b : ℕ) → isLetter (folded b) ≡ true → setAt (letterNumber b) ≡ foldedSet b
 unfolding letterSet isLetter upper folded foldedSet
-letter-number b e =
-    rw e at (at-byte 0 (λ (k : ℕ). if isLetter (folded k) then setAt (letterNumber k) else 0) (λ (k : ℕ). if isLetter (folded k) then foldedSet k else 0) refl b (plain-byte b (letter-within (folded b) e .1)))
+letter-number b e = at-letter 0 (λ (k : ℕ). setAt (letterNumber k)) foldedSet refl b e
 
 base-within : (b : ℕ) → isBase b ≡ true → b < 96
 base-within b e = key-within 64 96 16 b bases refl (ltb-true 0 (valueOf b bases) e) .1

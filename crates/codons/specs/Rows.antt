@@ -35,10 +35,6 @@ rowIn (suc k) pair = if eqb pair (pairAt k) then k else rowIn k pair
 pub record HoldsRows (t : ℕ) (xs : List ℕ) : Type 0 where
   pub entry : (k c : ℕ) → k < 20 → c < 16 → getD xs (k * 16 + c) 0 ≡ numberRule t (pairAt k / 16) (pairAt k % 16) c
 
--- the row of each pair
-pub record HoldsBoxes (xs : List ℕ) : Type 0 where
-  pub entry : (pair : ℕ) → pair < 256 → getD xs pair 0 ≡ rowIn 20 pair
-
 -- the residue of each codon of letters stands at its place: the third letter slowest, then the first
 pub record HoldsLetters (t : ℕ) (xs : List ℕ) : Type 0 where
   pub entry : (a b c : ℕ) → a < 16 → b < 16 → c < 16 → getD xs (c * 256 + a * 16 + b) 0 ≡ numberRule t a b c

@@ -6,14 +6,14 @@ ghost use Prim.Native.Nat.{ℕ, _+_, _*_, _<_};
 ghost use lib.Dec.{eqb};
 ghost use lib.ListN.{length, getD};
 ghost use Rattle.rules.specs.Bytes.{if_then_else_};
-ghost use Rattle.codons.specs.Rows.{HoldsBoxes, HoldsRows, HoldsLetters};
+ghost use Rattle.codons.specs.Rows.{rowIn, HoldsRows, HoldsLetters};
 
 // The first two letters of each row by their numbers, a hexadecimal digit each: none, AA, AC, AG, AT, CA and so on to TA, TC, TR, TG, TT, YT, MG.
 const PAIRS: [u8; 20] =
     *b"\x44\x00\x03\x08\x09\x30\x33\x38\x39\x80\x83\x88\x89\x90\x93\x96\x98\x99\xe9\xf8";
 
 // The rows of a code: sixteen residues each, by the third letter's number.
-pub fn rows_of(table: usize) -> [u8; 320]
+fn rows_of(table: usize) -> [u8; 320]
     requires { ⌜ table < 3 ⌝ }
     ensures { λ r. ⌜ HoldsRows table r ⌝ }
 {
@@ -24,31 +24,19 @@ pub fn rows_of(table: usize) -> [u8; 320]
     }
 }
 
-// The row of each pair of first letters.
-pub fn boxes() -> [u8; 256]
-    ensures { λ r. ⌜ HoldsBoxes r ⌝ }
+// Puts a third letter's residues: each row's where its pair stands, over the first row's.
+fn put_third(rows: &[u8; 320], c: usize, all: &mut [u8])
+    requires { ⌜ c < 16 ⌝ }
+    requires { ⌜ length (now all) ≡ 4096 ⌝ }
+    requires { ⌜ ((p : ℕ) → p < 256 → getD (now all) (c * 256 + p) 0 ≡ getD (now rows) (rowIn 0 p * 16 + c) 0) ⌝ }
+    ensures { λ _. ⌜ ((d p : ℕ) → d < 16 → p < 256 → getD (now (all .exit)) (d * 256 + p) 0 ≡ (if eqb d c then getD (now (rows .entry)) (rowIn 20 p * 16 + c) 0 else getD (now (all .entry)) (d * 256 + p) 0)) ⌝ }
 {
     let pairs = PAIRS;
-    let mut all = [0; 256];
     let mut k = 0;
     while k < 20 {
         let pair = wide(pairs[k]);
-        all[pair] = k as u8;
-        k += 1;
-    }
-    all
-}
-
-// Puts row k where its pair's residues stand.
-fn put_row(rows: &[u8; 320], k: usize, pair: usize, all: &mut [u8])
-    requires { ⌜ (k < 20) × (pair < 256) ⌝ }
-    requires { ⌜ length (now all) ≡ 4096 ⌝ }
-    ensures { λ _. ⌜ ((c p : ℕ) → c < 16 → p < 256 → getD (now (all .exit)) (c * 256 + p) 0 ≡ (if eqb p pair then getD (now (rows .entry)) (k * 16 + c) 0 else getD (now (all .entry)) (c * 256 + p) 0)) ⌝ }
-{
-    let mut c = 0;
-    while c < 16 {
         all[c * 256 + pair] = rows[k * 16 + c];
-        c += 1;
+        k += 1;
     }
 }
 
@@ -57,13 +45,12 @@ pub fn residues_by_number(table: usize) -> [u8; 4096]
     requires { ⌜ table < 3 ⌝ }
     ensures { λ r. ⌜ HoldsLetters table r ⌝ }
 {
-    let pairs = PAIRS;
     let rows = rows_of(table);
     let mut all = [b'X'; 4096];
-    let mut k = 0;
-    while k < 20 {
-        put_row(&rows, k, wide(pairs[k]), &mut all);
-        k += 1;
+    let mut c = 0;
+    while c < 16 {
+        put_third(&rows, c, &mut all);
+        c += 1;
     }
     all
 }

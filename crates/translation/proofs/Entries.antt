@@ -9,9 +9,8 @@ use lib.Dec.{lit<}
 use lib.ListN.{length, getD}
 use Rattle.rules.specs.Letters.{folded}
 use Rattle.rules.specs.Translation.{foldToLetters}
-use Rattle.codons.specs.Rows.{letterNumber, numberRule, HoldsBoxes, HoldsRows, HoldsLetters}
+use Rattle.codons.specs.Rows.{letterNumber, numberRule, HoldsLetters}
 use Rattle.codons.proofs.Listed.{at-byte}
-use Rattle.codons.proofs.Rowed.{box-read}
 use Rattle.codons.proofs.Sets.{letter-number}
 use Rattle.translation.specs.Residues.{codonAt, entryAt, entriesOf, threeAt, eightAt}
 use Rattle.translation.proofs.Six.{six, sixIn, sixfold, six-masked, three-six, eight-six}
@@ -130,15 +129,3 @@ module _ (t : ℕ) (s : List ℕ) (i p : ℕ) (letters : foldToLetters s ≡ tru
       rw is
       (holds .entry (letterNumber (getD s (i * 3) 0)) (letterNumber (getD s (i * 3 + 1) 0)) (letterNumber (getD s (i * 3 + 2) 0)) (number-small _) (number-small _) (number-small _)
       ∙ number-read t s i letters h)
-
-  -- so have the rows
-  pub rows-read : (boxes rows : List ℕ) → t < 3 → HoldsBoxes boxes → HoldsRows t rows → getD rows (getD boxes (p % 256) 0 * 16 + p / 256) 0 ≡ codonAt t (map folded s) i
-  unfolding entryAt
-  rows-read boxes rows code of holds =
-      let a : ℕ = letterNumber (getD s (i * 3) 0) in
-      let b : ℕ = letterNumber (getD s (i * 3 + 1) 0) in
-      let c : ℕ = letterNumber (getD s (i * 3 + 2) 0) in
-      let pair : p % 256 ≡ a * 16 + b = omega (arith, number-small (getD s (i * 3) 0), number-small (getD s (i * 3 + 1) 0)) in
-      let third : p / 256 ≡ c = omega (arith, number-small (getD s (i * 3) 0), number-small (getD s (i * 3 + 1) 0)) in
-      rw (pair, third)
-      (box-read t rows code holds boxes of a b c (number-small _) (number-small _) (number-small _) ∙ number-read t s i letters h)

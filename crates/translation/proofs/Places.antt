@@ -1,6 +1,6 @@
 -- Laws of plain codons: the places of two of them in one product, and the residue at a place. Assumes nothing.
-use mathlib.Core.Path.{_≡_}
-use mathlib.Core.Bool.{true}
+use mathlib.Core.Path.{_≡_, sym, _∙_}
+use mathlib.Core.Bool.{Bool, true, _&&_}
 use mathlib.Core.List.{List, map}
 use Prim.Native.Nat.{ℕ, _+_, _*_, _/_, _%_, _≤_, _<_}
 use native.Mathlib.Omega.{arith}
@@ -8,8 +8,8 @@ use lib.Bits.{bitAnd, and-high}
 use lib.Dec.{lit<}
 use lib.ListN.{length, getD}
 use Rattle.rules.specs.Letters.{folded}
-use Rattle.codons.specs.Tables.{HoldsPlain}
-use Rattle.codons.proofs.Sets.{base-set}
+use Rattle.codons.specs.Tables.{HoldsPlain, foldsToBase}
+use Rattle.codons.proofs.Sets.{and-left, and-right, base-set}
 use Rattle.translation.specs.Residues.{codonAt, numberOf, placeAt, foldToBases, eightAt}
 use Rattle.translation.proofs.Six.{six, six-masked, eight-six}
 use Rattle.translation.proofs.Residues.{codon-sets, base-at}
@@ -81,12 +81,23 @@ unfolding placeAt
 place-small s i = omega arith
 
 -- the table has a plain codon's residue at its place
-module _ (t : ℕ) (code s : List ℕ) (i p : ℕ) (holds : HoldsPlain t code) (bases : foldToBases s ≡ true) (h : i < length s / 3) (is : p ≡ placeAt s i) where
-  pub place-read : getD code p 0 ≡ codonAt t (map folded s) i
+module _ (t : ℕ) (code s : List ℕ) (i p : ℕ) (holds : HoldsPlain t code) (is : p ≡ placeAt s i) where
+  codon-read : foldsToBase (getD s (i * 3) 0) ≡ true → foldsToBase (getD s (i * 3 + 1) 0) ≡ true → foldsToBase (getD s (i * 3 + 2) 0) ≡ true
+      → getD code p 0 ≡ codonAt t (map folded s) i
   unfolding placeAt
-  place-read =
+  codon-read ha hb hc =
       let a : ℕ = getD s (i * 3) 0 in
       let b : ℕ = getD s (i * 3 + 1) 0 in
       let c : ℕ = getD s (i * 3 + 2) 0 in
-      rw (is, codon-sets t s i, base-set a (base-at s (i * 3) bases (omega arith)), base-set b (base-at s (i * 3 + 1) bases (omega arith)), base-set c (base-at s (i * 3 + 2) bases (omega arith)))
+      rw (is, codon-sets t s i, base-set a ha, base-set b hb, base-set c hc)
       (holds .entry (numberOf a) (numberOf b) (numberOf c) (number-small a) (number-small b) (number-small c))
+
+  -- all letters are bases, or those of the codon
+  pub place-read : foldToBases s ≡ true → i < length s / 3 → getD code p 0 ≡ codonAt t (map folded s) i
+  place-read bases h =
+      codon-read (base-at s (i * 3) bases (omega arith)) (base-at s (i * 3 + 1) bases (omega arith)) (base-at s (i * 3 + 2) bases (omega arith))
+
+  pub tested-read : {x y z : Bool} → x ≡ foldsToBase (getD s (i * 3) 0) → y ≡ foldsToBase (getD s (i * 3 + 1) 0) → z ≡ foldsToBase (getD s (i * 3 + 2) 0)
+      → (x && y) && z ≡ true → getD code p 0 ≡ codonAt t (map folded s) i
+  tested-read {x} {y} {z} ex ey ez e =
+      codon-read (sym ex ∙ and-left x y (and-left (x && y) z e)) (sym ey ∙ and-right x y (and-left (x && y) z e)) (sym ez ∙ and-right (x && y) z e)

@@ -16,7 +16,7 @@ module _ (t : ℕ) (code s : List ℕ) (holds : HoldsPlain t code) (bases : fold
   -- the residue at a codon's place
   pub place-reads : (i p : ℕ) → i < length s / 3 → p ≡ placeAt s i → getD code p 0 ≡ residueAt t [] s i
   unfolding excepted residueAt
-  place-reads i p h is = place-read t code s i p holds bases h is
+  place-reads i p h is = place-read t code s i p holds is bases h
 
   module _ (A old : List ℕ) (room : residueCount (length s) ≤ length old) (out : List ℕ) (i p : ℕ) (w : Walk t [] s A old out i) (h : i < length s / 3) (is : p ≡ placeAt s i) where
     pub fits : i < length out

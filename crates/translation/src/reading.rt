@@ -4,12 +4,12 @@ use crate::packed::entry_at;
 use crate::packed::pair_at;
 use crate::packed::place_at;
 use codons::letters::folded_set;
-use codons::rows::boxes;
+use codons::letters::is_base_letter;
+use codons::letters::set_of_letter;
+use codons::reader::read_by_plain;
 use codons::rows::residues_by_number;
-use codons::rows::rows_of;
 use codons::tables::plain_code;
 use codons::tables::residue_in;
-use numbers::wide;
 ghost use mathlib.Core.Path.{_≡_};
 ghost use mathlib.Core.Bool.{true};
 ghost use mathlib.Core.List.{[], map};
@@ -19,7 +19,7 @@ ghost use Rattle.rules.specs.Bytes.{over};
 ghost use Rattle.rules.specs.Letters.{folded};
 ghost use Rattle.rules.specs.Translation.{residueCount, foldToLetters, foldedTranslated};
 ghost use Rattle.codons.specs.Tables.{HoldsCode, HoldsPlain, HoldsSets, foldedSet};
-ghost use Rattle.codons.specs.Rows.{HoldsBoxes, HoldsRows, HoldsLetters};
+ghost use Rattle.codons.specs.Rows.{HoldsLetters};
 ghost use Rattle.translation.specs.Residues.{codonAt, foldToBases};
 
 // The residue of codon i, counted from 0, by the tables of sets and of residues.
@@ -106,32 +106,40 @@ fn write_any(seq: &[u8], table: usize, residues: &[u8; 4096], out: &mut [u8])
     }
 }
 
-// The residue of codon i by the rows, which are laid out sooner than a table of 4,096.
-fn codon_in_rows(seq: &[u8], table: usize, boxes: &[u8; 256], rows: &[u8; 320], i: usize) -> u8
-    requires { ⌜ HoldsBoxes (now boxes) ⌝ }
-    requires { ⌜ HoldsRows table (now rows) ⌝ }
-    requires { ⌜ (table < 3) × (foldToLetters (now seq) ≡ true) ⌝ }
+// The residue of codon i by the plain codons: at its place where its letters are bases, else by the bases of each.
+fn codon_by_plain(seq: &[u8], table: usize, code: &[u8; 64], i: usize) -> u8
+    requires { ⌜ HoldsPlain table (now code) ⌝ }
+    requires { ⌜ foldToLetters (now seq) ≡ true ⌝ }
     requires { ⌜ i < length (now seq) / 3 ⌝ }
     ensures { λ r. ⌜ r ≡ codonAt table (map folded (now (seq .entry))) i ⌝ }
 {
-    let entry = entry_at(seq, i);
-    let pair = entry % 256;
-    let at = wide(boxes[pair]) * 16 + entry / 256;
-    rows[at]
+    let a = seq[i * 3];
+    let b = seq[i * 3 + 1];
+    let c = seq[i * 3 + 2];
+    if is_base_letter(a) & is_base_letter(b) & is_base_letter(c) {
+        let place = place_at(seq, i);
+        return code[place];
+    }
+    read_by_plain(
+        table,
+        code,
+        set_of_letter(a),
+        set_of_letter(b),
+        set_of_letter(c),
+    )
 }
 
 // Writes the residues of a few letters, one codon at a time.
-fn write_few(seq: &[u8], table: usize, boxes: &[u8; 256], rows: &[u8; 320], out: &mut [u8])
-    requires { ⌜ HoldsBoxes (now boxes) ⌝ }
-    requires { ⌜ HoldsRows table (now rows) ⌝ }
-    requires { ⌜ (table < 3) × (foldToLetters (now seq) ≡ true) ⌝ }
+fn write_few(seq: &[u8], table: usize, code: &[u8; 64], out: &mut [u8])
+    requires { ⌜ HoldsPlain table (now code) ⌝ }
+    requires { ⌜ foldToLetters (now seq) ≡ true ⌝ }
     requires { ⌜ residueCount (length (now seq)) ≤ length (now out) ⌝ }
     ensures { λ _. ⌜ now (out .exit) ≡ over (foldedTranslated table [] (now (seq .entry))) (now (out .entry)) ⌝ }
 {
     let whole = seq.len() / 3;
     let mut i = 0;
     while i < whole {
-        out[i] = codon_in_rows(seq, table, boxes, rows, i);
+        out[i] = codon_by_plain(seq, table, code, i);
         i += 1;
     }
     if seq.len() % 3 != 0 {
@@ -140,7 +148,7 @@ fn write_few(seq: &[u8], table: usize, boxes: &[u8; 256], rows: &[u8; 320], out:
 }
 
 // Below so many letters the table of 4,096 takes longer to lay out than it saves.
-const FEW: usize = 512;
+const FEW: usize = 192;
 
 // Writes the residues of letters, without exceptions, to the buffer's start, the faster way where all letters are bases.
 pub(crate) fn write_letters(seq: &[u8], table: usize, plain: bool, out: &mut [u8])
@@ -154,9 +162,8 @@ pub(crate) fn write_letters(seq: &[u8], table: usize, plain: bool, out: &mut [u8
         let code = plain_code(table);
         write_plain(seq, table, &code, out);
     } else if seq.len() < FEW {
-        let boxes = boxes();
-        let rows = rows_of(table);
-        write_few(seq, table, &boxes, &rows, out);
+        let code = plain_code(table);
+        write_few(seq, table, &code, out);
     } else {
         let residues = residues_by_number(table);
         write_any(seq, table, &residues, out);

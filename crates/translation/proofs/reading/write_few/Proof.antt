@@ -14,13 +14,13 @@ use Rattle.translation.proofs.reading.write_few.Statement.{statement}
 use Rattle.translation.proofs.reading.write_few.Tie as tie
 
 abbrev Inv-loop : tie.InvT-loop
-Inv-loop seq table boxes rows out₀ whole i₀ out i =
+Inv-loop seq table code out₀ whole i₀ out i =
     (i ≤ whole)
     × (length out ≡ length out₀)
     × (overFrom i (leftFrom table [] seq i) out ≡ over (foldedTranslated table [] seq) out₀)
 
 abbrev μ-loop : tie.MeasureT-loop
-μ-loop seq table boxes rows out₀ whole i₀ out i = whole - i
+μ-loop seq table code out₀ whole i₀ out i = whole - i
 
 loop-holds : tie.Need-loop-holds Inv-loop μ-loop
 loop-holds c =
@@ -34,7 +34,7 @@ loop-again c =
     let loop = c .before .before .loop in (
       search needs,
       simp length-set (loop .inv .1),
-      codon-turn (args .table) (args .seq .now) (loop .i) (loop .out) _ _ (search needs) (search needs) (c .codon-in-rows .ensures) (loop .inv .2),
+      codon-turn (args .table) (args .seq .now) (loop .i) (loop .out) _ _ (search needs) (search needs) (c .codon-by-plain .ensures) (loop .inv .2),
     )
 
 returns : tie.Need-returns Inv-loop μ-loop

@@ -14,7 +14,6 @@ write-letters-spec =
     (λ c κs. omega arith)
     write-plain-requires
     (λ c κs. omega arith)
-    (λ c κs. omega arith)
     (λ c κs. search needs)
     (λ c κs. omega arith)
     (λ c κs. search needs)

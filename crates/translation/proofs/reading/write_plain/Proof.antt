@@ -48,10 +48,10 @@ loop-again c =
       search needs,
       simp length-set (loop .inv .1),
       four-turn (args .table) (args .seq .now) (loop .i) (loop .out) _ _ _ _ _ (omega arith) (omega (arith, loop .inv .1, pre .1 .1))
-          (place-read (args .table) (args .code .now) (args .seq .now) (loop .i) _ (pre .0) (pre .1 .0) (omega arith) (first .ensures .0))
-          (place-read (args .table) (args .code .now) (args .seq .now) (loop .i + 1) _ (pre .0) (pre .1 .0) (omega arith) (first .ensures .1))
-          (place-read (args .table) (args .code .now) (args .seq .now) (loop .i + 2) _ (pre .0) (pre .1 .0) (omega arith) (next .ensures .0))
-          (place-read (args .table) (args .code .now) (args .seq .now) (loop .i + 2 + 1) _ (pre .0) (pre .1 .0) (omega arith) (next .ensures .1))
+          (place-read (args .table) (args .code .now) (args .seq .now) (loop .i) _ (pre .0) (first .ensures .0) (pre .1 .0) (omega arith))
+          (place-read (args .table) (args .code .now) (args .seq .now) (loop .i + 1) _ (pre .0) (first .ensures .1) (pre .1 .0) (omega arith))
+          (place-read (args .table) (args .code .now) (args .seq .now) (loop .i + 2) _ (pre .0) (next .ensures .0) (pre .1 .0) (omega arith))
+          (place-read (args .table) (args .code .now) (args .seq .now) (loop .i + 2 + 1) _ (pre .0) (next .ensures .1) (pre .1 .0) (omega arith))
           (loop .inv .2),
     )
 
@@ -70,7 +70,7 @@ loop2-again c =
       search needs,
       simp length-set (loop2 .inv .1),
       codon-turn (args .table) (args .seq .now) (loop2 .i) (loop2 .out) _ _ (search needs) (search needs)
-          (place-read (args .table) (args .code .now) (args .seq .now) (loop2 .i) _ (pre .0) (pre .1 .0) (search needs) (c .before .place-at .ensures))
+          (place-read (args .table) (args .code .now) (args .seq .now) (loop2 .i) _ (pre .0) (c .before .place-at .ensures) (pre .1 .0) (search needs))
           (loop2 .inv .2),
     )
 
