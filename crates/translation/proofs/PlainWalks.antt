@@ -8,9 +8,9 @@ use lib.ListN.{length, getD, set}
 use Rattle.rules.specs.Bytes.{byte}
 use Rattle.rules.specs.Translation.{excepted, residueCount}
 use Rattle.codons.specs.Tables.{HoldsPlain}
-use Rattle.translation.specs.Residues.{placeAt, foldToBases, WalkedTo}
+use Rattle.translation.specs.Residues.{residueAt, placeAt, foldToBases, WalkedTo}
 use Rattle.translation.proofs.Places.{place-read}
-use Rattle.translation.proofs.Walks.{residueAt, Walk, walk-more, walk-stop}
+use Rattle.translation.proofs.Walks.{Walk, walk-more, walk-stop}
 
 module _ (t : ℕ) (code s : List ℕ) (holds : HoldsPlain t code) (bases : foldToBases s ≡ true) where
   -- the residue at a codon's place

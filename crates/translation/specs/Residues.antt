@@ -2,13 +2,14 @@
 use Prim.Native.Nat.{ℕ, zero, suc, _+_, _*_, _/_, _%_, _<_, _≤_}
 use mathlib.Core.Path.{_≡_}
 use mathlib.Core.Bool.{Bool, true, _&&_}
-use mathlib.Core.List.{List, [], _∷_}
+use mathlib.Core.List.{List, [], _∷_, map}
 use lib.Bits.{bitAnd}
 use lib.Dec.{leb, ltb}
 use lib.ListN.{length, getD}
 use Rattle.rules.specs.declared.Exception.{Exception}
 use Rattle.rules.specs.declared.Exceptions.{Exceptions}
 use Rattle.rules.specs.Bytes.{if_then_else_, all, over}
+use Rattle.rules.specs.Letters.{folded}
 use Rattle.rules.specs.Codons.{codon}
 use Rattle.rules.specs.Translation.{excepted, wholeCodons, residueCount, foldToLetters}
 use Rattle.rules.proofs.Over.{overFrom}
@@ -19,6 +20,10 @@ use Rattle.codons.specs.Rows.{letterNumber}
 -- the residue of codon i, counted from 0, of a list of letters
 unfoldable pub codonAt : ℕ → List ℕ → ℕ → ℕ
 codonAt t s i = codon t (getD s (i * 3) 0) (getD s (i * 3 + 1) 0) (getD s (i * 3 + 2) 0)
+
+-- the same with exceptions, of letters of plain translation
+unfoldable pub residueAt : ℕ → List Exception → List ℕ → ℕ → ℕ
+residueAt t es s i = excepted es (i + 1) (codonAt t (map folded s) i)
 
 -- residues with the exceptions, the first of them codon n's
 unfoldable pub exceptedFrom : List Exception → ℕ → List ℕ → List ℕ
@@ -33,6 +38,11 @@ nearer x n next = if leb n (x .codon) && ltb (x .codon) next then x .codon else 
 unfoldable pub nextFrom : List Exception → ℕ → ℕ → ℕ
 nextFrom [] n past = past
 nextFrom (x ∷ es) n past = nextFrom es n (nearer x n past)
+
+-- `next` is the number of the first codon behind the first i that has an exception, or behind all
+pub record Clear (es : List Exception) (i next : ℕ) : Type 0 where
+  pub ahead : i < next
+  pub none : (m r : ℕ) → i < m → m < next → excepted es m r ≡ r
 
 -- the number of a base's letter: A 0, C 1, T and U 2, G 3
 abbrev pub numberOf : ℕ → ℕ
