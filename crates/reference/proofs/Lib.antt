@@ -4,4 +4,5 @@ pub mod Judging
 pub mod Stops
 pub mod Last
 pub mod Reading
+pub mod Cut
 pub mod Checking
