@@ -62,7 +62,7 @@ extern "C" {
 #endif
 
 /* Of this header and of the archive that it came with. */
-#define GARUMBOTT_VERSION "1.0.0"
+#define GARUMBOTT_VERSION "2.0.0"
 
 /* ---- Limits ------------------------------------------------------------------------------------------------------------------------- */
 
@@ -82,7 +82,7 @@ extern "C" {
 /* Buffers of these sizes are never too short for garumbott_edit and garumbott_record. garumbott_transcript_room and the two functions behind it
  * compute smaller ones. */
 #define GARUMBOTT_TRANSCRIPT_ROOM 32768
-#define GARUMBOTT_REFERENCE_ROOM 5461
+#define GARUMBOTT_REFERENCE_ROOM 5462
 #define GARUMBOTT_ALTERED_ROOM 10923
 
 /* ---- Numbers ------------------------------------------------------------------------------------------------------------------------ */
@@ -92,6 +92,11 @@ extern "C" {
 #define GARUMBOTT_TABLE_STANDARD 0                 /* NCBI's code 1 */
 #define GARUMBOTT_TABLE_SELENOCYSTEINE 1           /* the same, but TGA is U */
 #define GARUMBOTT_TABLE_VERTEBRATE_MITOCHONDRIAL 2 /* NCBI's code 2: TGA is W, ATA is M, AGA and AGG are '*' */
+
+/* How a CDS ends. Every other number is an unknown end and refused with 28, or with 3 where the CDS's length isn't divisible by 3. */
+#define GARUMBOTT_END_STOP 0      /* at a stop: its last codon, exceptions applied, reads '*' (6) */
+#define GARUMBOTT_END_NO_STOP 1   /* with a whole codon and without a stop: the transcript is cut short */
+#define GARUMBOTT_END_CUT_CODON 2 /* the same, in one or two bases of a codon */
 
 /* Kinds of edit. Every other number is an unknown kind and refused with 10. */
 #define GARUMBOTT_SUBSTITUTION 1 /* one base gives way to one new base */
@@ -124,10 +129,10 @@ extern "C" {
 /* Refusals. 0 is none. */
 #define GARUMBOTT_REFUSAL_LENGTH 1           /* the transcript has no letter, or more than GARUMBOTT_LONGEST */
 #define GARUMBOTT_REFUSAL_LETTER 2           /* a letter isn't one of ACGTRYSWKMBDHVN (plain translation: either case, and U too) */
-#define GARUMBOTT_REFUSAL_BOUNDS 3           /* not 1 <= cs <= ce <= letters_len, or ce-cs+1 not divisible by 3, or below 6 */
+#define GARUMBOTT_REFUSAL_BOUNDS 3           /* not 1 <= cs <= ce <= letters_len, or ce-cs+1 not divisible by 3 (a cut codon: divisible), or below 6 */
 #define GARUMBOTT_REFUSAL_TABLE 4            /* the table isn't 0, 1 or 2 */
 #define GARUMBOTT_REFUSAL_EXCEPTIONS 5       /* too many exceptions, a codon number or a residue that is none, or codon numbers out of order */
-#define GARUMBOTT_REFUSAL_LAST_CODON 6       /* the last codon of the CDS, exceptions applied, doesn't read '*' */
+#define GARUMBOTT_REFUSAL_LAST_CODON 6       /* the CDS ends at a stop, and its last codon, exceptions applied, doesn't read '*' */
 #define GARUMBOTT_REFUSAL_POSITION 7         /* a position is none, past the CDS or before the transcript; a duplication ends behind it */
 #define GARUMBOTT_REFUSAL_ORDER 8            /* start behind end, anchors no neighbours, or a substitution at two places */
 #define GARUMBOTT_REFUSAL_OUT_OF_CDS 9       /* both ends before the CDS, both behind it, or an insertion that begins before it */
@@ -139,7 +144,8 @@ extern "C" {
 #define GARUMBOTT_REFUSAL_CUT 20             /* stored: a field is cut off */
 #define GARUMBOTT_REFUSAL_TAG 21             /* stored: a tag is unknown, repeated or not rising */
 #define GARUMBOTT_REFUSAL_MISSING 22         /* stored: letters, bounds or table are missing */
-#define GARUMBOTT_REFUSAL_FIELD 23           /* stored: a field's length is wrong for its tag */
+#define GARUMBOTT_REFUSAL_FIELD 23           /* stored: a field's length is wrong for its tag, or tag 8 isn't 1 or 2 */
+#define GARUMBOTT_REFUSAL_END 28             /* the end is unknown; or it isn't at a stop, and ce isn't the last base or R has a '*' */
 #define GARUMBOTT_REFUSAL_LINE 30            /* a text line isn't in the form */
 
 /* ---- Answers ------------------------------------------------------------------------------------------------------------------------ */
@@ -189,6 +195,7 @@ struct garumbott_stored {
     uint64_t letters_len;
     uint64_t exceptions_at; /* the exceptions, likewise; without a field for them, 0 bytes at 0 */
     uint64_t exceptions_len;
+    uint64_t end; /* GARUMBOTT_END_.. */
 };
 
 /* ---- Edits -------------------------------------------------------------------------------------------------------------------------- */
@@ -197,11 +204,13 @@ struct garumbott_stored {
  *
  * The reference:
  *   letters, letters_len         the transcript, 1 to 16,384 upper-case letters (1, 2)
- *   cs, ce                       first and last base of the CDS, counted from 1, both included: two codons or more (3), of which the last reads
- *                                '*', exceptions applied (6)
+ *   cs, ce                       first and last base of the CDS, counted from 1, both included: six bases or more, whole codons, but for a CDS that
+ *                                ends in a cut codon (3)
  *   table                        GARUMBOTT_TABLE_..; not NCBI's number (4)
  *   exceptions, exceptions_len   at most 16, three bytes each as above, codon numbers strictly rising and within the CDS; none: length 0.
- *                                A length that isn't divisible by three is refused like any other fault of theirs (5)
+ *                                A length that isn't divisible by three is refused like any other fault of theirs. A cut codon has none (5)
+ *   cds_end                      GARUMBOTT_END_..: at a stop, so that the last codon reads '*' (6); or cut short, with or without a whole last codon:
+ *                                then the transcript ends with the CDS, and no codon reads '*', exceptions applied (28)
  * The edit, by the positions of an HGVS name ("c.8", "c.-2", "c.*3"; those in introns, as "c.88+2", have no place here):
  *   kind                         GARUMBOTT_SUBSTITUTION .. GARUMBOTT_IDENTITY (10)
  *   start_star, start            the first position: start_star 0 and start = p, or start_star 1 and start = q.
@@ -225,27 +234,29 @@ struct garumbott_stored {
  *     they have behind it is dropped, and such an edit is no frameshift. So the transcript may be shorter than you would count.
  *   The frameshift flag is set where the change of length, before that, isn't divisible by 3, and where a deletion or delins goes on from the CDS
  *     to behind it; never where the bases are put back as they were, nor in an inversion or an identity.
+ *   R has a residue for each codon of the CDS, and 'X' for a cut one. In a CDS that is cut short R may be the beginning of A: number is then R's
+ *     length plus one, nothing is deleted, and the class isn't extension.
  *   A is read from base 1 of the CDS through the first '*', to the transcript's end where there is none, with 'X' for one or two bases that are
  *     left. An exception stays with its codon where the edit leaves that codon as it was and in frame, and is dropped otherwise.
  *
- * Refusals 1 to 12, the lowest that applies; but Unknown is decided before 11, so that it needs no room. Refused and Unknown write nothing;
+ * Refusals 1 to 12, the lowest that applies, 28 in 6's place where the CDS doesn't end at a stop; but Unknown is decided before 11, so that it needs no room. Refused and Unknown write nothing;
  * every other answer writes all three buffers. */
 struct garumbott_answer garumbott_record(const uint8_t *letters, uint64_t letters_len, uint64_t cs, uint64_t ce, uint64_t table,
-                                         const uint8_t *exceptions, uint64_t exceptions_len, uint64_t kind, uint64_t start_star,
-                                         int64_t start, uint64_t end_star, int64_t end, const uint8_t *bases, uint64_t bases_len,
-                                         uint8_t *transcript, uint64_t transcript_len, uint8_t *reference, uint64_t reference_len,
-                                         uint8_t *altered, uint64_t altered_len);
+                                         const uint8_t *exceptions, uint64_t exceptions_len, uint64_t cds_end, uint64_t kind,
+                                         uint64_t start_star, int64_t start, uint64_t end_star, int64_t end, const uint8_t *bases,
+                                         uint64_t bases_len, uint8_t *transcript, uint64_t transcript_len, uint8_t *reference,
+                                         uint64_t reference_len, uint8_t *altered, uint64_t altered_len);
 
-/* The altered transcript alone. Parameters, refusals 1 to 11 and Unknown are those of garumbott_record. Where it writes, the answer is
+/* The altered transcript alone. Parameters, refusals 1 to 11, 28 among them, and Unknown are those of garumbott_record. Where it writes, the answer is
  * GARUMBOTT_CHANGED, with transcript_len and frameshift, and every other number is 0: no protein was compared. */
 struct garumbott_answer garumbott_edit(const uint8_t *letters, uint64_t letters_len, uint64_t cs, uint64_t ce, uint64_t table,
-                                       const uint8_t *exceptions, uint64_t exceptions_len, uint64_t kind, uint64_t start_star,
-                                       int64_t start, uint64_t end_star, int64_t end, const uint8_t *bases, uint64_t bases_len,
-                                       uint8_t *transcript, uint64_t transcript_len);
+                                       const uint8_t *exceptions, uint64_t exceptions_len, uint64_t cds_end, uint64_t kind,
+                                       uint64_t start_star, int64_t start, uint64_t end_star, int64_t end, const uint8_t *bases,
+                                       uint64_t bases_len, uint8_t *transcript, uint64_t transcript_len);
 
 /* ---- Stored references -------------------------------------------------------------------------------------------------------------- */
 
-/* Reads a reference from its stored form, and judges it: 1 to 6 are tested here as in garumbott_record.
+/* Reads a reference from its stored form, and judges it: 1 to 6 and 28 are tested here as in garumbott_record.
  *
  * The stored form is fields, one behind the other, with nothing else between or behind them. A field is a tag of one byte, a length of two
  * bytes and as many bytes of content as the length says. Every number of two bytes has its high byte first. Tags rise, so none comes twice:
@@ -253,15 +264,17 @@ struct garumbott_answer garumbott_edit(const uint8_t *letters, uint64_t letters_
  *   2   bounds       cs, then ce, two bytes each
  *   3   table        one byte
  *   4   exceptions   three bytes each, as above; the field may be empty, or absent
+ *   8   end          one byte, GARUMBOTT_END_NO_STOP or GARUMBOTT_END_CUT_CODON; absent where the CDS ends at a stop
  * The reference of the example above is "\1\0\27GGATGGCCAAATGGTAACCTGAC" "\2\0\4\0\3\0\21" "\3\0\1\0".
  *
  * Refusals, the first that applies:
  *   20, 21, 23   met in the order of the fields; in one field 21 before 20 before 23.
  *                20: the bytes end within the field.
- *                21: the tag isn't 1 to 4, or isn't above the tag before it.
- *                23: the length isn't 4 for tag 2, 1 for tag 3, or divisible by three for tag 4; tag 1 may have any length here
+ *                21: the tag isn't 1 to 4 or 8, or isn't above the tag before it.
+ *                23: the length isn't 4 for tag 2, 1 for tags 3 and 8, or divisible by three for tag 4, or tag 8 isn't 1 or 2; tag 1 may have
+ *                any length here
  *   22           tag 1, 2 or 3 is missing
- *   1 to 6       the lowest
+ *   1 to 6       the lowest, 28 in 6's place where the CDS doesn't end at a stop
  *
  * Nothing is copied: the letters and the exceptions stay where they stand in data, which must stay as it is while they are used.
  * garumbott_reference_at, below, makes of the answer what garumbott_record_of and garumbott_edit_of take. */
@@ -307,7 +320,7 @@ uint64_t garumbott_common_suffix(const uint8_t *a, uint64_t a_len, const uint8_t
 /* ---- The same over structs ---------------------------------------------------------------------------------------------------------- */
 
 /* Twenty arguments in a row are easy to mix up: these hold them by name. Members that an initializer leaves out are 0: no exceptions, no stars, no
- * bases, and GARUMBOTT_TABLE_STANDARD. */
+ * bases, GARUMBOTT_TABLE_STANDARD and GARUMBOTT_END_STOP. */
 struct garumbott_reference {
     const uint8_t *letters;
     uint64_t letters_len;
@@ -316,6 +329,7 @@ struct garumbott_reference {
     uint64_t table;
     const uint8_t *exceptions;
     uint64_t exceptions_len;
+    uint64_t end;
 };
 
 struct garumbott_coding_edit {
@@ -348,23 +362,24 @@ static inline struct garumbott_reference garumbott_reference_at(const struct gar
     r.table = s->table;
     r.exceptions = s->exceptions_len == 0 ? NULL : data + s->exceptions_at;
     r.exceptions_len = s->exceptions_len;
+    r.end = s->end;
     return r;
 }
 
 static inline struct garumbott_answer garumbott_record_of(const struct garumbott_reference *r, const struct garumbott_coding_edit *e,
                                                           const struct garumbott_buffers *b)
 {
-    return garumbott_record(r->letters, r->letters_len, r->cs, r->ce, r->table, r->exceptions, r->exceptions_len, e->kind, e->start_star,
-                            e->start, e->end_star, e->end, e->bases, e->bases_len, b->transcript, b->transcript_len, b->reference,
-                            b->reference_len, b->altered, b->altered_len);
+    return garumbott_record(r->letters, r->letters_len, r->cs, r->ce, r->table, r->exceptions, r->exceptions_len, r->end, e->kind,
+                            e->start_star, e->start, e->end_star, e->end, e->bases, e->bases_len, b->transcript, b->transcript_len,
+                            b->reference, b->reference_len, b->altered, b->altered_len);
 }
 
 /* Only the transcript buffer is used. */
 static inline struct garumbott_answer garumbott_edit_of(const struct garumbott_reference *r, const struct garumbott_coding_edit *e,
                                                         const struct garumbott_buffers *b)
 {
-    return garumbott_edit(r->letters, r->letters_len, r->cs, r->ce, r->table, r->exceptions, r->exceptions_len, e->kind, e->start_star,
-                          e->start, e->end_star, e->end, e->bases, e->bases_len, b->transcript, b->transcript_len);
+    return garumbott_edit(r->letters, r->letters_len, r->cs, r->ce, r->table, r->exceptions, r->exceptions_len, r->end, e->kind,
+                          e->start_star, e->start, e->end_star, e->end, e->bases, e->bases_len, b->transcript, b->transcript_len);
 }
 
 /* Room that is enough for any edit of a kind with so many new bases. Less may do: 11 and 12 ask for the altered length itself, and for a
@@ -375,10 +390,10 @@ static inline uint64_t garumbott_transcript_room(uint64_t letters_len, uint64_t 
     return letters_len + (kind == GARUMBOTT_DUPLICATION ? letters_len : bases_len);
 }
 
-/* Exactly what 12 asks for R. */
+/* Exactly what 12 asks for R: a third of the CDS, rounded up. */
 static inline uint64_t garumbott_reference_room(uint64_t cs, uint64_t ce)
 {
-    return ce < cs ? 0 : (ce + 1 - cs) / 3;
+    return ce < cs ? 0 : (ce - cs) / 3 + 1;
 }
 
 /* Of an altered transcript of so many bases, exactly what 12 asks for A. */
@@ -427,12 +442,14 @@ static inline const char *garumbott_refusal_words(uint64_t number)
     case GARUMBOTT_REFUSAL_LENGTH: return "the transcript's length is 0 or above 16,384";
     case GARUMBOTT_REFUSAL_LETTER:
         return "a letter is not of ACGTRYSWKMBDHVN, the fifteen of a reference and of a complement; plain translation takes either case, and U as T";
-    case GARUMBOTT_REFUSAL_BOUNDS: return "the bounds break a rule: 1 <= cs <= ce <= length, ce-cs+1 divisible by 3 and at least 6";
+    case GARUMBOTT_REFUSAL_BOUNDS:
+        return "the bounds break a rule: 1 <= cs <= ce <= length, ce-cs+1 divisible by 3 (not divisible where the CDS ends in a cut codon) "
+               "and at least 6";
     case GARUMBOTT_REFUSAL_TABLE: return "the table is not 0, 1 or 2";
     case GARUMBOTT_REFUSAL_EXCEPTIONS:
-        return "the exceptions break a rule: at most 16, codon numbers strictly rising from 1 to the number of CDS codons "
+        return "the exceptions break a rule: at most 16, codon numbers strictly rising from 1 to the number of whole CDS codons "
                "(in plain translation from 1 in any order), residues A to Z or *";
-    case GARUMBOTT_REFUSAL_LAST_CODON: return "the last CDS codon, exceptions applied, doesn't read *";
+    case GARUMBOTT_REFUSAL_LAST_CODON: return "the CDS ends at a stop, and its last codon, exceptions applied, doesn't read *";
     case GARUMBOTT_REFUSAL_POSITION:
         return "a position is 0, star 0 or above 65,535, past the CDS or before base 1 of the transcript, "
                "or a duplication's end is behind the transcript";
@@ -443,7 +460,7 @@ static inline const char *garumbott_refusal_words(uint64_t number)
         return "new bases are missing, too many, of a wrong letter, or given where the kind has none; or the kind is unknown";
     case GARUMBOTT_REFUSAL_TRANSCRIPT_ROOM: return "the transcript buffer is shorter than the altered length";
     case GARUMBOTT_REFUSAL_PROTEIN_ROOM:
-        return "a protein buffer is shorter than CDS/3 (reference) or ceil((altered length-cs+1)/3) (altered)";
+        return "a protein buffer is shorter than CDS/3 rounded up (reference) or ceil((altered length-cs+1)/3) (altered)";
     case GARUMBOTT_REFUSAL_CODON: return "full codons were demanded, and one or two bytes remain: the length is not divisible by 3";
     case GARUMBOTT_REFUSAL_OUTPUT:
         return "a name is unknown, three-letter names have a length not divisible by three, "
@@ -451,7 +468,9 @@ static inline const char *garumbott_refusal_words(uint64_t number)
     case GARUMBOTT_REFUSAL_CUT: return "a stored field is cut off";
     case GARUMBOTT_REFUSAL_TAG: return "a stored tag is unknown, repeated or not rising";
     case GARUMBOTT_REFUSAL_MISSING: return "stored tag 1, 2 or 3 (letters, bounds, table) is missing";
-    case GARUMBOTT_REFUSAL_FIELD: return "a stored field's length is wrong for its tag";
+    case GARUMBOTT_REFUSAL_FIELD: return "a stored field's length is wrong for its tag, or the content of tag 8 is not 1 or 2";
+    case GARUMBOTT_REFUSAL_END:
+        return "the CDS's stated end is unknown, or it is cut short and ce is not the last base or a codon reads *";
     case GARUMBOTT_REFUSAL_LINE: return "the text line is not in the form";
     default: return "a refusal that this header doesn't know";
     }

@@ -40,7 +40,7 @@ withRoom c room (decision.Goes p) = goesBy (roomBy c (p .length) room) p
 
 -- of an edit of a checked reference, at the library's limits
 unfoldable pub decidedIn : Bool → Reference → Asked → Room → Decision
-decidedIn several r a room = withRoom (cdsOf (r .cs) (r .ce) (r .table)) room (decisionOf (limits .most) several r a)
+decidedIn several r a room = withRoom (cdsOf (r .cs) (r .ce) (r .table) (r .end)) room (decisionOf (limits .most) several r a)
 
 unfoldable pub decidedOutcome : Reference → Decision → List ℕ → Outcome
 decidedOutcome r (decision.Refused n) new = writesNothing (answer.Refused n)

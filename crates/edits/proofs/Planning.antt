@@ -30,7 +30,7 @@ use Rattle.edits.specs.declared.plans.Source.{Source}
 use Rattle.edits.specs.declared.plans.Source.the-variants.{New}
 use Rattle.edits.specs.declared.plans.Plan.{Plan}
 use Rattle.rules.specs.declared.Cds.{Cds}
-use Rattle.rules.specs.Views.{bare, asked}
+use Rattle.rules.specs.Views.{cdsOf, bare, asked}
 use Rattle.reference.specs.declared.Known.{Known}
 use Rattle.reference.specs.Bounds.{Sound}
 use Rattle.reference.specs.Known.{Checks}
@@ -72,11 +72,11 @@ unfolding alteredTranscript carried cutSwap planOf
 transcript-is r e = rw (goes-in r e)
 
 -- exceptions play no part
-length-bare : (r : Reference) → length (referenceProtein r) ≡ length (referenceProtein (bare (r .letters) (record { cs = r .cs; ce = r .ce; table = r .table })))
+length-bare : (r : Reference) → length (referenceProtein r) ≡ length (referenceProtein (bare (r .letters) (cdsOf (r .cs) (r .ce) (r .table) (r .end))))
 unfolding referenceProtein cds cdsSize
 length-bare r = length-translated (r .table) (r .exceptions) (cds r) ∙ sym (length-translated (r .table) [] (cds r))
 
-pub bare-plan : (r : Reference) (e : Asked) → planOf r e ≡ planOf (bare (r .letters) (record { cs = r .cs; ce = r .ce; table = r .table })) e
+pub bare-plan : (r : Reference) (e : Asked) → planOf r e ≡ planOf (bare (r .letters) (cdsOf (r .cs) (r .ce) (r .table) (r .end))) e
 unfolding planOf size startIndex endIndex swap frame findsStop kept deleted inserted cutOff alteredLength isUneven leavesCds putsBack frameshift silentNumber
 bare-plan r e = rw (length-bare r)
 

@@ -77,7 +77,7 @@ translation-given table full s room x =
 -- an edit of a reference
 module _ (m : Limits) (s : List ℕ) (c : Cds) where
   abbrev with : List Exception → Reference
-  with es = record { letters = s; cs = c .cs; ce = c .ce; table = c .table; exceptions = es }
+  with es = record { letters = s; cs = c .cs; ce = c .ce; table = c .table; exceptions = es; end = c .end }
 
   -- 1 to 5, the exceptions unfit
   lowest : ℕ

@@ -44,9 +44,9 @@ hostAsked kind startStar start endStar end bases = record { edit = editAt kind s
 unfoldable pub exceptionsAt : List ℕ → List Exception
 exceptionsAt s = if eqb (length s % 3) 0 then exceptionsIn s else (noException ∷ [])
 
-abbrev pub hostReference : List ℕ → ℕ → ℕ → ℕ → List ℕ → Reference
-hostReference letters cs ce table exceptions =
-    record { letters = letters; cs = cs; ce = ce; table = table; exceptions = exceptionsAt exceptions }
+abbrev pub hostReference : List ℕ → ℕ → ℕ → ℕ → List ℕ → ℕ → Reference
+hostReference letters cs ce table exceptions end =
+    record { letters = letters; cs = cs; ce = ce; table = table; exceptions = exceptionsAt exceptions; end = end }
 
 -- 0 or not 0
 abbrev pub isSet : ℕ → Bool
@@ -76,7 +76,7 @@ aloneOf answer refusal =
       first = 0;
     }
 
--- document 01's number and values for each case of an answer
+-- the papers' number and values for each case of an answer
 abbrev pub numbersOf : Values → GarumbottAnswer
 numbersOf v =
     record {

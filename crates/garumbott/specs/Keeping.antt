@@ -22,6 +22,7 @@ refusedNumbers n =
       «letters_len» = 0;
       «exceptions_at» = 0;
       «exceptions_len» = 0;
+      end = 0;
     }
 
 abbrev pub placedNumbers : StoredAt → GarumbottStored
@@ -35,13 +36,14 @@ placedNumbers p =
       «letters_len» = p .letters .len;
       «exceptions_at» = p .exceptions .at;
       «exceptions_len» = p .exceptions .len;
+      end = p .cds .end;
     }
 
 -- of a reference that isn't refused, with the places of its letters and exceptions
 unfoldable pub numbersBy : Result Reference → Part → Part → GarumbottStored
 numbersBy (refused n) letters exceptions = refusedNumbers n
 numbersBy (given r) letters exceptions =
-    placedNumbers (record { cds = cdsOf (r .cs) (r .ce) (r .table); letters = letters; exceptions = exceptions })
+    placedNumbers (record { cds = cdsOf (r .cs) (r .ce) (r .table) (r .end); letters = letters; exceptions = exceptions })
 
 -- the letters are the content of tag 1, the exceptions that of tag 4; where there is none, 0 bytes at 0
 unfoldable pub storedNumbers : List ℕ → GarumbottStored

@@ -24,7 +24,7 @@ pub struct GarumbottLength {
     pub len: u64,
 }
 
-// Document 01's number and values for each case of an answer.
+// The papers' number and values for each case of an answer.
 #[repr(C)]
 pub struct GarumbottAnswer {
     pub answer: u64,
@@ -101,13 +101,14 @@ pub fn edit_at(kind: u64, start_star: u64, start: i64, end_star: u64, end: i64) 
     }
 }
 
-pub fn cds_at(cs: u64, ce: u64, table: u64) -> Cds
-    ensures { λ r. ⌜ r ≡ cdsOf cs ce table ⌝ }
+pub fn cds_at(cs: u64, ce: u64, table: u64, end: u64) -> Cds
+    ensures { λ r. ⌜ r ≡ cdsOf cs ce table end ⌝ }
 {
     Cds {
         cs: cs as usize,
         ce: ce as usize,
         table: table as usize,
+        end: end as usize,
     }
 }
 

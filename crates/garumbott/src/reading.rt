@@ -16,6 +16,7 @@ pub struct GarumbottStored {
     pub letters_len: u64,
     pub exceptions_at: u64,
     pub exceptions_len: u64,
+    pub end: u64,
 }
 
 fn placed(p: StoredAt) -> GarumbottStored
@@ -30,6 +31,7 @@ fn placed(p: StoredAt) -> GarumbottStored
         letters_len: p.letters.len as u64,
         exceptions_at: p.exceptions.at as u64,
         exceptions_len: p.exceptions.len as u64,
+        end: p.cds.end as u64,
     }
 }
 
@@ -45,6 +47,7 @@ fn refused(n: usize) -> GarumbottStored
         letters_len: 0,
         exceptions_at: 0,
         exceptions_len: 0,
+        end: 0,
     }
 }
 

@@ -23,6 +23,7 @@ pub extern "C" fn garumbott_edit(
     ce: u64,
     table: u64,
     exceptions: &[u8],
+    cds_end: u64,
     kind: u64,
     start_star: u64,
     start: i64,
@@ -31,10 +32,10 @@ pub extern "C" fn garumbott_edit(
     bases: &[u8],
     transcript: &mut [u8],
 ) -> GarumbottAnswer
-    ensures { λ r. ⌜ r ≡ transcribedOf (edited limits (hostReference (now (letters .entry)) cs ce table (now (exceptions .entry))) (hostAsked kind «start_star» start «end_star» end (now (bases .entry))) (length (now (transcript .entry))) .answer) ⌝ }
-    ensures { λ _. ⌜ now (transcript .exit) ≡ over (edited limits (hostReference (now (letters .entry)) cs ce table (now (exceptions .entry))) (hostAsked kind «start_star» start «end_star» end (now (bases .entry))) (length (now (transcript .entry))) .transcript) (now (transcript .entry)) ⌝ }
+    ensures { λ r. ⌜ r ≡ transcribedOf (edited limits (hostReference (now (letters .entry)) cs ce table (now (exceptions .entry)) «cds_end») (hostAsked kind «start_star» start «end_star» end (now (bases .entry))) (length (now (transcript .entry))) .answer) ⌝ }
+    ensures { λ _. ⌜ now (transcript .exit) ≡ over (edited limits (hostReference (now (letters .entry)) cs ce table (now (exceptions .entry)) «cds_end») (hostAsked kind «start_star» start «end_star» end (now (bases .entry))) (length (now (transcript .entry))) .transcript) (now (transcript .entry)) ⌝ }
 {
-    let cds = cds_at(cs, ce, table);
+    let cds = cds_at(cs, ce, table, cds_end);
     let e = exceptions_in(exceptions);
     let edit = edit_at(kind, start_star, start, end_star, end);
     transcribed_of(build_transcript(letters, cds, e, edit, bases, transcript))
@@ -47,6 +48,7 @@ pub extern "C" fn garumbott_record(
     ce: u64,
     table: u64,
     exceptions: &[u8],
+    cds_end: u64,
     kind: u64,
     start_star: u64,
     start: i64,
@@ -58,10 +60,10 @@ pub extern "C" fn garumbott_record(
     altered: &mut [u8],
 ) -> GarumbottAnswer
     ensures { λ r. ⌜ Tells
-        (outcome limits (hostReference (now (letters .entry)) cs ce table (now (exceptions .entry))) (hostAsked kind «start_star» start «end_star» end (now (bases .entry))) (roomOf (now (transcript .entry)) (now (reference .entry)) (now (altered .entry))))
+        (outcome limits (hostReference (now (letters .entry)) cs ce table (now (exceptions .entry)) «cds_end») (hostAsked kind «start_star» start «end_star» end (now (bases .entry))) (roomOf (now (transcript .entry)) (now (reference .entry)) (now (altered .entry))))
         r (now (transcript .entry)) (now (transcript .exit)) (now (reference .entry)) (now (reference .exit)) (now (altered .entry)) (now (altered .exit)) ⌝ }
 {
-    let cds = cds_at(cs, ce, table);
+    let cds = cds_at(cs, ce, table, cds_end);
     let e = exceptions_in(exceptions);
     let edit = edit_at(kind, start_star, start, end_star, end);
     answer_of(build_altseq(letters, cds, e, edit, bases, transcript, reference, altered))

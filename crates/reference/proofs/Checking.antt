@@ -80,7 +80,7 @@ module _ (m : Limits) (s : List ℕ) (c : Cds) (e : Exceptions) (k : Known) (non
 
   residues-known : k .residues ≡ length (referenceProtein (referenceOf s c e))
   unfolding knownOf
-  residues-known = ap (λ (k : Known). k .residues) is ∙ sym (protein-read (m .longest) (referenceOf s c e) none .whole)
+  residues-known = ap (λ (k : Known). k .residues) is ∙ sym (protein-read (m .longest) (referenceOf s c e) none .counted)
 
   module _ (old out : List ℕ) (held : out ≡ over (referenceProtein (referenceOf s c e)) old) where
     pub residues-within : k .residues ≤ length out
@@ -108,7 +108,7 @@ module _ (m : Limits) (s : List ℕ) (k : Known) (e : Exceptions) (protein : Lis
               first = x .bounds .first;
               rising = x .bounds .rising;
               inside = x .bounds .inside;
-              whole = x .bounds .whole;
+              ends = x .bounds .ends;
               long = x .bounds .long;
             };
         short = omega (arith, x .fits, known .small);
@@ -123,13 +123,13 @@ module _ (m : Limits) (s : List ℕ) (k : Known) (e : Exceptions) (protein : Lis
       let read = protein-read (m .longest) r (known .accepted) in
       record {
         sound = sound;
-        residues = ap (λ (k : Known). k .residues) (known .is) ∙ sym (read .whole) ∙ read .counted;
+        residues = ap (λ (k : Known). k .residues) (known .is);
         plain = ap (λ (k : Known). k .plain) (known .is);
       }
 
   pub residues-is : k .residues ≡ length (referenceProtein (referenceOf s (k .cds) e))
   unfolding knownOf
-  residues-is = ap (λ (k : Known). k .residues) (known .is) ∙ sym (protein-read (m .longest) (referenceOf s (k .cds) e) (known .accepted) .whole)
+  residues-is = ap (λ (k : Known). k .residues) (known .is) ∙ sym (protein-read (m .longest) (referenceOf s (k .cds) e) (known .accepted) .counted)
 
 pub bounded : (s : List ℕ) (c : Cds) → Sound (bare s c) → Bounded c
 unfolding size

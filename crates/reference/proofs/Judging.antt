@@ -1,4 +1,4 @@
--- Laws of what the tests leave: a refusal, or a reference that can be read; and 6, where none of 1 to 5 applies.
+-- Laws of what the tests leave: a refusal, or a reference that can be read; and 6 or 28, where none of 1 to 5 applies.
 -- Assumes nothing.
 use mathlib.Core.Path.{_≡_, refl, sym, ap, _∙_}
 use mathlib.Core.Bool.{Bool, true, false, _&&_, not}
@@ -10,11 +10,11 @@ use lib.ListN.{length, take, drop, take-append-drop}
 use borrow.Author.Tests.{leb-true, not-false}
 use Rattle.rules.specs.declared.Cds.{Cds}
 use Rattle.rules.specs.declared.Exceptions.{Exceptions}
-use Rattle.rules.specs.Bytes.{if_then_else_, all, _↯_, firstOf}
+use Rattle.rules.specs.Bytes.{all, firstOf}
 use Rattle.rules.specs.Letters.{isLetter}
 use Rattle.rules.specs.Codons.{isTable}
 use Rattle.rules.specs.Translation.{residueCount}
-use Rattle.rules.specs.Reference.{size, isSize, cdsSize, areBounds, codons, fitExceptions, endsInStop, referenceTests}
+use Rattle.rules.specs.Reference.{size, isSize, cdsSize, areBounds, fitExceptions, referenceTests}
 use Rattle.rules.specs.Refusal.{referenceRefusal}
 use Rattle.rules.specs.Views.{bare, referenceOf}
 use Rattle.rules.proofs.Tests.{and-right, first-clear, first-behind, first-before}
@@ -22,7 +22,7 @@ use Rattle.rules.proofs.Reference.{bounds-of}
 use Rattle.codons.specs.Tables.{isBase}
 use Rattle.reference.specs.declared.Judged.{Judged}
 use Rattle.reference.specs.declared.Judged.the-variants.{Refused, Clear}
-use Rattle.reference.specs.Known.{earlyRefusal, judgedBy, judgedOf, Readable}
+use Rattle.reference.specs.Known.{earlyRefusal, endRefusal, judgedBy, judgedOf, Readable}
 
 -- what the enum tells
 module _ (n : ℕ) (plain : Bool) (x : Judged) (is : x ≡ judgedBy n plain) where
@@ -72,8 +72,8 @@ module _ (longest : ℕ) (s : List ℕ) (c : Cds) (e : Exceptions) where
       }
 
   -- R fits where the longest one does
-  pub protein-room : (room : ℕ) → earlyRefusal longest (referenceOf s c e) ≡ 0 → longest < 4294967296 → residueCount longest ≤ room → codons (bare s c) ≤ room
-  unfolding earlyRefusal referenceTests isSize size codons cdsSize residueCount
+  pub protein-room : (room : ℕ) → earlyRefusal longest (referenceOf s c e) ≡ 0 → longest < 4294967296 → residueCount longest ≤ room → residueCount (cdsSize (bare s c)) ≤ room
+  unfolding earlyRefusal referenceTests isSize size cdsSize residueCount
   protein-room room h small fits =
       let one = first-clear (not (isSize longest (length s))) 0 _ h in
       let short : length s ≤ longest = leb-true (length s) longest (and-right (leb 1 (length s)) (leb (length s) longest) (not-false (isSize longest (length s)) (one .0))) in
@@ -86,15 +86,11 @@ module _ (longest : ℕ) (s : List ℕ) (c : Cds) (e : Exceptions) where
       let tests = referenceTests longest (referenceOf s c e) in
       ap firstOf (sym (take-append-drop 5 tests)) ∙ first-before (take 5 tests) (drop 5 tests) n h
 
-  early-passed : earlyRefusal longest (referenceOf s c e) ≡ 0 → referenceRefusal longest (referenceOf s c e) ≡ (if endsInStop (referenceOf s c e) then 0 else 6)
-  unfolding earlyRefusal referenceRefusal referenceTests firstOf all
+  early-passed : earlyRefusal longest (referenceOf s c e) ≡ 0 → referenceRefusal longest (referenceOf s c e) ≡ endRefusal (referenceOf s c e)
+  unfolding earlyRefusal endRefusal referenceRefusal referenceTests all
   early-passed h =
       let tests = referenceTests longest (referenceOf s c e) in
-      ap firstOf (sym (take-append-drop 5 tests)) ∙ first-behind (take 5 tests) (drop 5 tests) refl h ∙ by (endsInStop (referenceOf s c e))
-    where
-      by : (t : Bool) → firstOf (not t ↯ 6 ∷ []) ≡ (if t then 0 else 6)
-      by true = refl
-      by false = refl
+      ap firstOf (sym (take-append-drop 5 tests)) ∙ first-behind (take 5 tests) (drop 5 tests) refl h
 
   -- one of 1 to 5 applies
   pub judged-early : (n : ℕ) → earlyRefusal longest (referenceOf s c e) ≡ n → (n ≡ 0 → ⊥) → Refused n ≡ judgedOf longest s c e
@@ -106,14 +102,14 @@ module _ (longest : ℕ) (s : List ℕ) (c : Cds) (e : Exceptions) where
       by (suc n) is some = rw (early-refused n is) (judged-some (suc n) (all isBase s) some)
 
   -- none does
-  module _ (none : earlyRefusal longest (referenceOf s c e) ≡ 0) (stop : Bool) (is : stop ≡ endsInStop (referenceOf s c e)) where
-    pub judged-clear : (plain : Bool) → plain ≡ all isBase s → stop ≡ true → Clear plain ≡ judgedOf longest s c e
+  module _ (none : earlyRefusal longest (referenceOf s c e) ≡ 0) (n : ℕ) (is : n ≡ endRefusal (referenceOf s c e)) where
+    pub judged-clear : (plain : Bool) → plain ≡ all isBase s → n ≡ 0 → Clear plain ≡ judgedOf longest s c e
     unfolding judgedOf judgedBy
     judged-clear plain p h = rw (early-passed none, sym is ∙ h, p)
 
-    pub judged-stopless : stop ≡ false → Refused 6 ≡ judgedOf longest s c e
-    unfolding judgedOf judgedBy
-    judged-stopless h = rw (early-passed none, sym is ∙ h)
+    pub judged-late : (n ≡ 0 → ⊥) → Refused n ≡ judgedOf longest s c e
+    unfolding judgedOf
+    judged-late some = rw (early-passed none, ← is) (judged-some n (all isBase s) some)
 
   -- a reference that isn't refused passes 1 to 5
   pub accepted-early : referenceRefusal longest (referenceOf s c e) ≡ 0 → earlyRefusal longest (referenceOf s c e) ≡ 0

@@ -2,7 +2,7 @@
 -- Assumes nothing.
 use mathlib.Core.Path.{_≡_, refl, sym, ap, _∙_}
 use mathlib.Core.List.{List, _++_}
-use Prim.Native.Nat.{ℕ, _+_, _-_, _*_, _/_, _≤_, _<_}
+use Prim.Native.Nat.{ℕ, _+_, _-_, _*_, _/_, _%_, _≤_, _<_}
 use native.Mathlib.Omega.{arith}
 use lib.Dec.{eqb}
 use lib.ListN.{length, take, drop, getD, take-append-drop}
@@ -13,11 +13,11 @@ use Rattle.rules.specs.Bytes.{byte}
 use Rattle.rules.specs.Letters.{letterSet, isLetter}
 use Rattle.rules.specs.Codons.{codonRule, codon}
 use Rattle.rules.specs.Translation.{exceptionList, excepted, residuesFrom, translated, residueCount}
-use Rattle.rules.specs.Reference.{size, cdsSize, cds, codons, referenceProtein, endsInStop}
+use Rattle.rules.specs.Reference.{atStop, size, cdsSize, cds, codons, referenceProtein, endsInStop}
 use Rattle.rules.proofs.Lists.{all-at}
 use Rattle.rules.proofs.Translation.{length-translated}
 use Rattle.rules.proofs.Reading.{residues-more, translated-append}
-use Rattle.rules.proofs.Reference.{length-cds}
+use Rattle.rules.proofs.Reference.{length-cds, whole-codons}
 use Rattle.codons.proofs.Sets.{letter-some}
 use Rattle.rules.specs.declared.Cds.{Cds}
 use Rattle.rules.specs.Views.{referenceOf}
@@ -35,7 +35,7 @@ residue-at t es u i h =
     ap (translated t es) (sym (take-append-drop (i * 3) u)) ∙ translated-append t es (take (i * 3) u) (drop (i * 3) u) (omega (arith, long)) ∙ rw number in
     rw (split, residues-more t es u i h) (getD-at (translated t es (take (i * 3) u)) _ _ 0 i count)
 
-module _ (s : List ℕ) (c : Cds) (e : Exceptions) (x : Readable s c e) where
+module _ (s : List ℕ) (c : Cds) (e : Exceptions) (x : Readable s c e) (end : c .end ≡ atStop) where
   -- a letter's set
   pub some-set : (j r : ℕ) → j < length s → r ≡ letterSet (getD s j 0) → r < 16 → (0 < r) × (r < 16)
   some-set j r h e k = (rw e (letter-some (getD s j 0) (all-at isLetter s j (x .sound .letters) h)), k)
@@ -44,11 +44,14 @@ module _ (s : List ℕ) (c : Cds) (e : Exceptions) (x : Readable s c e) where
   unfolding cdsSize size
   within = (omega (arith, x .sound .bounds .first, x .sound .bounds .long), x .sound .bounds .inside)
 
+  whole : cdsSize (referenceOf s c e) % 3 ≡ 0
+  whole = whole-codons (referenceOf s c e) (x .sound .bounds) end
+
   letter-of : (i j : ℕ) → i < 3 → j ≡ (codons (referenceOf s c e) - 1) * 3 + i → getD (cds (referenceOf s c e)) j 0 ≡ getD s (c .ce - 3 + i) 0
   unfolding cds codons cdsSize
   letter-of i j h is =
-      let place : c .cs - 1 + j ≡ c .ce - 3 + i = omega (arith, x .sound .bounds .first, x .sound .bounds .whole, x .sound .bounds .long) in
-      getD-take (c .ce + 1 - c .cs) (drop (c .cs - 1) s) j 0 (omega (arith, x .sound .bounds .whole, x .sound .bounds .long)) ∙ getD-drop (c .cs - 1) s j 0 ∙ ap (λ (n : ℕ). getD s n 0) place
+      let place : c .cs - 1 + j ≡ c .ce - 3 + i = omega (arith, x .sound .bounds .first, whole, x .sound .bounds .long) in
+      getD-take (c .ce + 1 - c .cs) (drop (c .cs - 1) s) j 0 (omega (arith, whole, x .sound .bounds .long)) ∙ getD-drop (c .cs - 1) s j 0 ∙ ap (λ (n : ℕ). getD s n 0) place
 
   -- it has a residue
   counted : (codons (referenceOf s c e) - 1 < length (cds (referenceOf s c e)) / 3) × (codons (referenceOf s c e) - 1 + 1 ≡ codons (referenceOf s c e))

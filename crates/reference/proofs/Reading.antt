@@ -3,7 +3,7 @@
 use mathlib.Core.Path.{_≡_, sym, ap, _∙_}
 use mathlib.Core.Bool.{Bool, true}
 use mathlib.Core.List.{List}
-use Prim.Native.Nat.{ℕ, _+_, _-_, _/_, _%_, _≤_}
+use Prim.Native.Nat.{ℕ, _-_, _/_, _≤_}
 use native.Mathlib.Omega.{arith}
 use lib.Dec.{leb, ltb}
 use lib.ListN.{length, take, drop}
@@ -20,15 +20,11 @@ use Rattle.rules.proofs.Over.{length-over, read-back}
 use Rattle.rules.proofs.Translation.{length-exceptions}
 use Rattle.rules.proofs.Reference.{length-cds, length-protein}
 use Rattle.codons.specs.Tables.{isBase}
-use Rattle.translation.specs.Residues.{foldToBases, Walks}
-use Rattle.translation.proofs.Strict.{strict-letters, strict-translated, whole-bases}
+use Rattle.translation.specs.Residues.{foldToBases, Reads, Walks}
+use Rattle.translation.proofs.Strict.{strict-letters, strict-translated, whole-bases, bases-fold}
 use Rattle.reference.specs.declared.Known.{Known}
 use Rattle.reference.specs.Known.{knownOf, Readable}
-use Rattle.reference.proofs.Bases.{bases-fold}
 use Rattle.reference.proofs.Testing.{size-of}
-
-whole-count : (n : ℕ) → n % 3 ≡ 0 → (n + 2) / 3 ≡ n / 3
-whole-count n h = omega arith
 
 -- R of a reference that passes 1 to 5
 module _ (s : List ℕ) (c : Cds) (e : Exceptions) (x : Readable s c e) where
@@ -43,15 +39,18 @@ module _ (s : List ℕ) (c : Cds) (e : Exceptions) (x : Readable s c e) where
   unfolding cds cdsSize
   cds-part = ap (λ (n : ℕ). take n (drop (c .cs - 1) s)) (size-of (c .cs) (c .ce) (x .sound .bounds .first))
 
-  pub residues-are : (c .ce - (c .cs - 1)) / 3 ≡ codons (referenceOf s c e)
+  pub codons-are : (c .ce - (c .cs - 1)) / 3 ≡ codons (referenceOf s c e)
   unfolding codons cdsSize
-  residues-are = ap (λ (n : ℕ). n / 3) (size-of (c .cs) (c .ce) (x .sound .bounds .first))
+  codons-are = ap (λ (n : ℕ). n / 3) (size-of (c .cs) (c .ce) (x .sound .bounds .first))
 
-  pub residues-read : codons (referenceOf s c e) ≡ length (referenceProtein (referenceOf s c e))
-  unfolding codons residueCount
-  residues-read = sym (length-protein (referenceOf s c e) (x .sound .bounds) ∙ whole-count (cdsSize (referenceOf s c e)) (x .sound .bounds .whole))
+  residues-are : residueCount (c .ce - (c .cs - 1)) ≡ residueCount (cdsSize (referenceOf s c e))
+  unfolding cdsSize
+  residues-are = ap residueCount (size-of (c .cs) (c .ce) (x .sound .bounds .first))
 
-  part-letters : all isLetter (take (c .ce - (c .cs - 1)) (drop (c .cs - 1) s)) ≡ true
+  residues-read : residueCount (cdsSize (referenceOf s c e)) ≡ length (referenceProtein (referenceOf s c e))
+  residues-read = sym (length-protein (referenceOf s c e) (x .sound .bounds))
+
+  pub part-letters : all isLetter (take (c .ce - (c .cs - 1)) (drop (c .cs - 1) s)) ≡ true
   part-letters = all-take isLetter (c .ce - (c .cs - 1)) (drop (c .cs - 1) s) (all-drop isLetter (c .cs - 1) s (x .sound .letters))
 
   part-readable : foldToLetters (take (c .ce - (c .cs - 1)) (drop (c .cs - 1) s)) ≡ true
@@ -62,20 +61,18 @@ module _ (s : List ℕ) (c : Cds) (e : Exceptions) (x : Readable s c e) where
       let part = take (c .ce - (c .cs - 1)) (drop (c .cs - 1) s) in
       whole-bases part (bases-fold part (all-take isBase (c .ce - (c .cs - 1)) (drop (c .cs - 1) s) (all-drop isBase (c .cs - 1) s (sym is ∙ h))))
 
-  part-room : (room : ℕ) → codons (bare s c) ≤ room → residueCount (length (take (c .ce - (c .cs - 1)) (drop (c .cs - 1) s))) ≤ room
-  unfolding codons cdsSize residueCount
-  part-room room h =
-      let whole = whole-count (cdsSize (referenceOf s c e)) (x .sound .bounds .whole) in
-      rw (cds-part, length-cds (referenceOf s c e) (x .sound .bounds)) (omega arith)
+  part-room : (room : ℕ) → residueCount (cdsSize (bare s c)) ≤ room → residueCount (length (take (c .ce - (c .cs - 1)) (drop (c .cs - 1) s))) ≤ room
+  unfolding cdsSize
+  part-room room h = rw (cds-part, length-cds (referenceOf s c e) (x .sound .bounds)) h
 
-  -- all that the translation of the part demands
-  pub part-walks : (plain : Bool) (room : List ℕ) → plain ≡ all isBase s → codons (bare s c) ≤ length room
+  -- all that a reading of the part demands, and a translation
+  pub part-reads : (plain : Bool) → plain ≡ all isBase s → Reads (c .table) plain (take (c .ce - (c .cs - 1)) (drop (c .cs - 1) s)) e
+  part-reads plain is =
+      record { code = x .sound .table; letters = part-readable; bases = part-plain plain is; few = few-exceptions }
+
+  pub part-walks : (plain : Bool) (room : List ℕ) → plain ≡ all isBase s → residueCount (cdsSize (bare s c)) ≤ length room
       → Walks (c .table) plain (take (c .ce - (c .cs - 1)) (drop (c .cs - 1) s)) e room
-  part-walks plain room is h =
-      record {
-        reads = record { code = x .sound .table; letters = part-readable; bases = part-plain plain is; few = few-exceptions };
-        room = part-room (length room) h;
-      }
+  part-walks plain room is h = record { reads = part-reads plain is; room = part-room (length room) h }
 
   -- R is written
   module _ (old out : List ℕ) (written : out ≡ over (foldedTranslated (c .table) (exceptionList e) (take (c .ce - (c .cs - 1)) (drop (c .cs - 1) s))) old) where
@@ -83,15 +80,15 @@ module _ (s : List ℕ) (c : Cds) (e : Exceptions) (x : Readable s c e) where
     unfolding referenceProtein
     holds-protein = written ∙ rw (strict-translated (take (c .ce - (c .cs - 1)) (drop (c .cs - 1) s)) part-letters (c .table) (exceptionList e), cds-part)
 
-    pub residues-fit : codons (bare s c) ≤ length old → (c .ce - (c .cs - 1)) / 3 ≤ length out
-    unfolding codons cdsSize
-    residues-fit h =
+    pub residues-fit : (n : ℕ) → n ≡ residueCount (c .ce - (c .cs - 1)) → residueCount (cdsSize (bare s c)) ≤ length old → n ≤ length out
+    unfolding cdsSize
+    residues-fit n is h =
         let long = ap length holds-protein ∙ length-over (referenceProtein (referenceOf s c e)) old (omega (arith, residues-read)) in
         omega (arith, residues-are)
 
-    pub read-known : (plain several : Bool) → plain ≡ all isBase s → several ≡ ltb 1 (count (byte "*") (take ((c .ce - (c .cs - 1)) / 3) out))
-        → _≡_ {A = Known} record { cds = c; residues = (c .ce - (c .cs - 1)) / 3; plain = plain; several = several } (knownOf s c e)
+    pub read-known : (n : ℕ) → n ≡ residueCount (c .ce - (c .cs - 1)) → (plain several : Bool) → plain ≡ all isBase s → several ≡ ltb 1 (count (byte "*") (take n out))
+        → _≡_ {A = Known} record { cds = c; residues = n; plain = plain; several = several } (knownOf s c e)
     unfolding knownOf
-    read-known plain several p q =
-        let back = read-back (referenceProtein (referenceOf s c e)) old out ((c .ce - (c .cs - 1)) / 3) (residues-are ∙ residues-read) holds-protein in
-        rw (p, q, back, residues-are)
+    read-known n is plain several p q =
+        let back = read-back (referenceProtein (referenceOf s c e)) old out n (is ∙ residues-are ∙ residues-read) holds-protein in
+        rw (p, q, back, is, residues-are)

@@ -17,7 +17,7 @@ use Rattle.rules.specs.Bytes.{if_then_else_, all, firstOf}
 use Rattle.rules.specs.Letters.{isLetter}
 use Rattle.rules.specs.Codons.{isTable}
 use Rattle.rules.specs.Translation.{noException, exceptionList}
-use Rattle.rules.specs.Reference.{size, isSize, cdsSize, areBounds, codons, areRising, fitExceptions, referenceTests}
+use Rattle.rules.specs.Reference.{size, isSize, cdsSize, fitsEnd, areBounds, codons, areRising, fitExceptions, referenceTests}
 use Rattle.rules.specs.Views.{bare, referenceOf}
 use Rattle.rules.proofs.Tests.{or-left, or-right}
 use Rattle.rules.proofs.Translation.{length-exceptions, first-exceptions}
@@ -57,7 +57,7 @@ module _ (s : List ℕ) (c : Cds) where
   unfolding areBounds size
   no-bounds h =
       rw (above-is 1 (c .cs), above-is (c .cs) (c .ce), above-is (c .ce) (length s))
-      (by (ltb (c .cs) 1) (ltb (c .ce) (c .cs)) (ltb (length s) (c .ce)) (eqb (cdsSize (bare s c) % 3) 0) (leb 6 (cdsSize (bare s c))) h)
+      (by (ltb (c .cs) 1) (ltb (c .ce) (c .cs)) (ltb (length s) (c .ce)) (fitsEnd (c .end) (cdsSize (bare s c))) (leb 6 (cdsSize (bare s c))) h)
     where
       by : (x y z p q : Bool) → (x || y || z) ≡ true → false ≡ (not x && not y && not z && p && q)
       by true y z p q h = refl
@@ -66,12 +66,12 @@ module _ (s : List ℕ) (c : Cds) where
       by false false false p q h = cc
 
   pub bounds-are : (ltb (c .cs) 1 || ltb (c .ce) (c .cs) || ltb (length s) (c .ce)) ≡ false
-      → (eqb ((c .ce - (c .cs - 1)) % 3) 0 && leb 6 (c .ce - (c .cs - 1))) ≡ areBounds (bare s c)
+      → (fitsEnd (c .end) (c .ce - (c .cs - 1)) && leb 6 (c .ce - (c .cs - 1))) ≡ areBounds (bare s c)
   unfolding areBounds size cdsSize
   bounds-are h =
       let some : 1 ≤ c .cs = ltb-false (c .cs) 1 (or-left (ltb (c .cs) 1) (ltb (c .ce) (c .cs)) (or-left (ltb (c .cs) 1 || ltb (c .ce) (c .cs)) (ltb (length s) (c .ce)) h)) in
       rw (above-is 1 (c .cs), above-is (c .cs) (c .ce), above-is (c .ce) (length s), size-of (c .cs) (c .ce) some)
-      (by (ltb (c .cs) 1) (ltb (c .ce) (c .cs)) (ltb (length s) (c .ce)) (eqb ((c .ce + 1 - c .cs) % 3) 0) (leb 6 (c .ce + 1 - c .cs)) h)
+      (by (ltb (c .cs) 1) (ltb (c .ce) (c .cs)) (ltb (length s) (c .ce)) (fitsEnd (c .end) (c .ce + 1 - c .cs)) (leb 6 (c .ce + 1 - c .cs)) h)
     where
       by : (x y z p q : Bool) → (x || y || z) ≡ false → (p && q) ≡ (not x && not y && not z && p && q)
       by true y z p q h = cc

@@ -4,14 +4,14 @@ use mathlib.Core.Path.{_≡_}
 use mathlib.Core.List.{List, []}
 use mathlib.Core.Bool.{Bool, true, _&&_}
 use lib.Dec.{leb, ltb}
-use lib.ListN.{take}
+use lib.ListN.{take, drop}
 use Rattle.rules.specs.declared.Cds.{Cds}
 use Rattle.rules.specs.declared.Exception.{Exception}
 use Rattle.rules.specs.declared.Exceptions.{Exceptions}
 use Rattle.rules.specs.declared.Limits.{Limits}
 use Rattle.rules.specs.Bytes.{byte, all, count, firstOf}
 use Rattle.rules.specs.Translation.{isResidue, residueCount}
-use Rattle.rules.specs.Reference.{Reference, cdsSize, codons, fitExceptions, referenceProtein, referenceTests}
+use Rattle.rules.specs.Reference.{Reference, cdsSize, fitExceptions, referenceProtein, referenceTests}
 use Rattle.rules.specs.Refusal.{referenceRefusal}
 use Rattle.rules.specs.Views.{bare, referenceOf}
 use Rattle.codons.specs.Tables.{isBase}
@@ -30,6 +30,10 @@ isException last most x = ltb last (x .codon) && leb (x .codon) most && isResidu
 unfoldable pub earlyRefusal : ℕ → Reference → ℕ
 earlyRefusal longest r = firstOf (take 5 (referenceTests longest r))
 
+-- 6, or 28 in its place, and 0 where neither applies
+unfoldable pub endRefusal : Reference → ℕ
+endRefusal r = firstOf (drop 5 (referenceTests 0 r))
+
 -- a refusal, or whether each letter is one base
 unfoldable pub judgedBy : ℕ → Bool → Judged
 judgedBy zero plain = judged.Clear plain
@@ -39,7 +43,7 @@ judgedBy (suc n) plain = judged.Refused (suc n)
 unfoldable pub earlyOf : ℕ → List ℕ → Cds → Exceptions → Judged
 earlyOf longest s c e = judgedBy (earlyRefusal longest (referenceOf s c e)) (all isBase s)
 
--- by 1 to 6
+-- by 1 to 5, 6 or 28
 unfoldable pub judgedOf : ℕ → List ℕ → Cds → Exceptions → Judged
 judgedOf longest s c e = judgedBy (referenceRefusal longest (referenceOf s c e)) (all isBase s)
 
@@ -54,7 +58,7 @@ unfoldable pub knownOf : List ℕ → Cds → Exceptions → Known
 knownOf s c e =
     record {
       cds = c;
-      residues = codons (referenceOf s c e);
+      residues = residueCount (cdsSize (referenceOf s c e));
       plain = all isBase s;
       several = ltb 1 (count (byte "*") (referenceProtein (referenceOf s c e)));
     }
@@ -63,7 +67,7 @@ unfoldable pub checkedBy : ℕ → Known → Checked
 checkedBy zero k = checked.Known k
 checkedBy (suc n) k = checked.Refused (suc n)
 
--- 1 to 6, else what is known from then on
+-- 1 to 5, 6 or 28, else what is known from then on
 unfoldable pub checkedOf : ℕ → List ℕ → Cds → Exceptions → Checked
 checkedOf longest s c e = checkedBy (referenceRefusal longest (referenceOf s c e)) (knownOf s c e)
 

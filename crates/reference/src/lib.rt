@@ -1,4 +1,4 @@
-// "Reference": refusals 1 to 6, and the reference protein R, read once.
+// "Reference": refusals 1 to 6 and 28, and the reference protein R, read once.
 mod protein;
 mod stop;
 mod tests;
@@ -14,6 +14,7 @@ ghost use Rattle.rules.specs.Translation.{residueCount};
 ghost use Rattle.rules.specs.Refusal.{referenceRefusal};
 ghost use Rattle.rules.specs.Views.{referenceOf};
 ghost use Rattle.reference.specs.Known.{proteinUnless, checkedOf};
+pub use stop::is_short_end;
 pub use stop::judge_reference;
 
 // What is known of a reference that isn't refused; its letters, its exceptions and R are lent beside it. `residues` is R's length. The letters
@@ -36,7 +37,7 @@ pub enum Checked {
     Known(Known),
 }
 
-// 1 to 6, or what is known of the reference from then on. R is in the buffer unless the reference is refused.
+// 1 to 5, 6 or 28, or what is known of the reference from then on. R is in the buffer unless the reference is refused.
 pub fn check_reference(
     letters: &[u8],
     cds: Cds,

@@ -1,6 +1,7 @@
 // The reference protein R, and how many stops it has.
 use crate::Known;
 use numbers::least;
+use numbers::thirds;
 use numbers::wide;
 use rules::Cds;
 use rules::Exceptions;
@@ -11,7 +12,8 @@ ghost use Prim.Native.Nat.{_≤_};
 ghost use lib.Dec.{ltb};
 ghost use lib.ListN.{length};
 ghost use Rattle.rules.specs.Bytes.{byte, all, count, over};
-ghost use Rattle.rules.specs.Reference.{codons, referenceProtein};
+ghost use Rattle.rules.specs.Translation.{residueCount};
+ghost use Rattle.rules.specs.Reference.{cdsSize, referenceProtein};
 ghost use Rattle.rules.specs.Views.{bare, referenceOf};
 ghost use Rattle.codons.specs.Tables.{isBase};
 ghost use Rattle.reference.specs.Known.{knownOf, Readable};
@@ -62,13 +64,13 @@ pub(crate) fn read_reference(
 ) -> Known
     requires { ⌜ Readable (now letters) c e ⌝ }
     requires { ⌜ plain ≡ all isBase (now letters) ⌝ }
-    requires { ⌜ codons (bare (now letters) c) ≤ length (now protein) ⌝ }
+    requires { ⌜ residueCount (cdsSize (bare (now letters) c)) ≤ length (now protein) ⌝ }
     ensures { λ r. ⌜ r ≡ knownOf (now (letters .entry)) c e ⌝ }
     ensures { λ _. ⌜ now (protein .exit) ≡ over (referenceProtein (referenceOf (now (letters .entry)) c e)) (now (protein .entry)) ⌝ }
 {
     let first = c.cs - 1;
     let end = c.ce;
-    let residues = (end - first) / 3;
+    let residues = thirds(end - first);
     write_translated(&letters[first..end], c.table, plain, e, protein);
     let several = several_stops(&protein[..residues]);
     Known {

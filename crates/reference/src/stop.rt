@@ -1,4 +1,4 @@
-// Refusal 6, by the last CDS codon alone, and so 1 to 6 without a buffer for R.
+// Refusal 6, by the last CDS codon alone, or 28, by a search for a stop, and so all of a reference's refusals without a buffer for R.
 use crate::Judged;
 use crate::tests::early_refusal;
 use codons::letters::letter_set;
@@ -6,15 +6,19 @@ use codons::reader::read_codon;
 use rules::Cds;
 use rules::Exceptions;
 use translation::excepted_at;
+use translation::first_stop;
 ghost use mathlib.Core.Path.{_≡_};
 ghost use Prim.Native.Nat.{_<_};
-ghost use Rattle.rules.specs.Reference.{endsInStop};
+ghost use Rattle.rules.specs.Bytes.{all};
+ghost use Rattle.rules.specs.Reference.{atStop, isShortEnd, endsInStop, isCutShort};
 ghost use Rattle.rules.specs.Views.{referenceOf};
-ghost use Rattle.reference.specs.Known.{judgedOf, Readable};
+ghost use Rattle.codons.specs.Tables.{isBase};
+ghost use Rattle.reference.specs.Known.{endRefusal, judgedOf, Readable};
 
-// Whether the last CDS codon, exceptions applied, reads `*`, where none of 1 to 5 applies.
+// Whether the last CDS codon, exceptions applied, reads `*`, where none of 1 to 5 applies and the CDS ends at a stop.
 fn ends_in_stop(letters: &[u8], c: Cds, e: Exceptions) -> bool
     requires { ⌜ Readable (now letters) c e ⌝ }
+    requires { ⌜ c .end ≡ atStop ⌝ }
     ensures { λ r. ⌜ r ≡ endsInStop (referenceOf (now (letters .entry)) c e) ⌝ }
 {
     let at = c.ce - 3;
@@ -25,7 +29,44 @@ fn ends_in_stop(letters: &[u8], c: Cds, e: Exceptions) -> bool
     excepted_at(e, (c.ce - (c.cs - 1)) / 3, residue) == b'*'
 }
 
-// The lowest of 1 to 6 that applies, or whether the letters are plain.
+// Whether an end is known, and not at a stop.
+pub fn is_short_end(end: usize) -> bool
+    ensures { λ r. ⌜ r ≡ isShortEnd end ⌝ }
+{
+    (end == 1) | (end == 2)
+}
+
+// Whether the end is known, and not at a stop, ce is L and R has no `*`, where none of 1 to 5 applies.
+fn is_cut_short(letters: &[u8], c: Cds, e: Exceptions, plain: bool) -> bool
+    requires { ⌜ Readable (now letters) c e ⌝ }
+    requires { ⌜ plain ≡ all isBase (now letters) ⌝ }
+    ensures { λ r. ⌜ r ≡ isCutShort (referenceOf (now (letters .entry)) c e) ⌝ }
+{
+    if !is_short_end(c.end) | (c.ce != letters.len()) {
+        return false;
+    }
+    let first = c.cs - 1;
+    let end = c.ce;
+    first_stop(&letters[first..end], c.table, plain, e) == (end - first) / 3
+}
+
+// 6 for an end at a stop, 28 for another, or 0, where none of 1 to 5 applies.
+fn end_refusal(letters: &[u8], c: Cds, e: Exceptions, plain: bool) -> usize
+    requires { ⌜ Readable (now letters) c e ⌝ }
+    requires { ⌜ plain ≡ all isBase (now letters) ⌝ }
+    ensures { λ r. ⌜ r ≡ endRefusal (referenceOf (now (letters .entry)) c e) ⌝ }
+{
+    if c.end == 0 {
+        return if ends_in_stop(letters, c, e) { 0 } else { 6 };
+    }
+    if is_cut_short(letters, c, e, plain) {
+        0
+    } else {
+        28
+    }
+}
+
+// The first of 1 to 5, 6 or 28 that applies, or whether the letters are plain.
 pub fn judge_reference(letters: &[u8], c: Cds, e: Exceptions, longest: usize) -> Judged
     requires { ⌜ longest < 4294967296 ⌝ }
     ensures { λ r. ⌜ r ≡ judgedOf longest (now (letters .entry)) c e ⌝ }
@@ -33,10 +74,11 @@ pub fn judge_reference(letters: &[u8], c: Cds, e: Exceptions, longest: usize) ->
     match early_refusal(letters, c, e, longest) {
         Judged::Refused(n) => Judged::Refused(n),
         Judged::Clear { plain } => {
-            if ends_in_stop(letters, c, e) {
-                return Judged::Clear { plain };
+            let refused = end_refusal(letters, c, e, plain);
+            if refused != 0 {
+                return Judged::Refused(refused);
             }
-            Judged::Refused(6)
+            Judged::Clear { plain }
         }
     }
 }

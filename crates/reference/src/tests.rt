@@ -13,12 +13,19 @@ ghost use lib.ListN.{length};
 ghost use Rattle.rules.specs.Bytes.{all};
 ghost use Rattle.rules.specs.Letters.{isLetter};
 ghost use Rattle.rules.specs.Translation.{exceptionList};
-ghost use Rattle.rules.specs.Reference.{areBounds, areRising};
+ghost use Rattle.rules.specs.Reference.{fitsEnd, areBounds, areRising};
 ghost use Rattle.rules.specs.Views.{bare};
 ghost use Rattle.codons.specs.Tables.{isBase};
 ghost use Rattle.reference.specs.Known.{isException, earlyOf};
 
-// 1 <= cs <= ce <= L; ce-cs+1 is divisible by 3 and at least 6.
+// Divisible by 3; for a cut codon not.
+fn fits_end(end: usize, n: usize) -> bool
+    ensures { λ r. ⌜ r ≡ fitsEnd end n ⌝ }
+{
+    if end == 2 { n % 3 != 0 } else { n % 3 == 0 }
+}
+
+// 1 <= cs <= ce <= L; ce-cs+1 fits the end and is at least 6.
 fn are_bounds(letters: &[u8], c: Cds) -> bool
     ensures { λ r. ⌜ r ≡ areBounds (bare (now (letters .entry)) c) ⌝ }
 {
@@ -26,7 +33,7 @@ fn are_bounds(letters: &[u8], c: Cds) -> bool
         return false;
     }
     let size = c.ce - (c.cs - 1);
-    (size % 3 == 0) & (6 <= size)
+    fits_end(c.end, size) & (6 <= size)
 }
 
 // A codon number above `last` and at most `most`, and a residue A to Z or `*`.

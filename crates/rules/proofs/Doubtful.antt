@@ -9,7 +9,7 @@ use Prim.Native.String.{String}
 use Rattle.rules.specs.declared.Exception.{Exception}
 use Rattle.rules.specs.Bytes.{bytes, Result, given, refused}
 use Rattle.rules.specs.Translation.{translation}
-use Rattle.rules.specs.Reference.{Reference, referenceProtein}
+use Rattle.rules.specs.Reference.{Reference, atStop, referenceProtein}
 use Rattle.rules.specs.Refusal.{limits}
 use Rattle.rules.specs.Stored.{storedReference}
 use Rattle.rules.specs.Run.{refusedLine, editLineAnswer}
@@ -25,7 +25,7 @@ abbrev pub _⇒_ : List ℕ → String → Decided
 s ⇒ t = record { computed = s; answer = t }
 
 abbrev pub of : ℕ → ℕ → ℕ → String → List Exception → Reference
-of cs ce table letters es = record { letters = bytes letters; cs = cs; ce = ce; table = table; exceptions = es }
+of cs ce table letters es = record { letters = bytes letters; cs = cs; ce = ce; table = table; exceptions = es; end = atStop }
 
 -- the reference of the worked run, and a shortest one
 abbrev pub worked : Reference

@@ -20,3 +20,4 @@ pub mod Answers
 pub mod KindNumbers
 pub mod Thirteen
 pub mod Doubtful
+pub mod Requested

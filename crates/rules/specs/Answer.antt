@@ -63,7 +63,7 @@ writesAll r e =
       altered = alteredProtein r e;
     }
 
--- a refusal of 1 to 10, else Unknown, else a refusal of 11 or 12, else all
+-- a refusal of 1 to 5, 6 or 28, 7 to 10, else Unknown, else a refusal of 11 or 12, else all
 unfoldable pub outcomeBy : ℕ → Bool → ℕ → Outcome → Outcome
 outcomeBy (suc n) unknown room all = writesNothing (Refused (suc n))
 outcomeBy zero true room all = writesNothing (Reported unknownReport)

@@ -11,7 +11,7 @@ use Rattle.rules.specs.declared.Position.the-variants.{Plus, Minus, Star
 use Rattle.rules.specs.declared.Kind.{Kind}
 use Rattle.rules.specs.declared.Kind.the-variants.{Substitution, Deletion, Delins, Insertion, Duplication, Inversion, Identity}
 use Rattle.rules.specs.Bytes.{bytes, byte, if_then_else_, same, all, isCapital}
-use Rattle.rules.specs.Reference.{Reference}
+use Rattle.rules.specs.Reference.{Reference, atStop}
 use Rattle.rules.specs.Edit.{Asked}
 use Rattle.rules.specs.Number.{Numbered, number}
 
@@ -113,7 +113,7 @@ unfoldable pub referenceLine : List ℕ → Option Reference
 referenceLine s =
     andThen (behindRef s) (λ a. andThen (spaced a) (λ cs. andThen (spaced (cs .rest)) (λ ce. andThen (spaced (ce .rest)) (λ t.
     if areCapitals (t .rest)
-    then some (record { letters = t .rest; cs = cs .number; ce = ce .number; table = t .number; exceptions = [] })
+    then some (record { letters = t .rest; cs = cs .number; ce = ce .number; table = t .number; exceptions = []; end = atStop })
     else none))))
 
 -- what the program takes: transcripts of 1 to 16,384 bases, 1 to 4,096 new ones

@@ -16,11 +16,11 @@ use Rattle.rules.specs.Record.{recordOf}
 abbrev pub limits : Limits
 limits = record { longest = 16384; most = 4096 }
 
--- 1 to 6, and 0 where none applies
+-- 1 to 5, 6 or 28, and 0 where none applies
 unfoldable pub referenceRefusal : ℕ → Reference → ℕ
 referenceRefusal longest r = firstOf (referenceTests longest r)
 
--- 1 to 10, and 0 where none applies
+-- 1 to 5, 6 or 28, 7 to 10, and 0 where none applies
 unfoldable pub refusal : Limits → Reference → Asked → ℕ
 refusal m r e = firstOf (referenceTests (m .longest) r ++ editTests (m .most) r e)
 
@@ -30,7 +30,7 @@ pub record Room : Type 0 where
   pub reference : ℕ
   pub altered : ℕ
 
--- 11: transcript buffer shorter than the altered length; 12: a protein buffer shorter than CDS/3 or ceil((altered length-cs+1)/3)
+-- 11: transcript buffer shorter than the altered length; 12: a protein buffer shorter than CDS/3 rounded up or ceil((altered length-cs+1)/3)
 unfoldable pub roomTests : ℕ → ℕ → ℕ → Room → List Test
 roomTests coding cs altered room =
     ltb (room .transcript) altered ↯ 11
@@ -40,6 +40,6 @@ roomTests coding cs altered room =
 unfoldable pub roomRefusal : Reference → Asked → Room → ℕ
 roomRefusal r e room = firstOf (roomTests (cdsSize r) (r .cs) (alteredLength r e) room)
 
--- 1 to 10, else the record: what is answered where every buffer has room
+-- 1 to 5, 6 or 28, 7 to 10, else the record: what is answered where every buffer has room
 unfoldable pub recordUnless : Limits → Reference → Asked → Result Record
 recordUnless m r e = unless (refusal m r e) (recordOf r e)

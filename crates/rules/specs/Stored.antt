@@ -7,7 +7,7 @@ use lib.Dec.{eqb, leb, ltb}
 use lib.ListN.{length, take, drop, getD}
 use Rattle.rules.specs.declared.Exception.{Exception}
 use Rattle.rules.specs.Bytes.{if_then_else_, Result, given, refused, unless}
-use Rattle.rules.specs.Reference.{Reference}
+use Rattle.rules.specs.Reference.{Reference, atStop, isShortEnd}
 use Rattle.rules.specs.Refusal.{referenceRefusal}
 
 -- a number of two bytes, high byte first
@@ -70,15 +70,17 @@ unfoldable pub contentOf : ℕ → List Tagged → Option (List ℕ)
 contentOf t [] = none
 contentOf t (f ∷ fs) = if eqb (f .tag) t then some (f .content) else contentOf t fs
 
--- tags 1 to 4: 1 letters; 2 bounds, two bytes each; 3 table, one byte; 4 exceptions, three bytes each
+-- tags 1 to 4 and 8: 1 letters; 2 bounds, two bytes each; 3 table, one byte; 4 exceptions, three bytes each; 8 how the CDS ends,
+-- one byte, absent for a stop
 unfoldable pub referenceForm : Form
 referenceForm =
     record {
-      knows = λ tag. leb 1 tag && leb tag 4;
+      knows = λ tag. (leb 1 tag && leb tag 4) || eqb tag 8;
       fits = λ tag content.
           if eqb tag 2 then eqb (length content) 4
           else if eqb tag 3 then eqb (length content) 1
           else if eqb tag 4 then eqb (length content % 3) 0
+          else if eqb tag 8 then eqb (length content) 1 && isShortEnd (getD content 0 0)
           else true;
     }
 
@@ -89,31 +91,32 @@ exceptionsIn (a ∷ []) = []
 exceptionsIn (a ∷ b ∷ []) = []
 exceptionsIn (a ∷ b ∷ r ∷ s) = record { codon = twoBytes a b; residue = r } ∷ exceptionsIn s
 
--- tag 4 may be absent
+-- tags 4 and 8 may be absent
 abbrev pub orEmpty : Option (List ℕ) → List ℕ
 orEmpty none = []
 orEmpty (some s) = s
 
--- 22: tag 1, 2 or 3 missing
-unfoldable pub assembled : Option (List ℕ) → Option (List ℕ) → Option (List ℕ) → List ℕ → Result Reference
-assembled none bounds table exceptions = refused 22
-assembled (some letters) none table exceptions = refused 22
-assembled (some letters) (some bounds) none exceptions = refused 22
-assembled (some letters) (some bounds) (some table) exceptions =
+-- 22: tag 1, 2 or 3 missing; without tag 8 the CDS ends at a stop
+unfoldable pub assembled : Option (List ℕ) → Option (List ℕ) → Option (List ℕ) → List ℕ → List ℕ → Result Reference
+assembled none bounds table exceptions end = refused 22
+assembled (some letters) none table exceptions end = refused 22
+assembled (some letters) (some bounds) none exceptions end = refused 22
+assembled (some letters) (some bounds) (some table) exceptions end =
     given (record {
       letters = letters;
       cs = twoBytes (getD bounds 0 0) (getD bounds 1 0);
       ce = twoBytes (getD bounds 2 0) (getD bounds 3 0);
       table = getD table 0 0;
       exceptions = exceptionsIn exceptions;
+      end = getD end 0 atStop;
     })
 
--- the reference that fields hold, or their refusal; 1 to 6 aren't judged
+-- the reference that fields hold, or their refusal; 1 to 5, 6 or 28 aren't judged
 unfoldable pub assembledIn : Result (List Tagged) → Result Reference
 assembledIn (refused n) = refused n
-assembledIn (given fs) = assembled (contentOf 1 fs) (contentOf 2 fs) (contentOf 3 fs) (orEmpty (contentOf 4 fs))
+assembledIn (given fs) = assembled (contentOf 1 fs) (contentOf 2 fs) (contentOf 3 fs) (orEmpty (contentOf 4 fs)) (orEmpty (contentOf 8 fs))
 
--- then 1 to 6
+-- then 1 to 5, 6 or 28
 unfoldable pub checked : ℕ → Result Reference → Result Reference
 checked longest (refused n) = refused n
 checked longest (given r) = unless (referenceRefusal longest r) r

@@ -10,15 +10,15 @@ use Rattle.rules.specs.Reference.{Reference}
 use Rattle.rules.specs.Edit.{Asked}
 use Rattle.rules.specs.Refusal.{Room}
 
-abbrev pub cdsOf : ℕ → ℕ → ℕ → Cds
-cdsOf cs ce table = record { cs = cs; ce = ce; table = table }
+abbrev pub cdsOf : ℕ → ℕ → ℕ → ℕ → Cds
+cdsOf cs ce table end = record { cs = cs; ce = ce; table = table; end = end }
 
 -- a reference, its exceptions left out, for rules that don't look at them
 abbrev pub bare : List ℕ → Cds → Reference
-bare s c = record { letters = s; cs = c .cs; ce = c .ce; table = c .table; exceptions = [] }
+bare s c = record { letters = s; cs = c .cs; ce = c .ce; table = c .table; exceptions = []; end = c .end }
 
 abbrev pub referenceOf : List ℕ → Cds → Exceptions → Reference
-referenceOf s c e = record { letters = s; cs = c .cs; ce = c .ce; table = c .table; exceptions = exceptionList e }
+referenceOf s c e = record { letters = s; cs = c .cs; ce = c .ce; table = c .table; exceptions = exceptionList e; end = c .end }
 
 abbrev pub asked : Edit → List ℕ → Asked
 asked e new = record { edit = e; new = new }

@@ -1,4 +1,4 @@
-// The plain types that references, edits and answers are made of. The definitions of document 01 over them stand in specs/.
+// The plain types that references, edits and answers are made of. The definitions of documents 01 and 02 over them stand in specs/.
 
 // What an edit does. `Other` is any kind but the seven.
 pub enum Kind {
@@ -38,11 +38,13 @@ pub struct Exceptions {
     pub count: usize,
 }
 
-// The bounds and the table of a reference; its letters and its exceptions are lent beside them.
+// The bounds and the table of a reference, and how its CDS ends: 0 at a stop, 1 without one, 2 in one or two bases of a codon, any other
+// unknown. Its letters and its exceptions are lent beside them.
 pub struct Cds {
     pub cs: usize,
     pub ce: usize,
     pub table: usize,
+    pub end: usize,
 }
 
 // The longest transcript that the library takes, the residues of its protein, and the most new bases of an edit.

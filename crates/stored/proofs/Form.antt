@@ -22,9 +22,9 @@ tag-test last tag known is = rw is (by (ltb last tag) refl)
     by true h = rw (lt-leb tag last (ltb-true last tag h))
     by false h = rw (le-leb tag last (ltb-false last tag h))
 
-pub any-content : (tag : ℕ) (s : List ℕ) → (tag ≡ 2 → ⊥) → (tag ≡ 3 → ⊥) → (tag ≡ 4 → ⊥) → false ≡ isWrongContent referenceForm tag s
+pub any-content : (tag : ℕ) (s : List ℕ) → (tag ≡ 2 → ⊥) → (tag ≡ 3 → ⊥) → (tag ≡ 4 → ⊥) → (tag ≡ 8 → ⊥) → false ≡ isWrongContent referenceForm tag s
 unfolding isWrongContent referenceForm
-any-content tag s two three four = rw (ne-eqb tag 2 two, ne-eqb tag 3 three, ne-eqb tag 4 four)
+any-content tag s two three four eight = rw (ne-eqb tag 2 two, ne-eqb tag 3 three, ne-eqb tag 4 four, ne-eqb tag 8 eight)
 
 -- what a field is refused with, by its tests
 module _ (last t : ℕ) (s : List ℕ) (wrong : Bool) (is-wrong : wrong ≡ isWrongTag referenceForm last t) (r : ℕ) where

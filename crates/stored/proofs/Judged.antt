@@ -1,4 +1,4 @@
--- Laws of judging a stored reference: 1 to 6 of what stands in the bytes, and what an answer tells then.
+-- Laws of judging a stored reference: 1 to 5, 6 or 28 of what stands in the bytes, and what an answer tells then.
 -- Assumes nothing.
 use mathlib.Core.Path.{_≡_, refl, sym, ap, _∙_}
 use mathlib.Core.Bool.{Bool}
@@ -13,7 +13,7 @@ use Rattle.rules.specs.declared.Exception.{Exception}
 use Rattle.rules.specs.declared.Exceptions.{Exceptions}
 use Rattle.rules.specs.Bytes.{all, firstOf, given, refused, unless}
 use Rattle.rules.specs.Translation.{exceptionList}
-use Rattle.rules.specs.Reference.{Reference, size, cdsSize, areBounds, fitExceptions, referenceTests}
+use Rattle.rules.specs.Reference.{Reference, size, cdsSize, areBounds, fitExceptions, isCutShort, referenceTests}
 use Rattle.rules.specs.Record.{partOf}
 use Rattle.rules.specs.Refusal.{referenceRefusal}
 use Rattle.rules.specs.Stored.{referenceForm, fields, exceptionsIn, assembledIn, checked, storedReference}
@@ -34,12 +34,12 @@ use Rattle.stored.proofs.Held.{list-few, list-length}
 
 -- a reference with other exceptions
 abbrev withExceptions : List ℕ → Cds → List Exception → Reference
-withExceptions s c es = record { letters = s; cs = c .cs; ce = c .ce; table = c .table; exceptions = es }
+withExceptions s c es = record { letters = s; cs = c .cs; ce = c .ce; table = c .table; exceptions = es; end = c .end }
 
 -- of more than sixteen it doesn't matter which
 too-many : (longest : ℕ) (s : List ℕ) (c : Cds) (es fs : List Exception) → 16 < length es → 16 < length fs
     → referenceRefusal longest (withExceptions s c es) ≡ referenceRefusal longest (withExceptions s c fs)
-unfolding referenceRefusal referenceTests firstOf fitExceptions size areBounds cdsSize
+unfolding referenceRefusal referenceTests firstOf fitExceptions size areBounds cdsSize isCutShort
 too-many longest s c es fs h k = rw (lt-leb (length es) 16 h, lt-leb (length fs) 16 k)
 
 -- the reference as a call takes it
@@ -53,7 +53,7 @@ module _ (longest : ℕ) (s : List ℕ) (p : StoredAt) (in-place : Placed s p) w
   few-same : length (exceptionsIn (partOf (p .exceptions) s)) ≤ 16 → takenAt s p ≡ placedReference s p
   few-same h = rw (list-few (partOf (p .exceptions) s) threes h)
 
-  -- 1 to 6 are the same
+  -- 1 to 5, 6 and 28 are the same
   pub taken-refusal : referenceRefusal longest (takenAt s p) ≡ referenceRefusal longest (placedReference s p)
   taken-refusal = by (decLt 16 (length (exceptionsIn (partOf (p .exceptions) s))))
     where

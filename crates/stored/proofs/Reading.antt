@@ -40,7 +40,7 @@ refused-fields s n e k = by (fields referenceForm s) e
 -- none of them: by the contents that are found
 module _ (s : List ℕ) (unrefused : refusalIn (fields referenceForm s) ≡ 0) where
   are-assembled : assembledIn (fields referenceForm s)
-      ≡ assembled (contentOf 1 (taggedIn (fields referenceForm s))) (contentOf 2 (taggedIn (fields referenceForm s))) (contentOf 3 (taggedIn (fields referenceForm s))) (orEmpty (contentOf 4 (taggedIn (fields referenceForm s))))
+      ≡ assembled (contentOf 1 (taggedIn (fields referenceForm s))) (contentOf 2 (taggedIn (fields referenceForm s))) (contentOf 3 (taggedIn (fields referenceForm s))) (orEmpty (contentOf 4 (taggedIn (fields referenceForm s)))) (orEmpty (contentOf 8 (taggedIn (fields referenceForm s))))
   unfolding assembledIn
   are-assembled = ap assembledIn (given-fields referenceForm s unrefused)
 
@@ -75,15 +75,24 @@ module _ (s : List ℕ) (letters bounds table : Part) (f : Finds s letters bound
       let t = found referenceForm s (f .unrefused) 3 (content.At table) (f .table-at) table refl in
       (t .within, table-length (partOf table s) (t .fits))
 
-  module _ (exceptions : Part) (four : exceptions ≡ partOrEmpty (contentAt 4 s)) where
-    stored-exceptions : exceptionsIn (orEmpty (contentOf 4 (taggedIn (fields referenceForm s)))) ≡ exceptionsIn (partOf exceptions s)
-    unfolding partOrEmpty partOf
-    stored-exceptions = rw (content-is s (f .unrefused) 4 (contentAt 4 s) refl, four) (by (contentAt 4 s))
-      where
-        by : (c : Content) → exceptionsIn (orEmpty (contentIn s c)) ≡ exceptionsIn (partOf (partOrEmpty c) s)
-        by (content.At p) = refl
-        by content.Missing = refl
+  -- a content that may be absent
+  or-empty : (t : ℕ) (p : Part) → p ≡ partOrEmpty (contentAt t s) → orEmpty (contentOf t (taggedIn (fields referenceForm s))) ≡ partOf p s
+  unfolding partOrEmpty partOf
+  or-empty t p is = rw (content-is s (f .unrefused) t (contentAt t s) refl, is) (by (contentAt t s))
+    where
+      by : (c : Content) → orEmpty (contentIn s c) ≡ partOf (partOrEmpty c) s
+      by (content.At p) = refl
+      by content.Missing = refl
 
+  pub end-within : (end : Part) → end ≡ partOrEmpty (contentAt 8 s) → end .at + end .len ≤ length s
+  unfolding partOrEmpty
+  end-within end is = rw is (by (contentAt 8 s) refl)
+    where
+      by : (c : Content) → c ≡ contentAt 8 s → partOrEmpty c .at + partOrEmpty c .len ≤ length s
+      by (content.At p) e = found referenceForm s (f .unrefused) 8 (content.At p) e p refl .within
+      by content.Missing e = omega arith
+
+  module _ (exceptions : Part) (four : exceptions ≡ partOrEmpty (contentAt 4 s)) where
     within : (exceptions .at + exceptions .len ≤ length s) × (exceptions .len % 3 ≡ 0)
     unfolding partOrEmpty
     within = rw four (by (contentAt 4 s) refl)
@@ -94,9 +103,9 @@ module _ (s : List ℕ) (letters bounds table : Part) (f : Finds s letters bound
             (x .within, rw (length-of-part s p (x .within)) at (exceptions-length (partOf p s) (x .fits)))
         by content.Missing e = (omega arith, refl)
 
-    pub reads : (c : Cds) → c ≡ cdsIn (partOf bounds s) (partOf table s) → Reads s (assembledIn (fields referenceForm s)) (At (record { cds = c; letters = letters; exceptions = exceptions }))
+    pub reads : (end : Part) → end ≡ partOrEmpty (contentAt 8 s) → (c : Cds) → c ≡ cdsIn (partOf bounds s) (partOf table s) (partOf end s) → Reads s (assembledIn (fields referenceForm s)) (At (record { cds = c; letters = letters; exceptions = exceptions }))
     unfolding assembled toldReference partOrEmpty
-    reads c is =
+    reads end eight c is =
         record {
           says =
               rw is
@@ -104,7 +113,8 @@ module _ (s : List ℕ) (letters bounds table : Part) (f : Finds s letters bound
                 content-is s (f .unrefused) 1 (content.At letters) (f .letters-at),
                 content-is s (f .unrefused) 2 (content.At bounds) (f .bounds-at),
                 content-is s (f .unrefused) 3 (content.At table) (f .table-at),
-                stored-exceptions,
+                or-empty 4 exceptions four,
+                or-empty 8 end eight,
               )));
           stands = λ p h.
               let same : record { cds = c; letters = letters; exceptions = exceptions } ≡ p = cc in
@@ -131,7 +141,7 @@ single s x (At p) (At q) h k =
     let same = told (h .says ∙ sym (k .says)) in
     let letters : p .letters ≡ q .letters = h .stands p refl .letters ∙ sym (k .stands q refl .letters) in
     let exceptions : p .exceptions ≡ q .exceptions = h .stands p refl .exceptions ∙ sym (k .stands q refl .exceptions) in
-    ap At (rw (ap (λ (r : Reference). r .cs) same, ap (λ (r : Reference). r .ce) same, ap (λ (r : Reference). r .table) same, letters, exceptions))
+    ap At (rw (ap (λ (r : Reference). r .cs) same, ap (λ (r : Reference). r .ce) same, ap (λ (r : Reference). r .table) same, ap (λ (r : Reference). r .end) same, letters, exceptions))
   where
     told : {a b : Reference} → given a ≡ given b → a ≡ b
     told h = cc

@@ -7,7 +7,7 @@ use Rattle.rules.specs.declared.Cds.{Cds}
 use Rattle.rules.specs.declared.Part.{Part}
 use Rattle.rules.specs.Bytes.{Result, given, refused}
 use Rattle.rules.specs.Record.{partOf}
-use Rattle.rules.specs.Reference.{Reference}
+use Rattle.rules.specs.Reference.{Reference, atStop}
 use Rattle.rules.specs.Stored.{twoBytes, referenceForm, fields, exceptionsIn}
 use Rattle.rules.specs.Views.{cdsOf}
 use Rattle.fields.specs.declared.lookup.Content.the-variants as content
@@ -17,10 +17,10 @@ use Rattle.stored.specs.declared.places.StoredAt.{StoredAt}
 use Rattle.stored.specs.declared.places.Stored.{Stored}
 use Rattle.stored.specs.declared.places.Stored.the-variants.{Refused, At}
 
--- the numbers that the contents of tags 2 and 3 hold
-abbrev pub cdsIn : List ℕ → List ℕ → Cds
-cdsIn bounds table =
-    cdsOf (twoBytes (getD bounds 0 0) (getD bounds 1 0)) (twoBytes (getD bounds 2 0) (getD bounds 3 0)) (getD table 0 0)
+-- the numbers that the contents of tags 2, 3 and 8 hold
+abbrev pub cdsIn : List ℕ → List ℕ → List ℕ → Cds
+cdsIn bounds table end =
+    cdsOf (twoBytes (getD bounds 0 0) (getD bounds 1 0)) (twoBytes (getD bounds 2 0) (getD bounds 3 0)) (getD table 0 0) (getD end 0 atStop)
 
 -- the reference that stands in the bytes at a place
 abbrev pub placedReference : List ℕ → StoredAt → Reference
@@ -31,6 +31,7 @@ placedReference s p =
       ce = p .cds .ce;
       table = p .cds .table;
       exceptions = exceptionsIn (partOf (p .exceptions) s);
+      end = p .cds .end;
     }
 
 -- what an answer tells: a reference, or the refusal

@@ -42,8 +42,8 @@ fn answer_at(
     )
 }
 
-// The answer to an edit of the reference that the bytes store: its refusal, 20 to 23 and then 1 to 6, else as `build_altseq` answers, which
-// judges 1 to 6.
+// The answer to an edit of the reference that the bytes store: its refusal, 20 to 23, else as `build_altseq` answers, which judges the
+// reference first.
 pub fn build_altseq_stored(
     s: &[u8],
     edit: Edit,

@@ -1,5 +1,6 @@
-// Where a reference stands in the bytes that store it. Whether it is one that a call takes, 1 to 6, isn't judged here.
+// Where a reference stands in the bytes that store it. Whether it is one that a call takes, 1 to 5, 6 or 28, isn't judged here.
 use crate::tags::BOUNDS;
+use crate::tags::END;
 use crate::tags::EXCEPTIONS;
 use crate::tags::LETTERS;
 use crate::tags::TABLE;
@@ -13,7 +14,8 @@ use numbers::wide;
 use rules::Cds;
 use rules::Part;
 ghost use mathlib.Core.Path.{_≡_};
-ghost use lib.ListN.{length};
+ghost use lib.ListN.{length, getD};
+ghost use Rattle.rules.specs.Reference.{atStop};
 ghost use Rattle.rules.specs.Stored.{referenceForm, fields, assembledIn};
 ghost use Rattle.stored.specs.declared.places.Stored.the-variants as stored;
 ghost use Rattle.stored.specs.Reading.{cdsIn, Finds, Reads};
@@ -30,15 +32,26 @@ pub enum Stored {
     At(StoredAt),
 }
 
-// The numbers that the contents of tags 2 and 3 hold.
-fn cds_in(bounds: &[u8], table: &[u8]) -> Cds
+// The end that the content of tag 8 tells; with none, at a stop.
+fn end_in(end: &[u8]) -> usize
+    ensures { λ r. ⌜ r ≡ getD (now (end .entry)) 0 atStop ⌝ }
+{
+    if end.len() == 0 {
+        return 0;
+    }
+    wide(end[0])
+}
+
+// The numbers that the contents of tags 2, 3 and 8 hold.
+fn cds_in(bounds: &[u8], table: &[u8], end: &[u8]) -> Cds
     requires { ⌜ (length (now bounds) ≡ 4) × (length (now table) ≡ 1) ⌝ }
-    ensures { λ r. ⌜ r ≡ cdsIn (now (bounds .entry)) (now (table .entry)) ⌝ }
+    ensures { λ r. ⌜ r ≡ cdsIn (now (bounds .entry)) (now (table .entry)) (now (end .entry)) ⌝ }
 {
     Cds {
         cs: two_bytes(bounds, 0),
         ce: two_bytes(bounds, 2),
         table: wide(table[0]),
+        end: end_in(end),
     }
 }
 
@@ -47,7 +60,8 @@ fn stored_at(s: &[u8], letters: Part, bounds: Part, table: Part) -> StoredAt
     requires { ⌜ Finds (now s) letters bounds table ⌝ }
     ensures { λ r. ⌜ Reads (now (s .entry)) (assembledIn (fields referenceForm (now (s .entry)))) (stored.At r) ⌝ }
 {
-    let cds = cds_in(bytes_at(s, bounds), bytes_at(s, table));
+    let end = part_or_empty(content_of(s, END));
+    let cds = cds_in(bytes_at(s, bounds), bytes_at(s, table), bytes_at(s, end));
     let exceptions = part_or_empty(content_of(s, EXCEPTIONS));
     StoredAt {
         cds,

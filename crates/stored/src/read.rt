@@ -1,4 +1,4 @@
-// Refusals 20 to 23, then 1 to 6, of a stored reference.
+// Refusals 20 to 23, then 1 to 5, 6 or 28, of a stored reference.
 use crate::exceptions::exceptions_in;
 use crate::places::Stored;
 use crate::places::StoredAt;
@@ -12,7 +12,7 @@ ghost use Rattle.rules.specs.Refusal.{limits, referenceRefusal};
 ghost use Rattle.rules.specs.Stored.{storedReference};
 ghost use Rattle.stored.specs.Reading.{placedReference, Placed, Reads};
 
-// The lowest of 1 to 6 that applies to a reference that stands in the bytes, or 0.
+// The first of 1 to 5, 6 or 28 that applies to a reference that stands in the bytes, or 0.
 fn refusal_at(s: &[u8], p: StoredAt) -> usize
     requires { ⌜ Placed (now s) p ⌝ }
     ensures { λ r. ⌜ r ≡ referenceRefusal (limits .longest) (placedReference (now (s .entry)) p) ⌝ }
@@ -24,8 +24,8 @@ fn refusal_at(s: &[u8], p: StoredAt) -> usize
     }
 }
 
-// Where the reference that the bytes store stands in them, or its one refusal: 20, 21 and 23 in field order, then 22, then 1 to 6. No byte is
-// copied.
+// Where the reference that the bytes store stands in them, or its one refusal: 20, 21 and 23 in field order, then 22, then 1 to 5, 6 or 28. No
+// byte is copied.
 pub fn read_stored(s: &[u8]) -> Stored
     ensures { λ r. ⌜ Reads (now (s .entry)) (storedReference (limits .longest) (now (s .entry))) r ⌝ }
 {

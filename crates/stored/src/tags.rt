@@ -2,6 +2,8 @@
 use fields::Field;
 use fields::bytes_at;
 use fields::next_field;
+use numbers::wide;
+use reference::is_short_end;
 ghost use mathlib.Core.Path.{_≡_};
 ghost use Rattle.rules.specs.Bytes.{if_then_else_};
 ghost use Rattle.rules.specs.Stored.{isWrongTag, isWrongContent, referenceForm, fields};
@@ -15,11 +17,13 @@ pub(crate) const BOUNDS: u8 = 2;
 pub(crate) const TABLE: u8 = 3;
 // Three bytes each; may be absent.
 pub(crate) const EXCEPTIONS: u8 = 4;
+// How the CDS ends, one byte; absent for a stop.
+pub(crate) const END: u8 = 8;
 
 fn is_tag(tag: u8) -> bool
     ensures { λ r. ⌜ r ≡ referenceForm .knows tag ⌝ }
 {
-    (LETTERS <= tag) & (tag <= EXCEPTIONS)
+    (LETTERS <= tag) & (tag <= EXCEPTIONS) | (tag == END)
 }
 
 // Unknown, repeated or not rising; `last` is the tag before it.
@@ -27,6 +31,16 @@ fn is_wrong_tag(last: u8, tag: u8) -> bool
     ensures { λ r. ⌜ r ≡ isWrongTag referenceForm last tag ⌝ }
 {
     !is_tag(tag) | (tag <= last)
+}
+
+// One byte that tells an end, not at a stop.
+fn is_end(content: &[u8]) -> bool
+    ensures { λ r. ⌜ r ≡ referenceForm .fits 8 (now (content .entry)) ⌝ }
+{
+    if content.len() != 1 {
+        return false;
+    }
+    is_short_end(wide(content[0]))
 }
 
 fn is_wrong_content(tag: u8, content: &[u8]) -> bool
@@ -37,6 +51,7 @@ fn is_wrong_content(tag: u8, content: &[u8]) -> bool
         BOUNDS => len != 4,
         TABLE => len != 1,
         EXCEPTIONS => len % 3 != 0,
+        END => !is_end(content),
         _ => false,
     }
 }

@@ -17,7 +17,7 @@ use Rattle.rules.specs.declared.Report.{Report}
 use Rattle.rules.specs.declared.Answer.the-variants as answer
 use Rattle.rules.specs.Bytes.{firstOf, unless, over}
 use Rattle.rules.specs.Translation.{exceptionList, residueCount}
-use Rattle.rules.specs.Reference.{Reference, size, cdsSize, codons}
+use Rattle.rules.specs.Reference.{Reference, size, cdsSize}
 use Rattle.rules.specs.Edit.{Asked, editTests}
 use Rattle.rules.specs.Protein.{alteredProtein}
 use Rattle.rules.specs.Record.{recordOf}
@@ -66,13 +66,14 @@ line-of l k text old n is e q =
 pub line-as : (n : ℕ) (text l k : List ℕ) → l ≡ k → Line n text (unlines (k ∷ [])) → Line n text (unlines (l ∷ []))
 line-as n text l k is h = rw is h
 
--- R of a checked reference is short
-pub protein-short : (s : List ℕ) (k : Known) (protein : List ℕ) → Knows textLimits s k noExceptions protein → length protein < proteinRoom
-unfolding codons cdsSize size
+-- R of a checked reference is some, and short
+pub protein-short : (s : List ℕ) (k : Known) (protein : List ℕ) → Knows textLimits s k noExceptions protein → (1 ≤ length protein) × (length protein ≤ proteinRoom)
+unfolding residueCount cdsSize size
 protein-short s k protein known =
     let a = accepted lettersRoom (referenceOf s (k .cds) noExceptions) (known .accepted) in
     let r = protein-read lettersRoom (referenceOf s (k .cds) noExceptions) (known .accepted) in
-    omega (arith, ap length (known .read), r .whole, a .fits, a .bounds .first, a .bounds .inside)
+    let read = ap length (known .read) in
+    (omega (arith, r .two), omega (arith, r .counted, a .fits, a .bounds .first, a .bounds .inside))
 
 -- an edit of a checked reference, as it was decided
 module _ (s : List ℕ) (k : Known) (protein : List ℕ) (known : Knows textLimits s k noExceptions protein) (edit : Edit) (new : List ℕ) (d : Decision)
@@ -148,7 +149,8 @@ module _ (s : List ℕ) (k : Known) (protein : List ℕ) (known : Knows textLimi
 pub plan-room : (s : List ℕ) (k : Known) (protein : List ℕ) → Knows textLimits s k noExceptions protein → (t q q′ : List ℕ) → Ample t q → (m : ℕ) → m ≤ length q′ → length q′ ≡ length q → (x : Record) (n : ℕ) → n ≡ length t
     → length (recordLine x protein (take m q′)) < n
 plan-room s k protein known t q q′ ample m fits same x n is =
-    omega (arith, record-size x protein (take m q′), length-take-le m q′ fits, protein-short s k protein known, ample .for-altered, ample .for-transcript)
+    let short = protein-short s k protein known in
+    omega (arith, record-size x protein (take m q′) (short .0), length-take-le m q′ fits, short .1, ample .for-altered, ample .for-transcript)
 
 pub carries-none : (x₀ : Exceptions) → x₀ ≡ noExceptions → (s : List ℕ) (k : Known) (protein : List ℕ) (p : Plan) (new t q : List ℕ) → Carries s k noExceptions protein p new t q → Carries s k x₀ protein p new t q
 carries-none x₀ are s k protein p new t q h = rw are h

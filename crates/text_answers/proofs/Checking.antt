@@ -91,7 +91,7 @@ module _ (x₀ : Exceptions) (are : x₀ ≡ noExceptions) (s : List ℕ) (c : C
       known-here = knows textLimits s c noExceptions k (taken .0) (taken .1) old protein held (omega arith)
 
       pub reference-room : (n : ℕ) → n ≡ firstRoom → length (bytes "reference " ++ take (k .residues) protein) < n
-      reference-room n e = omega (arith, protein-short s k (take (k .residues) protein) known-here)
+      reference-room n e = omega (arith, protein-short s k (take (k .residues) protein) known-here .1)
 
       pub opens-known : (n m : ℕ) (letters letters′ text text′ : List ℕ) → n ≡ length s → letters′ ≡ take (length s) s ++ drop (length s) letters
           → m ≡ length (bytes "reference " ++ take (k .residues) protein ++ (lineFeed ∷ [])) → text′ ≡ over (bytes "reference " ++ take (k .residues) protein ++ (lineFeed ∷ [])) text

@@ -37,7 +37,7 @@ phase-once Ended Ended letters protein e a b = refl
 phase-once (Editing k m) (Editing l n) letters protein e a b =
     let same : bare (take m letters) (k .cds) ≡ bare (take n letters) (l .cds) = cc in
     let bytes : take m letters ≡ take n letters = ap (λ (r : Reference). r .letters) same in
-    let cds : k .cds ≡ l .cds = ap (λ (r : Reference). cdsOf (r .cs) (r .ce) (r .table)) same in
+    let cds : k .cds ≡ l .cds = ap (λ (r : Reference). cdsOf (r .cs) (r .ce) (r .table) (r .end)) same in
     let size : m ≡ n = sym (length-take-le m letters (a .0)) ∙ ap length bytes ∙ length-take-le n letters (b .0) in
     let known : k ≡ l = a .2 .is ∙ rw (bytes, cds) (sym (b .2 .is)) in
     rw (known, size)

@@ -24,7 +24,7 @@ alteredRoom = 10923
 
 -- any answer to a first line, and any answer, each with its line feed
 abbrev pub firstRoom : ℕ
-firstRoom = 5472
+firstRoom = 5473
 
 abbrev pub answerRoom : ℕ
 answerRoom = 16415

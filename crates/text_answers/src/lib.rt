@@ -29,7 +29,7 @@ pub const TRANSCRIPT: usize = 32768;
 pub const ALTERED: usize = 10923;
 
 // The longest answer to a first line, and the longest of all, each with its line feed.
-pub const FIRST: usize = 5472;
+pub const FIRST: usize = 5473;
 
 pub const ANSWER: usize = 16415;
 

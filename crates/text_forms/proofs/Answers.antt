@@ -51,7 +51,7 @@ given-once line reference-line.Not (reference-line.Given cds at) e h k = absurd 
 given-once line (reference-line.Given cds at) reference-line.Not e h k = absurd (never _ (sym e))
 given-once line (reference-line.Given cds at) (reference-line.Given cds₂ at₂) e h k =
     let x = held _ _ e in
-    rw (ap (λ (q : Reference). cdsOf (q .cs) (q .ce) (q .table)) x, place-once line at at₂ h k (ap (λ (q : Reference). q .letters) x))
+    rw (ap (λ (q : Reference). cdsOf (q .cs) (q .ce) (q .table) (q .end)) x, place-once line at at₂ h k (ap (λ (q : Reference). q .letters) x))
 
 pub reference-once : (line : List ℕ) (r t : ReferenceLine) → referenceLineIn line r ≡ referenceLine line → lettersAt r ≤ length line → referenceLineIn line t ≡ referenceLine line → lettersAt t ≤ length line → r ≡ t
 reference-once line r t e h f k = given-once line r t (e ∙ sym f) h k

@@ -11,6 +11,7 @@ use lib.ListN.{length, take, drop, getD, drop-of-length-le}
 use lib.Seq.{drop-cons}
 use Rattle.rules.specs.Bytes.{bytes}
 use Rattle.rules.specs.Number.{number}
+use Rattle.rules.specs.Reference.{atStop}
 use Rattle.rules.specs.Views.{cdsOf}
 use Rattle.rules.specs.Line.{areCapitals, startsWith, behindSpace, spaced, behindRef, referenceLine}
 use Rattle.rules.proofs.Over.{tail-is}
@@ -66,6 +67,6 @@ module _ (line : List ℕ) (u : Bool) (q : u ≡ startsWith (bytes "ref ") line)
           unfolding referenceLine behindRef
           reference-no-letters e₄ = rw (← q, e, ← q₁, e₁, ← q₂, e₂, ← q₃, e₃, capitals, e₄)
 
-          pub reference-is : v ≡ true → referenceLineIn line (Given (cdsOf cs ce table) at) ≡ referenceLine line
+          pub reference-is : v ≡ true → referenceLineIn line (Given (cdsOf cs ce table atStop) at) ≡ referenceLine line
           unfolding referenceLine behindRef
           reference-is e₄ = rw (← q, e, ← q₁, e₁, ← q₂, e₂, ← q₃, e₃, capitals, e₄)

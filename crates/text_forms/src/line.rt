@@ -104,7 +104,12 @@ pub fn parse_reference(line: &[u8]) -> ReferenceLine
         return ReferenceLine::Not;
     }
     ReferenceLine::Given {
-        cds: Cds { cs, ce, table },
+        cds: Cds {
+            cs,
+            ce,
+            table,
+            end: 0,
+        },
         at,
     }
 }

@@ -10,7 +10,7 @@ use lib.Dec.{eqb}
 use lib.ListN.{length, take, length-append}
 use Rattle.rules.specs.Bytes.{if_then_else_, bytes, isNone, unless}
 use Rattle.rules.specs.Translation.{exceptionList, residueCount}
-use Rattle.rules.specs.Reference.{Reference, size, cdsSize, codons, referenceProtein}
+use Rattle.rules.specs.Reference.{Reference, size, cdsSize, referenceProtein}
 use Rattle.rules.specs.Edit.{Asked}
 use Rattle.rules.specs.Protein.{alteredProtein}
 use Rattle.rules.specs.Record.{recordOf}
@@ -32,13 +32,13 @@ use Rattle.text_lines.specs.Steps.{lineOf, printed, printedLast, Steps}
 use Rattle.text_lines.specs.Memory.{stageOf, Keeps}
 use Rattle.text_prints.proofs.Sizes.{refused-size, record-size}
 
--- R and A are short
-protein-size : (r : Reference) → referenceRefusal (textLimits .longest) r ≡ 0 → length (referenceProtein r) < proteinRoom
-unfolding codons cdsSize size
+-- R is some, and R and A are short
+protein-size : (r : Reference) → referenceRefusal (textLimits .longest) r ≡ 0 → (1 ≤ length (referenceProtein r)) × (length (referenceProtein r) ≤ proteinRoom)
+unfolding residueCount cdsSize size
 protein-size r h =
     let a = accepted (textLimits .longest) r h in
     let p = protein-read (textLimits .longest) r h in
-    omega (arith, p .whole, a .fits, a .bounds .first, a .bounds .inside)
+    (omega (arith, p .two), omega (arith, p .counted, a .fits, a .bounds .first, a .bounds .inside))
 
 altered-size : (r : Reference) (e : Asked) → refusal textLimits r e ≡ 0 → length (alteredProtein r e) ≤ alteredRoom
 unfolding residueCount
@@ -52,7 +52,7 @@ answer-size r h none = omega (arith, refused-size 30)
 answer-size r h (some e) = by (refusal textLimits r e) refl
   where
     by : (n : ℕ) → refusal textLimits r e ≡ n → length (answerLine (unless n (recordOf r e)) (referenceProtein r) (alteredProtein r e)) < answerRoom
-    by zero z = omega (arith, record-size (recordOf r e) (referenceProtein r) (alteredProtein r e), protein-size r h, altered-size r e z)
+    by zero z = let short = protein-size r h in omega (arith, record-size (recordOf r e) (referenceProtein r) (alteredProtein r e) (short .0), short .1, altered-size r e z)
     by (suc n) z = omega (arith, refused-size (suc n))
 
 -- a line with its end
@@ -66,7 +66,7 @@ first-size none = one-line (refusedLine 30) (omega (arith, refused-size 30))
 first-size (some r) = by (referenceRefusal (textLimits .longest) r) refl
   where
     by : (n : ℕ) → referenceRefusal (textLimits .longest) r ≡ n → length (unlines (answersFrom n r [])) ≤ answerRoom
-    by zero z = one-line (bytes "reference " ++ referenceProtein r) (omega (arith, protein-size r z))
+    by zero z = one-line (bytes "reference " ++ referenceProtein r) (omega (arith, protein-size r z .1))
     by (suc n) z = one-line (refusedLine (suc n)) (omega (arith, refused-size (suc n)))
 
 -- whatever the stage

@@ -37,6 +37,12 @@ unfolding shown
 shown-size [] = omega arith
 shown-size (x ∷ s) = omega arith
 
+-- a dash takes no more than what it is a part of
+shown-within : (s : List ℕ) (n : ℕ) → 1 ≤ n → length s ≤ n → length (shown s) ≤ n
+unfolding shown
+shown-within [] n h k = omega arith
+shown-within (x ∷ s) n h k = k
+
 part-size : (p : Part) (s : List ℕ) → length (partOf p s) ≤ length s
 unfolding partOf
 part-size p s = simp (length-take, length-drop) (omega arith)
@@ -49,25 +55,24 @@ first-size n = by (eqb n 0)
     by true = omega arith
     by false = omega (arith, few-decimals n)
 
-change-size : (c : Change) (R A : List ℕ) → length (changeLine c R A) ≤ length R + length A + 30
+change-size : (c : Change) (R A : List ℕ) → 1 ≤ length R → length (changeLine c R A) ≤ length R + length A + 29
 unfolding changeLine
-change-size c R A =
+change-size c R A some =
     let d = shown (partOf (c .deleted) R) in
     let i = shown (partOf (c .inserted) A) in
     simp length-append (omega (
       arith,
       class-size (c .class),
       few-decimals (c .number),
-      shown-size (partOf (c .deleted) R),
-      part-size (c .deleted) R,
+      shown-within (partOf (c .deleted) R) (length R) some (part-size (c .deleted) R),
       shown-size (partOf (c .inserted) A),
       part-size (c .inserted) A,
       first-size (c .first),
     ))
 
-pub record-size : (x : Record) (R A : List ℕ) → length (recordLine x R A) ≤ length R + length A + 30
+pub record-size : (x : Record) (R A : List ℕ) → 1 ≤ length R → length (recordLine x R A) ≤ length R + length A + 29
 unfolding recordLine
-record-size Unknown R A = omega arith
-record-size NoProtein R A = omega arith
-record-size (Silent n x) R A = simp length-append (omega (arith, few-decimals n))
-record-size (Changed c) R A = change-size c R A
+record-size Unknown R A some = omega arith
+record-size NoProtein R A some = omega arith
+record-size (Silent n x) R A some = simp length-append (omega (arith, few-decimals n))
+record-size (Changed c) R A some = change-size c R A some

@@ -12,7 +12,7 @@ use Rattle.rules.specs.Translation.{noException}
 use Rattle.vectors_calls.specs.Fields.{fieldAt, numberAt, positionIn, kindIn}
 
 unfoldable pub cdsIn : List ℕ → Cds
-cdsIn line = record { cs = numberAt 1 line; ce = numberAt 2 line; table = numberAt 3 line }
+cdsIn line = record { cs = numberAt 1 line; ce = numberAt 2 line; table = numberAt 3 line; end = 0 }
 
 unfoldable pub editIn : List ℕ → Edit
 editIn line = record { kind = kindIn (fieldAt 4 line); start = positionIn (fieldAt 5 line); end = positionIn (fieldAt 6 line) }

@@ -28,7 +28,12 @@ fn cds_of(line: &[u8]) -> Cds
     let cs = number(line, fields::CS);
     let ce = number(line, fields::CE);
     let table = number(line, fields::TABLE);
-    Cds { cs, ce, table }
+    Cds {
+        cs,
+        ce,
+        table,
+        end: 0,
+    }
 }
 
 fn edit_of(line: &[u8]) -> Edit

@@ -1,6 +1,7 @@
 -- `garumbott::variant::garumbott_record` meets its contract. Assumes nothing.
 use borrow.Author.Needs.{needs}
 use mathlib.Core.Path.{ap, _∙_}
+use Rattle.rules.specs.declared.Cds.{Cds}
 use Rattle.rules.specs.Refusal.{limits}
 use Rattle.rules.specs.Views.{cdsOf, roomOf}
 use Rattle.garumbott.specs.Host.{hostAsked, answerOf}
@@ -14,8 +15,8 @@ returns c =
     let a = c .before .before .before .before .before .before .before .before .before .before .before .before .before .before .before .before .before .before .before .before .args in
     let x = c .before .before .before .before .before .before .before .build-altseq .ensures in
     let edit = given-edit (a .kind) (a .start-star) (a .start) (a .end-star) (a .end) (c .before .before .before .before .before .before .before .before .before .before .before .before .before .before .before .before .before .before .before .before .fits .start) (c .before .before .before .before .before .before .before .before .before .before .before .before .before .before .before .before .before .before .before .before .fits .end) (c .before .before .before .before .before .before .before .before .before .before .before .edit-at .result) (c .before .before .before .before .before .before .before .before .before .before .before .edit-at .ensures) in
-    let same = outcome-given limits (a .letters .now) (cdsOf (a .cs) (a .ce) (a .table)) (hostAsked (a .kind) (a .start-star) (a .start) (a .end-star) (a .end) (a .bases .now)) (roomOf (a .transcript .now) (a .reference .now) (a .altered .now)) (a .exceptions .now) in
-    rw (← same, ← edit, ← c .before .before .before .before .before .before .before .before .before .before .before .before .exceptions-in .ensures, ← c .before .before .before .before .before .before .before .before .before .before .before .before .before .cds-at .ensures)
+    let same = outcome-given limits (a .letters .now) (cdsOf (a .cs) (a .ce) (a .table) (a .cds-end)) (hostAsked (a .kind) (a .start-star) (a .start) (a .end-star) (a .end) (a .bases .now)) (roomOf (a .transcript .now) (a .reference .now) (a .altered .now)) (a .exceptions .now) in
+    rw (← same, ← edit, ← c .before .before .before .before .before .before .before .before .before .before .before .before .exceptions-in .ensures, ← c .before .before .before .before .before .before .before .before .before .before .before .before .before .cds-at .ensures, ← ap (λ (c : Cds). c .end) (c .before .before .before .before .before .before .before .before .before .before .before .before .before .cds-at .ensures))
     (record {
       says = c .answer-of .ensures ∙ ap answerOf (x .says);
       holds-transcript = x .holds-transcript;

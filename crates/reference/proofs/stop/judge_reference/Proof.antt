@@ -5,17 +5,17 @@ use Rattle.rules.specs.Bytes.{all}
 use Rattle.rules.specs.Views.{referenceOf}
 use Rattle.codons.specs.Tables.{isBase}
 use Rattle.reference.specs.Known.{earlyRefusal, earlyOf}
-use Rattle.reference.proofs.Judging.{was-refused, was-clear, readable, judged-early, judged-clear, judged-stopless}
+use Rattle.reference.proofs.Judging.{was-refused, was-clear, readable, judged-early, judged-clear, judged-late}
 use Rattle.reference.proofs.stop.judge_reference.Statement.{statement}
 use Rattle.reference.proofs.stop.judge_reference.Tie as tie
 
-ends-in-stop-requires : tie.Need-ends-in-stop-requires
+end-refusal-requires : tie.Need-end-refusal-requires
 unfolding earlyOf
-ends-in-stop-requires c κs =
+end-refusal-requires c κs =
     let a = c .before .before .before .before .before .args in
     let early = c .before .before .before .early-refusal in
     let clear = was-clear (earlyRefusal (a .longest) (referenceOf (a .letters .now) (a .c) (a .e))) (all isBase (a .letters .now)) (early .result) (early .ensures) (c .before .plain .given .0 .0) (c .before .plain .given .1) in
-    readable (a .longest) (a .letters .now) (a .c) (a .e) (clear .0) (c .before .before .before .before .before .pre)
+    (readable (a .longest) (a .letters .now) (a .c) (a .e) (clear .0) (c .before .before .before .before .before .pre), clear .1)
 
 returns : tie.Need-returns
 unfolding earlyOf
@@ -23,7 +23,7 @@ returns c =
     let a = c .before .before .before .before .before .before .before .args in
     let early = c .before .before .before .before .before .early-refusal in
     let clear = was-clear (earlyRefusal (a .longest) (referenceOf (a .letters .now) (a .c) (a .e))) (all isBase (a .letters .now)) (early .result) (early .ensures) (c .before .before .before .plain .given .0 .0) (c .before .before .before .plain .given .1) in
-    judged-clear (a .longest) (a .letters .now) (a .c) (a .e) (clear .0) (c .before .ends-in-stop .result) (c .before .ends-in-stop .ensures) _ (clear .1) (c .if1 .taken)
+    judged-late (a .longest) (a .letters .now) (a .c) (a .e) (clear .0) (c .before .end-refusal .result) (c .before .end-refusal .ensures) (c .if1 .taken)
 
 returns-2 : tie.Need-returns-2
 unfolding earlyOf
@@ -39,7 +39,7 @@ returns-3 c =
     let a = c .before .before .before .before .before .before .before .args in
     let early = c .before .before .before .before .before .early-refusal in
     let clear = was-clear (earlyRefusal (a .longest) (referenceOf (a .letters .now) (a .c) (a .e))) (all isBase (a .letters .now)) (early .result) (early .ensures) (c .before .before .before .plain .given .0 .0) (c .before .before .before .plain .given .1) in
-    judged-stopless (a .longest) (a .letters .now) (a .c) (a .e) (clear .0) (c .before .ends-in-stop .result) (c .before .ends-in-stop .ensures) (c .if1 .left)
+    judged-clear (a .longest) (a .letters .now) (a .c) (a .e) (clear .0) (c .before .end-refusal .result) (c .before .end-refusal .ensures) _ (clear .1) (c .if1 .left)
 
 pub judge-reference-spec : {M : Type 1} → statement M
 judge-reference-spec =
@@ -48,7 +48,7 @@ judge-reference-spec =
     (λ c κs. search needs)
     (λ c. search needs)
     (λ c. search needs)
-    ends-in-stop-requires
+    end-refusal-requires
     returns
     returns-2
     returns-3)
