@@ -113,19 +113,19 @@ static void ours_prefix(void)
 #ifndef __x86_64__
 /* The object of bench/native follows x86-64's convention on every processor: a struct above sixteen bytes is written through a first argument. */
 void record_through(struct garumbott_answer *answer, const uint8_t *letters, uint64_t letters_len, uint64_t cs, uint64_t ce, uint64_t table,
-                    const uint8_t *exceptions, uint64_t exceptions_len, uint64_t kind, uint64_t start_star, int64_t start, uint64_t end_star, int64_t end,
-                    const uint8_t *bases, uint64_t bases_len, uint8_t *transcript, uint64_t transcript_len, uint8_t *reference, uint64_t reference_len,
-                    uint8_t *altered, uint64_t altered_len) __asm__("garumbott_record");
+                    const uint8_t *exceptions, uint64_t exceptions_len, uint64_t cds_end, uint64_t kind, uint64_t start_star, int64_t start, uint64_t end_star,
+                    int64_t end, const uint8_t *bases, uint64_t bases_len, uint8_t *transcript, uint64_t transcript_len, uint8_t *reference,
+                    uint64_t reference_len, uint8_t *altered, uint64_t altered_len) __asm__("garumbott_record");
 #endif
 
 static struct garumbott_answer ours_record(uint64_t table, int64_t start)
 {
 #ifdef __x86_64__
-    return garumbott_record(letters, ref.len, ref.cs, ref.ce, table, NULL, 0, edit.kind, 0, start, 0, edit.end, edit.bases, edit.bases_len, tx, sizeof tx, rp,
+    return garumbott_record(letters, ref.len, ref.cs, ref.ce, table, NULL, 0, 0, edit.kind, 0, start, 0, edit.end, edit.bases, edit.bases_len, tx, sizeof tx, rp,
                             sizeof rp, ap, sizeof ap);
 #else
     struct garumbott_answer answer;
-    record_through(&answer, letters, ref.len, ref.cs, ref.ce, table, NULL, 0, edit.kind, 0, start, 0, edit.end, edit.bases, edit.bases_len, tx, sizeof tx, rp,
+    record_through(&answer, letters, ref.len, ref.cs, ref.ce, table, NULL, 0, 0, edit.kind, 0, start, 0, edit.end, edit.bases, edit.bases_len, tx, sizeof tx, rp,
                    sizeof rp, ap, sizeof ap);
     return answer;
 #endif

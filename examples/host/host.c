@@ -1,5 +1,6 @@
-/* host [FILE]: answers the edit lines of FILE, or of standard input, through the library. It reads and prints what the text program annotate
+/* host [FILE [END]]: answers the edit lines of FILE, or of standard input, through the library. It reads and prints what the text program annotate
  * does; here the lines are taken apart in C, and only the answers come from the library. Standard error gets the reason of each refusal.
+ * END says how the reference's CDS ends, which its line can't: 0 at a stop, 1 without one, 2 in one or two bases of a codon. Left out, it is 0.
  *
  *     ref CS CE TABLE LETTERS      first line: the reference
  *     8A>G  5del  4_6delinsTT      then an edit a line; positions 7, -2, *3
@@ -7,6 +8,7 @@
 #include <garumbott.h>
 #include <stdbool.h>
 #include <stdio.h>
+#include <stdlib.h>
 #include <string.h>
 
 enum { LONGEST_LINE = 20480, MOST_DIGITS = 5 };
@@ -172,13 +174,13 @@ static bool check_reference(const struct line *line, const struct garumbott_refe
         print_refused(line, a.refusal);
         return false;
     }
-    struct garumbott_length n = garumbott_translate(r->letters + (r->cs - 1), r->ce + 1 - r->cs, r->table, 1, r->exceptions, r->exceptions_len,
-                                                    reference, sizeof reference);
+    struct garumbott_length n = garumbott_translate(r->letters + (r->cs - 1), r->ce + 1 - r->cs, r->table, r->end != GARUMBOTT_END_CUT_CODON,
+                                                    r->exceptions, r->exceptions_len, reference, sizeof reference);
     printf("reference %.*s\n", (int)n.len, (const char *)reference);
     return true;
 }
 
-static void run(FILE *in)
+static void run(FILE *in, uint64_t end)
 {
     static struct line first, line;
     struct garumbott_reference r;
@@ -188,6 +190,7 @@ static void run(FILE *in)
         print_refused(&first, GARUMBOTT_REFUSAL_LINE);
         return;
     }
+    r.end = end;
     if (!check_reference(&first, &r)) return;
     for (unsigned long n = 2; next_line(in, n, &line); n++) {
         if (read_edit(&line, &e)) {
@@ -201,16 +204,17 @@ static void run(FILE *in)
 
 int main(int argc, char **argv)
 {
-    FILE *in = argc == 2 ? fopen(argv[1], "rb") : stdin;
-    if (argc > 2) {
-        fprintf(stderr, "host: one file, or none for standard input\n");
+    FILE *in = argc > 1 ? fopen(argv[1], "rb") : stdin;
+    uint64_t end = argc > 2 ? strtoull(argv[2], NULL, 10) : GARUMBOTT_END_STOP;
+    if (argc > 3) {
+        fprintf(stderr, "host: one file, or none for standard input, and how its reference ends\n");
         return 1;
     }
     if (in == NULL) {
         perror(argv[1]);
         return 1;
     }
-    run(in);
+    run(in, end);
     if (ferror(in) || fflush(stdout) != 0 || ferror(stdout)) {
         perror("host");
         return 1;

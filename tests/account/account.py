@@ -1,6 +1,6 @@
-"""A second account of document 01, in Python, written from its text and not from the definitions or the code.
+"""A second account of documents 01 and 02 (E8), in Python, written from their text and not from the definitions or the code.
 
-What the programs print is compared with it. It is only as good as its reading of document 01: where it and the proved module differ, one of
+What the programs print is compared with it. It is only as good as its reading of the documents: where it and the proved module differ, one of
 the two is wrong. `python3 account.py < input` prints what the text program prints.
 """
 import sys
@@ -69,21 +69,27 @@ def shared_last(a, b):
 
 # Reference
 
+AT_STOP, NO_STOP, CUT_CODON = 0, 1, 2  # how a CDS ends (E8); any other number is an unknown end
+
+
 class Reference:
-    def __init__(self, letters, cs, ce, table, exceptions=()):
-        self.letters, self.cs, self.ce, self.table, self.exceptions = letters, cs, ce, table, list(exceptions)
+    def __init__(self, letters, cs, ce, table, exceptions=(), end=AT_STOP):
+        self.letters, self.cs, self.ce, self.table, self.exceptions, self.end = letters, cs, ce, table, list(exceptions), end
 
     def check(self):
         size, codon_count = self.ce - self.cs + 1, (self.ce - self.cs + 1) // 3
         refuse(1, not 1 <= len(self.letters) <= LONGEST)
         refuse(2, any(letter not in LETTERS for letter in self.letters))
-        refuse(3, not (1 <= self.cs <= self.ce <= len(self.letters) and size % 3 == 0 and size >= 6))
+        refuse(3, not (1 <= self.cs <= self.ce <= len(self.letters) and (size % 3 != 0) == (self.end == CUT_CODON) and size >= 6))
         refuse(4, self.table not in (0, 1, 2))
         numbers = [number for number, _ in self.exceptions]
         refuse(5, len(numbers) > MOST_EXCEPTIONS or numbers != sorted(set(numbers)))
         refuse(5, any(not (1 <= number <= codon_count and is_residue(x)) for number, x in self.exceptions))
         self.protein = translated(self.table, self.letters[self.cs - 1:self.ce], self.exceptions)
-        refuse(6, self.protein[-1] != "*")
+        if self.end == AT_STOP:
+            refuse(6, self.protein[-1] != "*")
+        else:
+            refuse(28, self.end not in (NO_STOP, CUT_CODON) or self.ce != len(self.letters) or "*" in self.protein)
         return self
 
 
@@ -233,7 +239,7 @@ def answer(ref, edit):
 def check_room(ref, altered, transcript, reference, protein):
     refuse(11, transcript < len(altered.transcript))
     behind = len(altered.transcript) - ref.cs + 1
-    refuse(12, reference < (ref.ce - ref.cs + 1) // 3 or protein < -(-behind // 3))
+    refuse(12, reference < -(-(ref.ce - ref.cs + 1) // 3) or protein < -(-behind // 3))
 
 
 # The functions that stand alone
@@ -275,17 +281,19 @@ def stored(data):
     fields, last, at = {}, 0, 0
     while at < len(data):
         tag, header = data[at], data[at + 1:at + 3]
-        refuse(21, not last < tag <= 4)
+        refuse(21, tag not in (1, 2, 3, 4, 8) or tag <= last)
         refuse(20, len(header) < 2)
         size = header[0] * 256 + header[1]
         content = data[at + 3:at + 3 + size]
         refuse(20, len(content) < size)
         refuse(23, tag == 2 and size != 4 or tag == 3 and size != 1 or tag == 4 and size % 3 != 0)
+        refuse(23, tag == 8 and content not in (b"\1", b"\2"))
         fields[tag], last, at = content, tag, at + 3 + size
     refuse(22, not {1, 2, 3} <= fields.keys())
     bounds, exceptions = fields[2], fields.get(4, b"")
     listed = [(exceptions[i] * 256 + exceptions[i + 1], chr(exceptions[i + 2])) for i in range(0, len(exceptions), 3)]
-    return Reference(fields[1].decode("latin-1"), bounds[0] * 256 + bounds[1], bounds[2] * 256 + bounds[3], fields[3][0], listed).check()
+    end = fields[8][0] if 8 in fields else AT_STOP
+    return Reference(fields[1].decode("latin-1"), bounds[0] * 256 + bounds[1], bounds[2] * 256 + bounds[3], fields[3][0], listed, end).check()
 
 
 # Text program

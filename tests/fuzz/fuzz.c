@@ -1,8 +1,8 @@
 /* fuzz SECONDS SEED: for so long, and on 10,000 inputs at least, calls every entry point on random bytes, on good input and on damaged copies of
  * it, through fenced memory, and holds each answer to what can be told without a second account of the rules: no byte changes that shouldn't,
  * every number is in its range, the answers of different entry points fit together, the altered transcript is what the edit makes of the letters,
- * the record carried out on one protein gives the other, and a stored reference is what its fields, read plainly, and garumbott_record make of it.
- * In the end every answer, class and refusal must have come up. Prints the call's seed where a check fails, and exits 1. */
+ * the record carried out on either protein gives the other, and a stored reference is what its fields, read plainly, and garumbott_record make of it.
+ * In the end every answer, class, refusal and end of a CDS must have come up. Prints the call's seed where a check fails, and exits 1. */
 #define _DEFAULT_SOURCE
 #include "../host/fence.h"
 #include "garumbott.h"
@@ -45,7 +45,7 @@ static uint64_t strange(void)
 
 /* ---- checks ------------------------------------------------------------------------------------------------------------------------- */
 
-static unsigned long checks, faults, found, answers[5], classes[10], refusals[64];
+static unsigned long checks, faults, found[3], ends[3], begun, answers[5], classes[10], refusals[64];
 static const char *doing = "";
 
 static void check(int good, const char *what)
@@ -90,24 +90,27 @@ static uint8_t residue_at(const uint8_t *codon, uint64_t table)
     return r;
 }
 
-/* A reference that isn't refused; mostly one that has a single stop. */
+/* A reference that isn't refused; mostly one that has a single stop, or, where it is cut short, none. */
 static void make_reference(void)
 {
     int big = one_in(60);
-    uint64_t codons = big ? below(5461 - 2) + 2 : below(14) + 2, before = below(big ? 3 : 8), behind = below(8), single = !one_in(12);
-    while (before + 3 * codons + behind > GARUMBOTT_LONGEST) behind = 0, before = 0;
+    uint64_t end = one_in(2) ? GARUMBOTT_END_STOP : 1 + below(2), rest = end == GARUMBOTT_END_CUT_CODON ? 1 + below(2) : 0;
+    uint64_t codons = big ? below(5461 - 2) + 2 : below(14) + 2, before = below(big ? 3 : 8), behind = end == GARUMBOTT_END_STOP ? below(8) : 0;
+    uint64_t single = end != GARUMBOTT_END_STOP || !one_in(12);
+    while (before + 3 * codons + rest + behind > GARUMBOTT_LONGEST) behind = 0, before = 0;
     memset(&ref, 0, sizeof ref);
     ref.table = below(3);
     ref.letters = letters;
-    ref.letters_len = before + 3 * codons + behind;
+    ref.letters_len = before + 3 * codons + rest + behind;
     ref.cs = before + 1;
-    ref.ce = before + 3 * codons;
+    ref.ce = before + 3 * codons + rest;
+    ref.end = end;
     for (uint64_t i = 0; i < ref.letters_len; i++) letters[i] = letter();
-    for (uint64_t i = 0; single && i + 1 < codons; i++) {
+    for (uint64_t i = 0; single && i < codons; i++) {
         uint8_t *codon = letters + before + 3 * i;
         while (residue_at(codon, ref.table) == '*') codon[below(3)] = letter();
     }
-    memcpy(letters + ref.ce - 3, ref.table == 2 && one_in(2) ? "AGR" : one_in(2) ? "TAA" : "TAR", 3);
+    if (end == GARUMBOTT_END_STOP) memcpy(letters + ref.ce - 3, ref.table == 2 && one_in(2) ? "AGR" : one_in(2) ? "TAA" : "TAR", 3);
     ref.exceptions = exceptions;
     uint64_t codon = 0, many = one_in(3) ? below(17) : 0;
     for (uint64_t i = 0; i < many; i++) {
@@ -116,7 +119,8 @@ static void make_reference(void)
         uint8_t *e = exceptions + ref.exceptions_len;
         e[0] = (uint8_t)(codon >> 8);
         e[1] = (uint8_t)codon;
-        e[2] = codon == codons ? '*' : single ? (uint8_t)('A' + below(26)) : (uint8_t) "*UXZ"[below(4)];
+        e[2] = codon == codons && end == GARUMBOTT_END_STOP ? '*' : single ? (uint8_t)('A' + below(26)) : (uint8_t) "*UXZ"[below(4)];
+        if (end != GARUMBOTT_END_STOP && one_in(3)) memcpy(letters + before + 3 * (codon - 1), "TAA", 3); /* a stop but for its exception */
         ref.exceptions_len += 3;
     }
 }
@@ -176,7 +180,7 @@ static void damage_signed(int64_t *n)
 
 static void damage_call(void)
 {
-    switch (below(12)) {
+    switch (below(13)) {
     case 0: damage(letters, &ref.letters_len, sizeof letters); break;
     case 1: damage_number(&ref.cs); break;
     case 2: damage_number(&ref.ce); break;
@@ -188,6 +192,7 @@ static void damage_call(void)
     case 8: damage_number(&edit.end_star); break;
     case 9: damage_signed(&edit.end); break;
     case 10: damage(bases, &edit.bases_len, sizeof bases); break;
+    case 11: damage_number(&ref.end); break;
     default: /* bytes of any kind */
         for (uint64_t i = 0; i < ref.letters_len; i++) letters[i] = (uint8_t)chance();
         break;
@@ -230,7 +235,7 @@ static void edit_call(int alone, enum fence_side side, const size_t size[3], str
     check(fence_check(&fences[REFERENCE], NULL, a->reference_len), "reference buffer");
     check(fence_check(&fences[ALTERED], NULL, a->altered_len), "altered buffer");
     check(a->answer <= 4 && (a->answer == 0) == (a->refusal != 0), "answer and refusal");
-    check(a->refusal <= (alone ? 11u : 12u), "refusal's number");
+    check(a->refusal <= (alone ? 11u : 12u) || a->refusal == 28, "refusal's number");
     if (a->answer < 2) check(same(a, &none), "a refusal or Unknown tells more");
     check(a->frameshift <= 1 && a->change <= 9 && (a->change != 0) == (a->answer == 4 && !alone), "flag and class");
     memcpy(o->t, b.transcript, a->transcript_len);
@@ -286,10 +291,14 @@ static void check_proteins(const struct outcome *o)
 {
     const struct garumbott_answer *a = &o->a;
     static uint8_t read[GARUMBOTT_ALTERED_ROOM], moved[GARUMBOTT_LONGEST + GARUMBOTT_ALTERED_ROOM];
-    uint64_t m = a->reference_len, n = a->altered_len, s = 0, e = 0;
-    struct garumbott_length all = garumbott_translate(letters + ref.cs - 1, ref.ce + 1 - ref.cs, ref.table, 1, exceptions, ref.exceptions_len, read, sizeof read);
-    check(all.len == m && memcmp(read, o->r, m) == 0, "R isn't the CDS's translation");
-    check(m > 0 && memchr(o->r, '*', m) == o->r + m - 1, "R's only stop isn't its last residue");
+    uint64_t m = a->reference_len, n = a->altered_len, s = 0, e = 0, whole = ref.end != GARUMBOTT_END_CUT_CODON;
+    struct garumbott_length all = garumbott_translate(letters + ref.cs - 1, ref.ce + 1 - ref.cs, ref.table, whole, exceptions, ref.exceptions_len, read, sizeof read);
+    check(all.refusal == 0 && all.len == m && memcmp(read, o->r, m) == 0, "R isn't the CDS's translation");
+    check(m > 0 && memchr(o->r, '*', m) == (ref.end == GARUMBOTT_END_STOP ? o->r + m - 1 : NULL), "R's only stop isn't its last residue, or R is cut short and has one");
+    check(ref.end <= 2 && (ref.end == GARUMBOTT_END_STOP || ref.ce == ref.letters_len), "an end that should be refused");
+    check(whole == ((ref.ce + 1 - ref.cs) % 3 == 0) && (whole || o->r[m - 1] == 'X'), "a cut codon");
+    check(m == garumbott_reference_room(ref.cs, ref.ce), "garumbott_reference_room");
+    ends[ref.end <= 2 ? ref.end : 0]++;
     if (ref.exceptions_len == 0) {
         all = garumbott_translate(o->t + ref.cs - 1, a->transcript_len + 1 - ref.cs, ref.table, 0, NULL, 0, read, sizeof read);
         const uint8_t *stop = memchr(read, '*', all.len);
@@ -312,6 +321,14 @@ static void check_proteins(const struct outcome *o)
     memcpy(moved + s, o->p + a->inserted_at, a->inserted_len);
     memcpy(moved + s + a->inserted_len, o->r + s + a->deleted_len, m - s - a->deleted_len);
     check(m - a->deleted_len + a->inserted_len == n && memcmp(moved, o->p, n) == 0, "the record carried out on R isn't A");
+    memcpy(moved, o->p, s);
+    memcpy(moved + s, o->r + a->deleted_at, a->deleted_len);
+    memcpy(moved + s + a->deleted_len, o->p + s + a->inserted_len, n - s - a->inserted_len);
+    check(n - a->inserted_len + a->deleted_len == m && memcmp(moved, o->r, m) == 0, "the record taken back from A isn't R");
+    if (s == m) {
+        check(ref.end != GARUMBOTT_END_STOP && a->deleted_len == 0 && a->change != GARUMBOTT_CHANGE_EXTENSION, "R is the beginning of A");
+        begun++;
+    }
 }
 
 static void fuzz_edit(void)
@@ -376,37 +393,44 @@ static void put_field(uint8_t tag, const void *content, uint64_t len)
 /* The reference in its stored form; `order` has the tags. */
 static void store(const char *order)
 {
-    uint8_t bounds[4] = {(uint8_t)(ref.cs >> 8), (uint8_t)ref.cs, (uint8_t)(ref.ce >> 8), (uint8_t)ref.ce}, table = (uint8_t)ref.table;
+    uint8_t bounds[4] = {(uint8_t)(ref.cs >> 8), (uint8_t)ref.cs, (uint8_t)(ref.ce >> 8), (uint8_t)ref.ce}, table = (uint8_t)ref.table, end = (uint8_t)ref.end;
     form_len = 0;
     for (; *order != 0; order++) {
         switch (*order) {
         case '1': put_field(1, letters, ref.letters_len); break;
         case '2': put_field(2, bounds, 4); break;
         case '3': put_field(3, &table, 1); break;
-        default: put_field(4, exceptions, ref.exceptions_len); break;
+        case '4': put_field(4, exceptions, ref.exceptions_len); break;
+        case '8': put_field(8, &end, 1); break;
+        default: put_field((uint8_t)(*order - '0'), &end, below(2)); break;
         }
     }
 }
 
 static void make_stored(void)
 {
-    static const char *const orders[] = {"123", "1234", "1324", "2134", "12344", "11234", "12234", "12334", "124", "134", "234", "12", "4", "34"};
+    static const char *const orders[] = {"123", "1234", "1324", "2134", "12344", "11234", "12234", "12334", "124", "134", "234", "12", "4", "34", "1238", "12348",
+                                         "12384", "81234", "12388", "128", "348", "8", "12358", "12368", "12378", "12389", "12385"};
+    char usual[] = "12348", *to = usual + 3;
     make_reference();
     for (uint64_t i = one_in(2) ? 0 : 1 + below(2); i != 0; i--) damage_call();
     if (one_in(100)) {
         ref.letters_len = GARUMBOTT_LONGEST + below(3);
         for (uint64_t i = 0; i < ref.letters_len; i++) letters[i] = letter();
     }
-    store(one_in(6) ? orders[below(sizeof orders / sizeof *orders)] : one_in(2) && ref.exceptions_len == 0 ? "123" : "1234");
+    if (one_in(2) || ref.exceptions_len != 0) *to++ = '4';
+    if (ref.end != GARUMBOTT_END_STOP) *to++ = '8';
+    *to = 0;
+    store(one_in(6) ? orders[below(sizeof orders / sizeof *orders)] : usual);
     for (uint64_t i = one_in(2) ? 0 : 1 + below(3); i != 0; i--) damage(form, &form_len, sizeof form);
     if (form_len >= 3 && one_in(10)) form[one_in(2) ? 2 : below(form_len)] += (uint8_t)(one_in(2) ? 1 : 255);
     if (one_in(10)) { /* bytes of any kind, mostly small */
         form_len = below(40);
-        for (uint64_t i = 0; i < form_len; i++) form[i] = one_in(4) ? (uint8_t)chance() : (uint8_t)below(6);
+        for (uint64_t i = 0; i < form_len; i++) form[i] = one_in(4) ? (uint8_t)chance() : (uint8_t)below(10);
     }
 }
 
-/* The form read in the plainest way: its refusal but for 1 to 6, or its parts. */
+/* The form read in the plainest way: its refusal but for 1 to 6 and 28, or its parts. */
 static struct garumbott_stored plain_stored(void)
 {
     struct garumbott_stored s = {0}, no = {0};
@@ -414,14 +438,16 @@ static struct garumbott_stored plain_stored(void)
     while (at < form_len && no.refusal == 0) {
         uint64_t tag = form[at], len = form_len - at < 3 ? UINT64_MAX : form[at + 1] * UINT64_C(256) + form[at + 2];
         const uint8_t *content = form + at + 3;
-        if (tag > 4 || tag <= last) no.refusal = 21;
+        if ((tag > 4 && tag != 8) || tag <= last) no.refusal = 21;
         else if (len > form_len || at + 3 + len > form_len) no.refusal = 20;
-        else if ((tag == 2 && len != 4) || (tag == 3 && len != 1) || (tag == 4 && len % 3 != 0)) no.refusal = 23;
+        else if ((tag == 2 && len != 4) || (tag == 3 && len != 1) || (tag == 4 && len % 3 != 0) || (tag == 8 && len != 1)) no.refusal = 23;
+        else if (tag == 8 && content[0] != 1 && content[0] != 2) no.refusal = 23;
         else if (tag == 1) s.letters_at = at + 3, s.letters_len = len;
         else if (tag == 2) s.cs = content[0] * UINT64_C(256) + content[1], s.ce = content[2] * UINT64_C(256) + content[3];
         else if (tag == 3) s.table = content[0];
-        else s.exceptions_at = at + 3, s.exceptions_len = len;
-        seen |= UINT64_C(1) << (tag & 7);
+        else if (tag == 4) s.exceptions_at = at + 3, s.exceptions_len = len;
+        else s.end = content[0];
+        seen |= UINT64_C(1) << (tag & 15);
         last = tag;
         at += 3 + len;
     }
@@ -429,15 +455,15 @@ static struct garumbott_stored plain_stored(void)
     return no.refusal == 0 ? s : no;
 }
 
-/* What garumbott_record says of the parts alone: 1 to 6, or 0. The edit changes nothing, and there is no room. */
+/* What garumbott_record says of the parts alone: 1 to 6 or 28, or 0. The edit changes nothing, and there is no room. */
 static uint64_t judged(const struct garumbott_stored *s, const uint8_t *data)
 {
     static const struct garumbott_coding_edit nothing = {.kind = GARUMBOTT_IDENTITY, .start = 1, .end = 1};
     static const struct garumbott_buffers none;
     struct garumbott_reference r = garumbott_reference_at(s, data);
     struct garumbott_answer a = garumbott_record_of(&r, &nothing, &none);
-    check(a.answer == GARUMBOTT_UNKNOWN || a.refusal == 11 || (a.refusal >= 1 && a.refusal <= 6), "garumbott_record on the parts");
-    return a.refusal <= 6 ? a.refusal : 0;
+    check(a.answer == GARUMBOTT_UNKNOWN || a.refusal == 11 || (a.refusal >= 1 && a.refusal <= 6) || a.refusal == 28, "garumbott_record on the parts");
+    return a.refusal == 11 ? 0 : a.refusal;
 }
 
 static void fuzz_stored(void)
@@ -451,10 +477,11 @@ static void fuzz_stored(void)
         got[side] = garumbott_read_stored(data, form_len);
         check(unchanged(STORED, data), "input changed");
         const struct garumbott_stored *g = &got[side], none = {.refusal = g->refusal};
-        check(g->refusal <= 6 || (g->refusal >= 20 && g->refusal <= 23), "refusal's number");
+        check(g->refusal <= 6 || (g->refusal >= 20 && g->refusal <= 23) || g->refusal == 28, "refusal's number");
         if (g->refusal != 0) check(memcmp(g, &none, sizeof none) == 0, "a refusal tells more");
         check(g->letters_at <= form_len && g->letters_len <= form_len - g->letters_at, "letters outside the bytes");
         check(g->exceptions_at <= form_len && g->exceptions_len <= form_len - g->exceptions_at, "exceptions outside the bytes");
+        check(g->end <= 2, "an end that should be refused");
         if (plain.refusal == 0) {
             uint64_t n = judged(&plain, data);
             if (n != 0) want = (struct garumbott_stored){.refusal = n};
@@ -463,7 +490,7 @@ static void fuzz_stored(void)
         check(memcmp(g, &want, sizeof want) == 0, "the form read plainly, judged by garumbott_record, says otherwise");
     }
     refusals[got[0].refusal]++;
-    if (got[0].refusal == 0) found++;
+    if (got[0].refusal == 0) found[got[0].end <= 2 ? got[0].end : 0]++;
 }
 
 /* ---- byte strings ------------------------------------------------------------------------------------------------------------------- */
@@ -578,7 +605,7 @@ int main(int argc, char **argv)
 {
     double seconds = argc > 1 ? strtod(argv[1], NULL) : 30;
     uint64_t seed = argc > 2 ? strtoull(argv[2], NULL, 10) : 1, calls = 0;
-    static const int wanted[] = {1, 2, 3, 4, 5, 6, 7, 8, 9, 10, 11, 12, 14, 15, 20, 21, 22, 23};
+    static const int wanted[] = {1, 2, 3, 4, 5, 6, 7, 8, 9, 10, 11, 12, 14, 15, 20, 21, 22, 23, 28};
     enum { LEAST = 10000 }; /* a slow machine too must meet every answer, class and refusal */
     time_t until = time(NULL) + (time_t)seconds;
     for (int i = 0; i < FENCES; i++) fence_make(&small[i], 4000), fence_make(&large[i], 40000);
@@ -591,7 +618,9 @@ int main(int argc, char **argv)
         }
     } while (time(NULL) < until || calls < LEAST);
     for (int i = 0; i < 5; i++) printf("answer %d: %lu\n", i, answers[i]), check(answers[i] != 0, "an answer never came up");
-    printf("stored references found: %lu\n", found), check(found != 0, "no stored reference was found");
+    for (int i = 0; i < 3; i++)
+        printf("end %d: %lu edits, %lu stored references\n", i, ends[i], found[i]), check(ends[i] != 0 && found[i] != 0, "an end never came up");
+    printf("R the beginning of A: %lu\n", begun), check(begun != 0, "R was never the beginning of A");
     for (int i = 1; i < 10; i++) printf("%s: %lu\n", garumbott_class_name((uint64_t)i), classes[i]), check(classes[i] != 0, "a class never came up");
     for (size_t i = 0; i < sizeof wanted / sizeof *wanted; i++) printf("refused %d: %lu\n", wanted[i], refusals[wanted[i]]), check(refusals[wanted[i]] != 0, "a refusal never came up");
     printf("%" PRIu64 " inputs, %lu checks, %lu failed\n", calls, checks, faults);

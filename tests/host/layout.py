@@ -1,5 +1,5 @@
 """Writes a C file that compiles only if include/garumbott.h says what the library is: each entry point's parameters and result, each result's
-fields, their places and sizes, and the numbers of kinds, classes, answers and refusals. The library's side is read from its sources, crates/garumbott,
+fields, their places and sizes, and the numbers of ends, kinds, classes, answers and refusals. The library's side is read from its sources, crates/garumbott,
 and from the definitions that its contracts cite, crates/rules/specs. With a list of symbols (the archive's, by nm) it also holds the exported names to the sources'.
 
     python3 tests/host/layout.py SYMBOLS > layout.c
@@ -102,9 +102,12 @@ wanted["REFUSED"] = 0 if re.search(r"^valuesOf \(Refused n\) = record \{ refusal
 limits = re.search(r"^limits = record \{ longest = (\d+); most = (\d+) \}", text(f"{SPECS}/Refusal.antt"), re.M)
 wanted["LONGEST"], wanted["MOST_BASES"] = int(limits.group(1)), int(limits.group(2))
 wanted["MOST_EXCEPTIONS"], wanted["EXCEPTION_BYTES"] = 16, 3
+reference = text(f"{SPECS}/Reference.antt")
+for end, name in (("atStop", "STOP"), ("noStop", "NO_STOP"), ("cutCodon", "CUT_CODON")):
+    wanted["END_" + name] = int(re.search(rf"^{end} = (\d+)$", reference, re.M).group(1))
 wanted |= {"TABLE_STANDARD": 0, "TABLE_SELENOCYSTEINE": 1, "TABLE_VERTEBRATE_MITOCHONDRIAL": 2}  # test.c translates by these
 wanted["TRANSCRIPT_ROOM"] = wanted["LONGEST"] + max(wanted["LONGEST"], wanted["MOST_BASES"])
-wanted["REFERENCE_ROOM"] = wanted["LONGEST"] // 3
+wanted["REFERENCE_ROOM"] = (wanted["LONGEST"] + 2) // 3
 wanted["ALTERED_ROOM"] = (wanted["TRANSCRIPT_ROOM"] + 2) // 3
 for name, n in sorted(wanted.items()):
     same(name, f"GARUMBOTT_{name}", str(n))

@@ -29,7 +29,11 @@ static const uint8_t *bytes(const char *s)
 /* ---- edits ------------------------------------------------------------------------------------------------------------------------- */
 
 enum { LETTERS, EXCEPTIONS, BASES, TRANSCRIPT, REFERENCE, ALTERED, STORED, FENCES };
-static struct fence fences[FENCES];
+static struct fence large[FENCES], small[FENCES], *fences = large;
+
+/* Room that is never too short: for every reference, and, in the small fences, for those of some letters. */
+static const size_t whole_room[3] = {GARUMBOTT_TRANSCRIPT_ROOM, GARUMBOTT_REFERENCE_ROOM, GARUMBOTT_ALTERED_ROOM}, small_room[3] = {40, 10, 20};
+static const size_t *plenty = whole_room;
 
 struct row {
     const char *name;
@@ -134,15 +138,16 @@ static void put_field(uint8_t **to, uint8_t tag, const void *content, size_t len
     *to += 3 + len;
 }
 
-/* The stored form of a reference whose numbers fit, and its length. No exceptions: no field for them. */
+/* The stored form of a reference whose numbers fit, and its length. No exceptions: no field for them; an end at a stop: none for it. */
 static size_t store(uint8_t *form, const struct garumbott_reference *r)
 {
     uint8_t *to = form;
-    uint8_t bounds[4] = {(uint8_t)(r->cs >> 8), (uint8_t)r->cs, (uint8_t)(r->ce >> 8), (uint8_t)r->ce}, table = (uint8_t)r->table;
+    uint8_t bounds[4] = {(uint8_t)(r->cs >> 8), (uint8_t)r->cs, (uint8_t)(r->ce >> 8), (uint8_t)r->ce}, table = (uint8_t)r->table, end = (uint8_t)r->end;
     put_field(&to, 1, r->letters, r->letters_len);
     put_field(&to, 2, bounds, 4);
     put_field(&to, 3, &table, 1);
     if (r->exceptions_len != 0) put_field(&to, 4, r->exceptions, r->exceptions_len);
+    if (r->end != 0) put_field(&to, 8, &end, 1);
     return (size_t)(to - form);
 }
 
@@ -151,23 +156,26 @@ static int same_stored(const struct garumbott_stored *a, const struct garumbott_
     return memcmp(a, b, sizeof *a) == 0;
 }
 
-/* An edit of a reference that is read from its stored form: refused there with 1 to 6, or answered as it is with the reference itself. */
+/* An edit of a reference that is read from its stored form: refused there with 1 to 6 or 28, or answered as it is with the reference itself. A number
+ * that no end has is wrong for its field. */
 static void edit_stored(const char *name, const struct garumbott_reference *reference, const struct garumbott_coding_edit *edit,
                         const struct garumbott_answer *want, const void *t, const void *r, const void *a)
 {
     static uint8_t form[66000];
-    if (reference->cs > 65535 || reference->ce > 65535 || reference->table > 255) return;
-    size_t len = store(form, reference), x = reference->exceptions_len, room[3] = {GARUMBOTT_TRANSCRIPT_ROOM, GARUMBOTT_REFERENCE_ROOM, GARUMBOTT_ALTERED_ROOM};
-    uint64_t refusal = x % 3 != 0 ? GARUMBOTT_REFUSAL_FIELD : want->refusal <= 6 ? want->refusal : 0;
+    if (reference->cs > 65535 || reference->ce > 65535 || reference->table > 255 || reference->end > 255) return;
+    size_t len = store(form, reference), x = reference->exceptions_len;
+    uint64_t refusal = x % 3 != 0 || reference->end > 2 ? GARUMBOTT_REFUSAL_FIELD : want->refusal <= 6 || want->refusal == GARUMBOTT_REFUSAL_END ? want->refusal : 0;
     for (int side = FENCE_END; side <= FENCE_START; side++) {
         const uint8_t *data = fence_fill(&fences[STORED], side, form, len);
         struct garumbott_stored got = garumbott_read_stored(data, len), no = {.refusal = refusal},
                                 good = {.cs = reference->cs, .ce = reference->ce, .table = reference->table, .letters_at = 3,
-                                        .letters_len = reference->letters_len, .exceptions_at = x == 0 ? 0 : len - x, .exceptions_len = x};
+                                        .letters_len = reference->letters_len, .exceptions_at = x == 0 ? 0 : reference->letters_len + 17, .exceptions_len = x,
+                                        .end = reference->end};
         check(same_stored(&got, refusal == 0 ? &good : &no), name, "read_stored's answer");
         struct garumbott_reference found = garumbott_reference_at(&got, data);
-        struct garumbott_buffers b = {fence_fill(&fences[TRANSCRIPT], side, NULL, room[0]), room[0], fence_fill(&fences[REFERENCE], side, NULL, room[1]),
-                                      room[1], fence_fill(&fences[ALTERED], side, NULL, room[2]), room[2]};
+        check(found.end == got.end, name, "the end that garumbott_reference_at carries");
+        struct garumbott_buffers b = {fence_fill(&fences[TRANSCRIPT], side, NULL, plenty[0]), plenty[0], fence_fill(&fences[REFERENCE], side, NULL, plenty[1]),
+                                      plenty[1], fence_fill(&fences[ALTERED], side, NULL, plenty[2]), plenty[2]};
         struct garumbott_answer one = {.refusal = 1}, answer = garumbott_record_of(&found, edit, &b);
         const struct garumbott_answer *w = refusal == 0 ? want : &one;
         check(same(&answer, w), name, "record's answer to the stored reference");
@@ -201,7 +209,6 @@ static void row_case(const struct row *x, const char *r)
     struct garumbott_answer w = wanted(x->line, x->flag, t, n, a), e = alone(&w);
     row_says(x, &w, t, n);
     size_t exact[3] = {t, n, garumbott_altered_room(t, x->reference->cs)};
-    size_t plenty[3] = {GARUMBOTT_TRANSCRIPT_ROOM, GARUMBOTT_REFERENCE_ROOM, GARUMBOTT_ALTERED_ROOM};
     edit_case(x->name, x->reference, &x->edit, plenty, &w, &e, x->transcript, r, x->altered);
     edit_case(x->name, x->reference, &x->edit, exact, &w, &e, x->transcript, r, x->altered);
     edit_stored(x->name, x->reference, &x->edit, &w, x->transcript, r, x->altered);
@@ -290,6 +297,16 @@ struct refusal {
     struct garumbott_coding_edit edit;
     uint64_t number;
 };
+
+/* Without room, with plenty, and of the stored reference. */
+static void refusal_case(const struct refusal *x)
+{
+    static const size_t none[3] = {0, 0, 0};
+    struct garumbott_answer w = {.refusal = x->number};
+    edit_case(x->name, &x->reference, &x->edit, none, &w, &w, "", "", "");
+    edit_case(x->name, &x->reference, &x->edit, plenty, &w, &w, "", "", "");
+    edit_stored(x->name, &x->reference, &x->edit, &w, "", "", "");
+}
 
 #define POSITIONS(ss, s, es, e) {.kind = GARUMBOTT_DELETION, .start_star = (ss), .start = (s), .end_star = (es), .end = (e)}
 #define WITH(...) {.letters = (const uint8_t *)"GGATGGCCAAATGGTAACCTGAC", .letters_len = 23, .cs = 3, .ce = 17, __VA_ARGS__}
@@ -386,23 +403,195 @@ static void refusals(void)
         {"bases in an identity", WITH(.table = 0), ONE_NEW(IDENTITY, 5, "A"), 10},
         {"10 before Unknown", WITH(.table = 0), {.kind = GARUMBOTT_DELINS, .start = 1, .end_star = 1, .end = 7}, 10},
     };
-    static const size_t rooms[2][3] = {{0, 0, 0}, {GARUMBOTT_TRANSCRIPT_ROOM, GARUMBOTT_REFERENCE_ROOM, GARUMBOTT_ALTERED_ROOM}};
+    for (size_t i = 0; i < sizeof all / sizeof *all; i++) refusal_case(&all[i]);
+}
+
+/* ---- how a CDS ends ---------------------------------------------------------------------------------------------------------------- */
+
+/* Letters that are a CDS from first to last. */
+#define ENDING(s, e, ...) {.letters = (const uint8_t *)(s), .letters_len = sizeof(s) - 1, .cs = 1, .ce = sizeof(s) - 1, .end = (e), __VA_ARGS__}
+
+static const struct garumbott_reference SIX = ENDING("ATGGCC", GARUMBOTT_END_NO_STOP, .table = 0);
+static const struct garumbott_reference SEVEN = ENDING("ATGGCCA", GARUMBOTT_END_CUT_CODON, .table = 0);
+static const struct garumbott_reference EIGHT = ENDING("ATGGCCTA", GARUMBOTT_END_CUT_CODON, .table = 0);
+static const struct garumbott_reference NINE = ENDING("ATGGCCAAA", GARUMBOTT_END_NO_STOP, .table = 0);
+static const struct garumbott_reference BEHIND_TWO = {.letters = (const uint8_t *)"TAATGGCCA", .letters_len = 9, .cs = 3, .ce = 9, .end = GARUMBOTT_END_CUT_CODON};
+static const struct garumbott_reference NO_LONGER_A_STOP = ENDING("ATGTAA", GARUMBOTT_END_NO_STOP, EXCEPTED("\0\2K"));
+static const struct garumbott_reference AMBIGUOUS = ENDING("ATGTRARA", GARUMBOTT_END_CUT_CODON, .table = 1);
+
+/* Edits of references that are cut short. */
+static void cut_rows(void)
+{
+    static const struct {
+        struct row row;
+        const char *r;
+    } all[] = {
+        /* X for the rest is a residue of R */
+        {{"1= of six", &SIX, ONE(IDENTITY, 1), "silent 1 M M", 0, "ATGGCC", "MA"}, "MA"},
+        {{"1= of seven", &SEVEN, ONE(IDENTITY, 1), "silent 1 M M", 0, "ATGGCCA", "MAX"}, "MAX"},
+        {{"7=", &SEVEN, ONE(IDENTITY, 7), "silent 3 X X", 0, "ATGGCCA", "MAX"}, "MAX"},
+        {{"7A>G", &SEVEN, ONE_NEW(SUBSTITUTION, 7, "G"), "silent 3 X X", 0, "ATGGCCG", "MAX"}, "MAX"},
+        {{"7dup", &SEVEN, ONE(DUPLICATION, 7), "silent 3 X X", 1, "ATGGCCAA", "MAX"}, "MAX"},
+        {{"7del", &SEVEN, ONE(DELETION, 7), "frameshift 3 X -", 1, "ATGGCC", "MA"}, "MAX"},
+        {{"6_7insAA", &SEVEN, TWO_NEW(INSERTION, 6, 7, "AA"), "frameshift 3 X K", 1, "ATGGCCAAA", "MAK"}, "MAX"},
+        {{"6_7insTA", &SEVEN, TWO_NEW(INSERTION, 6, 7, "TA"), "stop-gained 3 X *", 1, "ATGGCCTAA", "MA*"}, "MAX"},
+        {{"6_7insTAA", &SEVEN, TWO_NEW(INSERTION, 6, 7, "TAA"), "stop-gained 3 X *", 0, "ATGGCCTAAA", "MA*"}, "MAX"},
+        {{"6_7insAAA", &SEVEN, TWO_NEW(INSERTION, 6, 7, "AAA"), "insertion 3 - K", 0, "ATGGCCAAAA", "MAKX"}, "MAX"},
+        {{"4_6dup of seven", &SEVEN, TWO(DUPLICATION, 4, 6), "duplication 3 - A 2", 0, "ATGGCCGCCA", "MAAX"}, "MAX"},
+        {{"4_6del of seven", &SEVEN, TWO(DELETION, 4, 6), "deletion 2 A -", 0, "ATGA", "MX"}, "MAX"},
+        {{"1A>G of seven", &SEVEN, ONE_NEW(SUBSTITUTION, 1, "G"), "start-lost 1 M V", 0, "GTGGCCA", "VAX"}, "MAX"},
+        {{"1_7del", &SEVEN, TWO(DELETION, 1, 7), "no-protein", 1, "", ""}, "MAX"},
+        {{"1_7inv", &SEVEN, TWO(INVERSION, 1, 7), "start-lost 1 MA WP", 0, "TGGCCAT", "WPX"}, "MAX"},
+        {{"8A>T of eight", &EIGHT, ONE_NEW(SUBSTITUTION, 8, "T"), "silent 3 X X", 0, "ATGGCCTT", "MAX"}, "MAX"},
+        {{"8dup of eight", &EIGHT, ONE(DUPLICATION, 8), "stop-gained 3 X *", 1, "ATGGCCTAA", "MA*"}, "MAX"},
+        {{"1_8dup of eight", &EIGHT, TWO(DUPLICATION, 1, 8), "stop-gained 3 X *", 1, "ATGGCCTAATGGCCTA", "MA*"}, "MAX"},
+        /* bases before the CDS, a stop among them */
+        {{"-2_2del", &BEHIND_TWO, TWO(DELETION, -2, 2), "start-lost 1 MAX GX", 1, "TAGGCCA", "GX"}, "MAX"},
+        {{"-1_7=", &BEHIND_TWO, TWO(IDENTITY, -1, 7), "silent 1 M M", 0, "TAATGGCCA", "MAX"}, "MAX"},
+        /* R is the beginning of A: nothing is deleted, and R has no residue there */
+        {{"5_6insC", &SIX, TWO_NEW(INSERTION, 5, 6, "C"), "frameshift 3 - X", 1, "ATGGCCC", "MAX"}, "MA"},
+        {{"3_4insGCCTAA", &SIX, TWO_NEW(INSERTION, 3, 4, "GCCTAA"), "stop-gained 3 - *", 0, "ATGGCCTAAGCC", "MA*"}, "MA"},
+        {{"4_6dup", &SIX, TWO(DUPLICATION, 4, 6), "duplication 3 - A 2", 0, "ATGGCCGCC", "MAA"}, "MA"},
+        {{"6delinsCAAA", &SIX, ONE_NEW(DELINS, 6, "CAAA"), "insertion 3 - K", 0, "ATGGCCAAA", "MAK"}, "MA"},
+        {{"6delinsCTAA", &SIX, ONE_NEW(DELINS, 6, "CTAA"), "stop-gained 3 - *", 0, "ATGGCCTAA", "MA*"}, "MA"},
+        {{"4_6delinsGCCAA", &SIX, TWO_NEW(DELINS, 4, 6, "GCCAA"), "frameshift 3 - X", 1, "ATGGCCAA", "MAX"}, "MA"},
+        /* A is the beginning of R */
+        {{"7_9del of nine", &NINE, TWO(DELETION, 7, 9), "deletion 3 K -", 0, "ATGGCC", "MA"}, "MAK"},
+        {{"4G>T of nine", &NINE, ONE_NEW(SUBSTITUTION, 4, "T"), "substitution 2 A S", 0, "ATGTCCAAA", "MSK"}, "MAK"},
+        {{"7A>T of nine", &NINE, ONE_NEW(SUBSTITUTION, 7, "T"), "stop-gained 3 K *", 0, "ATGGCCTAA", "MA*"}, "MAK"},
+        {{"4_9delinsTAA of nine", &NINE, TWO_NEW(DELINS, 4, 9, "TAA"), "stop-gained 2 AK *", 0, "ATGTAA", "M*"}, "MAK"},
+        /* nothing lies behind the CDS */
+        {{"4_*1del", &SIX, STAR(DELETION, 4, 1), "unknown", 0, "", ""}, "MA"},
+        {{"1_*1=", &SEVEN, STAR(IDENTITY, 1, 1), "unknown", 0, "", ""}, "MAX"},
+        {{"6_*1insA", &SIX, STAR_NEW(INSERTION, 6, 1, "A"), "unknown", 0, "", ""}, "MA"},
+        {{"1_*1dup", &SIX, STAR(DUPLICATION, 1, 1), "refused 7", 0, "", ""}, "MA"},
+        {{"8del of seven", &SEVEN, ONE(DELETION, 8), "refused 7", 0, "", ""}, "MAX"},
+        /* a stop taken away by an exception, which goes where its codon changes */
+        {{"1= of a stop that is K", &NO_LONGER_A_STOP, ONE(IDENTITY, 1), "silent 1 M M", 0, "ATGTAA", "MK"}, "MK"},
+        {{"6A>G of a stop that is K", &NO_LONGER_A_STOP, ONE_NEW(SUBSTITUTION, 6, "G"), "stop-gained 2 K *", 0, "ATGTAG", "M*"}, "MK"},
+        {{"3_4insAAA of a stop that is K", &NO_LONGER_A_STOP, TWO_NEW(INSERTION, 3, 4, "AAA"), "duplication 3 - K 2", 0, "ATGAAATAA", "MKK"}, "MK"},
+        {{"5R>G, ambiguous", &AMBIGUOUS, ONE_NEW(SUBSTITUTION, 5, "G"), "substitution 2 X U", 0, "ATGTGARA", "MUX"}, "MXX"},
+        {{"5R>A, ambiguous", &AMBIGUOUS, ONE_NEW(SUBSTITUTION, 5, "A"), "stop-gained 2 XX *", 0, "ATGTAARA", "M*"}, "MXX"},
+    };
+    for (size_t i = 0; i < sizeof all / sizeof *all; i++) row_case(&all[i].row, all[i].r);
+}
+
+/* References by each of the ends 0 to 3: refused so, or 0 for R. */
+static void ends_fit(void)
+{
+    static const struct {
+        struct garumbott_reference reference;
+        uint64_t refusal[4];
+        const char *r;
+    } all[] = {
+        {ENDING("ATGTAA", 0, .table = 0), {0, 28, 3, 28}, "M*"},
+        {ENDING("ATGGCC", 0, .table = 0), {6, 0, 3, 28}, "MA"},
+        {ENDING("ATGGCCA", 0, .table = 0), {3, 3, 0, 3}, "MAX"},
+        {ENDING("ATGGCCTA", 0, .table = 0), {3, 3, 0, 3}, "MAX"},
+        {ENDING("ATGGCCTAA", 0, .table = 0), {0, 28, 3, 28}, "MA*"},
+        {ENDING("ATGGCCAAA", 0, .table = 0), {6, 0, 3, 28}, "MAK"},
+        /* the letters end with the CDS */
+        {REFERENCE_OF("ATGGCCC", 1, 6, 0, NULL, 0), {6, 28, 3, 28}, ""},
+        {REFERENCE_OF("ATGTAAC", 1, 6, 0, NULL, 0), {0, 28, 3, 28}, "M*"},
+        {REFERENCE_OF("ATGGCCAC", 1, 7, 0, NULL, 0), {3, 3, 28, 3}, ""},
+        {REFERENCE_OF("CATGGCC", 2, 7, 0, NULL, 0), {6, 0, 3, 28}, "MA"},
+        {REFERENCE_OF("TAATGGCCA", 3, 9, 0, NULL, 0), {3, 3, 0, 3}, "MAX"},
+        /* no stop anywhere in R */
+        {ENDING("ATGTAAGCC", 0, .table = 0), {6, 28, 3, 28}, ""},
+        {ENDING("TAAGCC", 0, .table = 0), {6, 28, 3, 28}, ""},
+        {ENDING("TAAGCCA", 0, .table = 0), {3, 3, 28, 3}, ""},
+        {ENDING("ATGTAAA", 0, .table = 0), {3, 3, 28, 3}, ""},
+        {ENDING("ATGTGA", 0, .table = 0), {0, 28, 3, 28}, "M*"},
+        {ENDING("ATGTGA", 0, .table = 1), {6, 0, 3, 28}, "MU"},
+        {ENDING("ATGTGA", 0, .table = 2), {6, 0, 3, 28}, "MW"},
+        {ENDING("ATGAGR", 0, .table = 0), {6, 0, 3, 28}, "MR"},
+        {ENDING("ATGAGR", 0, .table = 2), {0, 28, 3, 28}, "M*"},
+        {ENDING("ATGTRA", 0, .table = 0), {0, 28, 3, 28}, "M*"},
+        {ENDING("ATGTRA", 0, .table = 1), {6, 0, 3, 28}, "MX"},
+        /* exceptions applied, of whole codons only, and before 28 */
+        {ENDING("ATGTAA", 0, EXCEPTED("\0\2K")), {6, 0, 3, 28}, "MK"},
+        {ENDING("ATGTAAA", 0, EXCEPTED("\0\2K")), {3, 3, 0, 3}, "MKX"},
+        {ENDING("ATGGCC", 0, EXCEPTED("\0\2*")), {0, 28, 3, 28}, "M*"},
+        {ENDING("ATGGCCA", 0, EXCEPTED("\0\1*")), {3, 3, 28, 3}, ""},
+        {ENDING("ATGGCCA", 0, EXCEPTED("\0\2*")), {3, 3, 28, 3}, ""},
+        {ENDING("ATGGCC", 0, EXCEPTED("\0\3K")), {5, 5, 3, 5}, ""},
+        {ENDING("ATGGCCA", 0, EXCEPTED("\0\3K")), {3, 3, 5, 3}, ""},
+        {ENDING("ATGTAA", 0, EXCEPTED("\0\3K")), {5, 5, 3, 5}, ""},
+        {ENDING("ATGTAAA", 0, EXCEPTED("\0\3K")), {3, 3, 5, 3}, ""},
+        /* 1 to 4 before them */
+        {{.cs = 1, .ce = 6}, {1, 1, 1, 1}, ""},
+        {ENDING("ATGGCU", 0, .table = 0), {2, 2, 2, 2}, ""},
+        {ENDING("ATGGCCU", 0, .table = 0), {2, 2, 2, 2}, ""},
+        {ENDING("ATGGC", 0, .table = 0), {3, 3, 3, 3}, ""},
+        {ENDING("ATGG", 0, .table = 0), {3, 3, 3, 3}, ""},
+        {REFERENCE_OF("ATGGCC", 1, 7, 0, NULL, 0), {3, 3, 3, 3}, ""},
+        {ENDING("ATGGCC", 0, .table = 3), {4, 4, 3, 4}, ""},
+        {ENDING("ATGGCCA", 0, .table = 3), {3, 3, 4, 3}, ""},
+    };
+    static const uint64_t unknown[] = {4, 5, 8, 9, 127, 128, 129, 130, 254, 255, 256, 257, 258, 65536, 65537, 65538, UINT64_C(1) << 31, UINT64_C(1) << 32,
+                                       (UINT64_C(1) << 32) + 1, (UINT64_C(1) << 32) + 2, UINT64_C(1) << 63, (UINT64_C(1) << 63) + 1, (UINT64_C(1) << 63) + 2,
+                                       UINT64_MAX - 1, UINT64_MAX};
+    static const struct garumbott_coding_edit nothing = ONE(IDENTITY, 1), nowhere = ONE(IDENTITY, 0);
     for (size_t i = 0; i < sizeof all / sizeof *all; i++) {
-        struct garumbott_answer w = {.refusal = all[i].number};
-        for (int j = 0; j < 2; j++) edit_case(all[i].name, &all[i].reference, &all[i].edit, rooms[j], &w, &w, "", "", "");
-        edit_stored(all[i].name, &all[i].reference, &all[i].edit, &w, "", "", "");
+        for (size_t j = 0; j < 4 + sizeof unknown / sizeof *unknown; j++) {
+            char name[80], text[16];
+            struct refusal bad = {name, all[i].reference, nowhere, all[i].refusal[j < 3 ? j : 3]};
+            struct garumbott_reference *r = &bad.reference;
+            r->end = j < 4 ? j : unknown[j - 4];
+            snprintf(text, sizeof text, "%.*s", (int)r->letters_len, r->letters == NULL ? "" : (const char *)r->letters);
+            snprintf(name, sizeof name, "%s, ce %d, table %d, end %llu", text, (int)r->ce, (int)r->table, (unsigned long long)r->end);
+            struct row good = {name, r, nothing, "silent 1 M M", 0, text, all[i].r};
+            if (bad.number == 0) row_case(&good, all[i].r);
+            if (bad.number == 0) bad.number = GARUMBOTT_REFUSAL_POSITION;
+            refusal_case(&bad);
+        }
     }
+}
+
+/* The room for R is a third of the CDS, rounded up, whatever its end; and 28 stands in 6's place, before the edit's own faults and before 11. */
+static void ends(void)
+{
+    static const uint64_t room[] = {1, 1, 1, 2, 2, 2, 3, 3, 3, 4};
+    for (uint64_t n = 1; n <= 10; n++) {
+        check(garumbott_reference_room(1, n) == room[n - 1], "reference_room", "a CDS from base 1");
+        check(garumbott_reference_room(16385 - n, 16384) == room[n - 1], "reference_room", "a CDS to the last base");
+    }
+    check(garumbott_reference_room(2, 1) == 0 && garumbott_reference_room(UINT64_MAX, 0) == 0, "reference_room", "ce before cs");
+    check(garumbott_reference_room(1, UINT64_MAX) == UINT64_MAX / 3 && garumbott_reference_room(0, UINT64_MAX) == UINT64_MAX / 3 + 1, "reference_room", "2^64-1");
+    fences = small;
+    plenty = small_room;
+    cut_rows();
+    ends_fit();
+    static const struct refusal all[] = {
+        {"28 before 7", ENDING("ATGTAA", 1, .table = 0), ONE(DELETION, 0), 28},
+        {"28 before 8", ENDING("ATGTAA", 1, .table = 0), TWO(DELETION, 3, 2), 28},
+        {"28 before 10", ENDING("ATGTAA", 3, .table = 0), {.kind = 99, .start = 1, .end = 1}, 28},
+        {"28 before Unknown", ENDING("ATGTAA", 1, .table = 0), STAR(DELETION, 1, 1), 28},
+        {"28, and two stops", ENDING("ATGTAATAA", 1, .table = 0), ONE(IDENTITY, 1), 28},
+        {"7 of a cut codon", ENDING("ATGGCCA", 2, .table = 0), ONE(DELETION, 8), 7},
+        {"8 of a cut codon", ENDING("ATGGCCA", 2, .table = 0), TWO(DELETION, 7, 6), 8},
+        {"9 of a cut codon", ENDING("ATGGCCA", 2, .table = 0), POSITIONS(1, 1, 1, 1), 9},
+        {"10 of a cut codon", ENDING("ATGGCCA", 2, .table = 0), ONE_NEW(SUBSTITUTION, 7, "U"), 10},
+        {"10 before Unknown of a cut codon", ENDING("ATGGCCA", 2, .table = 0), {.kind = GARUMBOTT_DELINS, .start = 1, .end_star = 1, .end = 1}, 10},
+    };
+    for (size_t i = 0; i < sizeof all / sizeof *all; i++) refusal_case(&all[i]);
+    fences = large;
+    plenty = whole_room;
 }
 
 /* ---- limits ------------------------------------------------------------------------------------------------------------------------ */
 
-static uint8_t longest[GARUMBOTT_LONGEST + 1], doubled[2 * GARUMBOTT_LONGEST], protein[GARUMBOTT_REFERENCE_ROOM], inserted[GARUMBOTT_LONGEST + GARUMBOTT_MOST_BASES];
+enum { LONGEST_CODONS = GARUMBOTT_LONGEST / 3 };
+static uint8_t longest[GARUMBOTT_LONGEST + 1], doubled[2 * GARUMBOTT_LONGEST], protein[LONGEST_CODONS], inserted[GARUMBOTT_LONGEST + GARUMBOTT_MOST_BASES];
+static uint8_t endless[GARUMBOTT_LONGEST];
 
-/* ATG GCC .. GCC TAA A: 16,384 letters, a CDS of 5,461 codons. */
+/* ATG GCC .. GCC TAA A: 16,384 letters, a CDS of 5,461 codons. And ATG GCN GCC .. GCC G, which ends in a cut codon. */
 static void make_longest(void)
 {
     for (size_t i = 0; i < GARUMBOTT_LONGEST + 1; i++) longest[i] = (uint8_t) "GCC"[i % 3];
     memcpy(longest, "ATG", 3);
+    memcpy(endless, longest, GARUMBOTT_LONGEST);
+    endless[5] = 'N';
     memcpy(longest + 16380, "TAAA", 4);
     memcpy(doubled, longest, GARUMBOTT_LONGEST);
     memcpy(doubled + GARUMBOTT_LONGEST, longest, GARUMBOTT_LONGEST);
@@ -417,9 +606,58 @@ static struct garumbott_reference longest_reference(void)
     return r;
 }
 
+static struct garumbott_reference endless_reference(void)
+{
+    struct garumbott_reference r = {.letters = endless, .letters_len = GARUMBOTT_LONGEST, .cs = 1, .ce = GARUMBOTT_LONGEST, .end = GARUMBOTT_END_CUT_CODON};
+    return r;
+}
+
+/* The longest R, which fills GARUMBOTT_REFERENCE_ROOM: M, 5,460 of A, and X. All letters copied give D, G, R .. R and X behind them. */
+static void cut_limits(void)
+{
+    static uint8_t copied[2 * GARUMBOTT_LONGEST], r[GARUMBOTT_REFERENCE_ROOM], a[GARUMBOTT_ALTERED_ROOM];
+    struct garumbott_reference cut = endless_reference();
+    struct garumbott_coding_edit copy = TWO(DUPLICATION, 1, GARUMBOTT_LONGEST), nothing = ONE(IDENTITY, GARUMBOTT_LONGEST);
+    struct garumbott_answer w = {.answer = GARUMBOTT_CHANGED, .frameshift = 1, .transcript_len = 32768, .reference_len = 5462, .altered_len = 10923,
+                                 .change = GARUMBOTT_CHANGE_FRAMESHIFT, .number = 5462, .deleted_at = 5461, .deleted_len = 1, .inserted_at = 5461, .inserted_len = 5462},
+                            e = alone(&w), same_again = {.answer = GARUMBOTT_SILENT, .transcript_len = GARUMBOTT_LONGEST, .reference_len = 5462, .altered_len = 5462,
+                                                         .number = 5462, .deleted_at = 5461, .deleted_len = 1, .inserted_at = 5461, .inserted_len = 1},
+                            same_alone = alone(&same_again), twelve = {.refusal = GARUMBOTT_REFUSAL_PROTEIN_ROOM};
+    memcpy(copied, endless, GARUMBOTT_LONGEST);
+    memcpy(copied + GARUMBOTT_LONGEST, endless, GARUMBOTT_LONGEST);
+    memset(r, 'A', sizeof r);
+    r[0] = 'M';
+    r[5461] = 'X';
+    memset(a, 'R', sizeof a);
+    memcpy(a, r, 5461);
+    a[5461] = 'D';
+    a[5462] = 'G';
+    a[5463] = 'X'; /* NGC */
+    a[10922] = 'X';
+    check(garumbott_reference_room(1, GARUMBOTT_LONGEST) == GARUMBOTT_REFERENCE_ROOM, "reference_room", "longest");
+    edit_case("16,384 letters and a cut codon, all of them copied", &cut, &copy, plenty, &w, &e, copied, r, a);
+    edit_stored("16,384 letters and a cut codon, all of them copied", &cut, &copy, &w, copied, r, a);
+    edit_case("16,384 letters and a cut codon", &cut, &nothing, plenty, &same_again, &same_alone, endless, r, r);
+    for (int i = 1; i < 3; i++) {
+        size_t less[3] = {plenty[0], plenty[1], plenty[2]};
+        less[i]--;
+        edit_case("a residue too little for a cut codon", &cut, &copy, less, &twelve, &e, copied, r, a);
+    }
+    /* a stop in the middle, and one that only the cut codon begins */
+    struct garumbott_answer no = {.refusal = GARUMBOTT_REFUSAL_END};
+    memcpy(endless + 9000, "TAA", 3);
+    edit_case("a stop far within", &cut, &nothing, plenty, &no, &no, "", "", "");
+    edit_stored("a stop far within", &cut, &nothing, &no, "", "", "");
+    memcpy(endless + 9000, "GCC", 3);
+    memcpy(endless + 16381, "TAA", 3);
+    r[5460] = 'V';
+    edit_case("a stop across the cut", &cut, &nothing, plenty, &same_again, &same_alone, endless, r, r);
+    memcpy(endless + 16381, "CCG", 3);
+}
+
 static void limits(void)
 {
-    static const size_t rooms[3] = {GARUMBOTT_TRANSCRIPT_ROOM, GARUMBOTT_REFERENCE_ROOM, GARUMBOTT_ALTERED_ROOM};
+    const size_t *const rooms = whole_room;
     struct garumbott_reference r = longest_reference();
     struct garumbott_answer w = {.answer = GARUMBOTT_SILENT, .frameshift = 1, .transcript_len = 32768, .reference_len = 5461, .altered_len = 5461,
                                  .number = 1, .deleted_len = 1, .inserted_len = 1},
@@ -430,10 +668,10 @@ static void limits(void)
     edit_case("16,384 letters, all of them copied", &r, &copy, rooms, &w, &e, doubled, protein, protein);
     edit_stored("16,384 letters, all of them copied", &r, &copy, &w, doubled, protein, protein);
     check(garumbott_transcript_room(GARUMBOTT_LONGEST, GARUMBOTT_DUPLICATION, 0) == GARUMBOTT_TRANSCRIPT_ROOM, "transcript_room", "longest");
-    check(garumbott_reference_room(1, 16383) == GARUMBOTT_REFERENCE_ROOM, "reference_room", "longest");
+    check(garumbott_reference_room(1, 16383) == LONGEST_CODONS, "reference_room", "longest");
     check(garumbott_altered_room(32768, 1) == GARUMBOTT_ALTERED_ROOM, "altered_room", "longest");
     for (int i = 0; i < 3; i++) {
-        size_t less[3] = {rooms[0], rooms[1], rooms[2]};
+        size_t less[3] = {rooms[0], LONGEST_CODONS, rooms[2]};
         less[i]--;
         struct garumbott_answer no = {.refusal = i == 0 ? 11 : 12}, still = i == 0 ? no : e;
         edit_case("a byte too little for the longest", &r, &copy, less, &no, &still, doubled, protein, protein);
@@ -463,7 +701,7 @@ static void limits(void)
     edit_case("4,097 new bases", &r, &in, rooms, &ten, &ten, "", "", "");
 
     /* sixteen exceptions, of codons 2 to 17 */
-    uint8_t sixteen[48], excepted[GARUMBOTT_REFERENCE_ROOM];
+    uint8_t sixteen[48], excepted[LONGEST_CODONS];
     memcpy(excepted, protein, sizeof protein);
     for (uint8_t i = 0; i < 16; i++) {
         sixteen[3 * i] = 0;
@@ -485,6 +723,10 @@ static void limits(void)
 #define BOUNDS_FIELD "\2\0\4\0\3\0\21"
 #define TABLE_FIELD "\3\0\1\0"
 #define ALL_FIELDS LETTERS_FIELD BOUNDS_FIELD TABLE_FIELD
+#define SIX_FIELDS "\1\0\6ATGGCC" "\2\0\4\0\1\0\6" TABLE_FIELD
+#define SEVEN_FIELDS "\1\0\7ATGGCCA" "\2\0\4\0\1\0\7" TABLE_FIELD
+#define NO_STOP_FIELD "\10\0\1\1"
+#define CUT_CODON_FIELD "\10\0\1\2"
 
 static void stored_case(const char *name, const void *data, size_t len, const struct garumbott_stored *want)
 {
@@ -599,9 +841,113 @@ static void stored_refusals(void)
         S("no stop", "\1\0\6ATGAAA" "\2\0\4\0\1\0\6" TABLE_FIELD, 6),
         S("stop away by exception", ALL_FIELDS "\4\0\3\0\5W", 6),
         S("TGA in table 1", "\1\0\6ATGTGA" "\2\0\4\0\1\0\6" "\3\0\1\1", 6),
+        /* tag 8: cut off */
+        S("tag 8 alone", "\10", 20),
+        S("a last byte 8", SIX_FIELDS "\10", 20),
+        S("two bytes of tag 8", SIX_FIELDS "\10\0", 20),
+        S("tag 8 of one byte, none left", SIX_FIELDS "\10\0\1", 20),
+        S("tag 8 of two bytes, one left", SIX_FIELDS "\10\0\2\1", 20),
+        S("tag 8's length low byte first", SIX_FIELDS "\10\1\0\1", 20),
+        /* its length and its content */
+        S("tag 8 of no byte", SIX_FIELDS "\10\0\0", 23),
+        S("tag 8 of two bytes", SIX_FIELDS "\10\0\2\1\1", 23),
+        S("tag 8 of two bytes, high byte 0", SIX_FIELDS "\10\0\2\0\1", 23),
+        S("tag 8 of three bytes", SIX_FIELDS "\10\0\3\1\1\1", 23),
+        S("tag 8 is 0 where there is a stop", ALL_FIELDS "\10\0\1\0", 23),
+        S("tag 8 is 3, empty letters", "\1\0\0" BOUNDS_FIELD TABLE_FIELD "\10\0\1\3", 23),
+        S("tag 8 is 0, no table", LETTERS_FIELD BOUNDS_FIELD "\10\0\1\0", 23),
+        S("tag 8 is 0, then 21", SIX_FIELDS "\10\0\1\0" "\10", 23),
+        /* its place */
+        S("tag 8 twice", SIX_FIELDS NO_STOP_FIELD NO_STOP_FIELD, 21),
+        S("tag 8 twice, the second 0", SIX_FIELDS NO_STOP_FIELD "\10\0\1\0", 21),
+        S("tag 4 behind tag 8", SIX_FIELDS NO_STOP_FIELD "\4\0\0", 21),
+        S("tag 8 first", NO_STOP_FIELD SIX_FIELDS, 21),
+        S("tag 8 before table", "\1\0\6ATGGCC" "\2\0\4\0\1\0\6" NO_STOP_FIELD TABLE_FIELD, 21),
+        S("tag 5 behind table", SIX_FIELDS "\5\0\1\1", 21),
+        S("tag 6 behind table", SIX_FIELDS "\6\0\1\1", 21),
+        S("tag 7 behind table", SIX_FIELDS "\7\0\1\1", 21),
+        S("tag 9 behind table", SIX_FIELDS "\11\0\1\1", 21),
+        S("tag 5 before tag 8", SIX_FIELDS "\5\0\0" NO_STOP_FIELD, 21),
+        S("tag 6 before tag 8", SIX_FIELDS "\6\0\0" NO_STOP_FIELD, 21),
+        S("tag 7 before tag 8", SIX_FIELDS "\7\0\0" NO_STOP_FIELD, 21),
+        S("tag 9 behind tag 8", SIX_FIELDS NO_STOP_FIELD "\11\0\0", 21),
+        S("tag 5, ATGTAA", "\1\0\6ATGTAA" "\2\0\4\0\1\0\6" TABLE_FIELD "\5\0\0", 21),
+        S("a zero byte behind tag 8", SIX_FIELDS NO_STOP_FIELD "\0", 21),
+        /* behind 22, and by the end */
+        S("tag 8, nothing else", NO_STOP_FIELD, 22),
+        S("tag 8, no letters", BOUNDS_FIELD TABLE_FIELD NO_STOP_FIELD, 22),
+        S("tag 8, no bounds", LETTERS_FIELD TABLE_FIELD NO_STOP_FIELD, 22),
+        S("tag 8, no table", LETTERS_FIELD BOUNDS_FIELD NO_STOP_FIELD, 22),
+        S("tag 8, empty letters", "\1\0\0" BOUNDS_FIELD TABLE_FIELD NO_STOP_FIELD, 1),
+        S("tag 8, a letter U", "\1\0\6ATGUCC" "\2\0\4\0\1\0\6" TABLE_FIELD NO_STOP_FIELD, 2),
+        S("whole codons, tag 8 is 2", SIX_FIELDS CUT_CODON_FIELD, 3),
+        S("a cut codon, tag 8 is 1", SEVEN_FIELDS NO_STOP_FIELD, 3),
+        S("a cut codon, no tag 8", SEVEN_FIELDS, 3),
+        S("five bases, tag 8 is 2", "\1\0\5ATGGC" "\2\0\4\0\1\0\5" TABLE_FIELD CUT_CODON_FIELD, 3),
+        S("table 3, tag 8", "\1\0\6ATGTAA" "\2\0\4\0\1\0\6" "\3\0\1\3" NO_STOP_FIELD, 4),
+        S("an exception of the cut codon", SEVEN_FIELDS "\4\0\3\0\3K" CUT_CODON_FIELD, 5),
+        S("an exception of codon 3 of 2, two stops", "\1\0\6TAATAA" "\2\0\4\0\1\0\6" TABLE_FIELD "\4\0\3\0\3K" NO_STOP_FIELD, 5),
+        S("no stop, no tag 8", SIX_FIELDS, 6),
+        S("no stop, an empty tag 4, no tag 8", SIX_FIELDS "\4\0\0", 6),
+        S("a stop, tag 8", "\1\0\6ATGTAA" "\2\0\4\0\1\0\6" TABLE_FIELD NO_STOP_FIELD, 28),
+        S("a stop by exception, tag 8", SIX_FIELDS "\4\0\3\0\2*" NO_STOP_FIELD, 28),
+        S("a stop within, tag 8 is 2", "\1\0\7ATGTAAC" "\2\0\4\0\1\0\7" TABLE_FIELD CUT_CODON_FIELD, 28),
+        S("letters behind the CDS, tag 8", ALL_FIELDS NO_STOP_FIELD, 28),
+        S("letters behind a cut codon", "\1\0\10ATGGCCAA" "\2\0\4\0\1\0\7" TABLE_FIELD CUT_CODON_FIELD, 28),
     };
 #undef S
     for (size_t i = 0; i < sizeof all / sizeof *all; i++) stored_refused(all[i].name, all[i].data, all[i].len, all[i].refusal);
+}
+
+/* Forms with tag 8 that are read. */
+static void stored_ends(void)
+{
+    static const char six[] = SIX_FIELDS NO_STOP_FIELD, empty[] = SIX_FIELDS "\4\0\0" NO_STOP_FIELD, seven[] = SEVEN_FIELDS CUT_CODON_FIELD,
+                      excepted[] = "\1\0\7ATGTAAC" "\2\0\4\0\1\0\7" TABLE_FIELD "\4\0\6\0\1U\0\2K" CUT_CODON_FIELD;
+    static const struct garumbott_stored no_stop = {.cs = 1, .ce = 6, .letters_at = 3, .letters_len = 6, .end = GARUMBOTT_END_NO_STOP},
+                                         cut_codon = {.cs = 1, .ce = 7, .letters_at = 3, .letters_len = 7, .end = GARUMBOTT_END_CUT_CODON};
+    struct garumbott_stored no_exceptions = no_stop, two = cut_codon;
+    no_exceptions.exceptions_at = 23;
+    two.exceptions_at = 24;
+    two.exceptions_len = 6;
+    stored_case("tag 8 is 1", six, sizeof six - 1, &no_stop);
+    stored_case("tag 8 is 1, behind an empty tag 4", empty, sizeof empty - 1, &no_exceptions);
+    stored_case("tag 8 is 2", seven, sizeof seven - 1, &cut_codon);
+    stored_case("tag 8 is 2, behind two exceptions", excepted, sizeof excepted - 1, &two);
+
+    /* what is read is what garumbott_record_of takes */
+    struct garumbott_stored got = garumbott_read_stored(bytes(excepted), sizeof excepted - 1);
+    struct garumbott_reference r = garumbott_reference_at(&got, bytes(excepted));
+    struct garumbott_coding_edit edit = ONE_NEW(SUBSTITUTION, 7, "G");
+    uint8_t t[7], p[3], a[3];
+    struct garumbott_buffers b = {t, sizeof t, p, sizeof p, a, sizeof a};
+    struct garumbott_answer want = {.answer = GARUMBOTT_SILENT, .transcript_len = 7, .reference_len = 3, .altered_len = 3, .number = 3, .deleted_at = 2,
+                                    .deleted_len = 1, .inserted_at = 2, .inserted_len = 1},
+                            answer = garumbott_record_of(&r, &edit, &b);
+    check(r.end == 2 && same(&answer, &want) && memcmp(t, "ATGTAAG", 7) == 0 && memcmp(p, "UKX", 3) == 0 && memcmp(a, "UKX", 3) == 0, "tag 8", "garumbott_reference_at");
+
+    /* cut behind each byte: without the last field it's the stop that is missing, or whole codons */
+    for (size_t n = 0; n < sizeof empty - 1; n++)
+        stored_refused("tag 8 cut", empty, n, n == 0 || n == 9 || n == 16 ? 22 : n == 20 || n == 23 ? 6 : 20);
+    for (size_t n = 0; n < sizeof excepted - 1; n++)
+        stored_refused("tag 8 cut", excepted, n, n == 0 || n == 10 || n == 17 ? 22 : n == 21 || n == 30 ? 3 : 20);
+
+    /* every content, and every tag in its place */
+    for (int i = 0; i < 256; i++) {
+        char name[32], form[sizeof six], other[sizeof seven];
+        snprintf(name, sizeof name, "tag 8 is %d", i);
+        memcpy(form, six, sizeof six);
+        memcpy(other, seven, sizeof seven);
+        form[sizeof six - 2] = other[sizeof seven - 2] = (char)i;
+        if (i == 1) stored_case(name, form, sizeof form - 1, &no_stop);
+        else stored_refused(name, form, sizeof form - 1, i == 2 ? 3 : 23);
+        if (i == 2) stored_case(name, other, sizeof other - 1, &cut_codon);
+        else stored_refused(name, other, sizeof other - 1, i == 1 ? 3 : 23);
+        snprintf(name, sizeof name, "tag %d for 8", i);
+        memcpy(form, six, sizeof six);
+        form[sizeof six - 5] = (char)i;
+        if (i != 8) stored_refused(name, form, sizeof form - 1, i == 4 ? 23 : 21);
+    }
 }
 
 static void stored(void)
@@ -610,7 +956,10 @@ static void stored(void)
     static const struct garumbott_stored good = {.cs = 3, .ce = 17, .letters_at = 3, .letters_len = 23};
     struct garumbott_stored got = garumbott_read_stored(NULL, 0), none = {.refusal = 22}, want = good;
     check(same_stored(&got, &none), "NULL stored", "read_stored's answer");
+    fences = small;
     stored_refusals();
+    stored_ends();
+    fences = large;
     stored_case("the example", plain, sizeof plain - 1, &good);
     want.exceptions_at = 40;
     stored_case("an empty tag 4", empty, sizeof empty - 1, &want);
@@ -631,10 +980,10 @@ static void stored(void)
         snprintf(name, sizeof name, "tag %d", tag);
         memcpy(form, excepted, sizeof form);
         form[0] = (char)tag;
-        if (tag != 1) stored_refused(name, form, sizeof form - 1, tag > 1 && tag < 5 ? 23 : 21);
+        if (tag != 1) stored_refused(name, form, sizeof form - 1, (tag > 1 && tag < 5) || tag == 8 ? 23 : 21);
         form[0] = 1;
         form[37] = (char)tag;
-        if (tag != 4) stored_refused(name, form, sizeof form - 1, 21);
+        if (tag != 4) stored_refused(name, form, sizeof form - 1, tag == 8 ? 23 : 21);
     }
 
     /* lengths: sixteen and seventeen exceptions, 16,384 letters, one more, and as many as a length can say */
@@ -836,6 +1185,8 @@ static void text(void)
         {"a last line without a line feed", "ref 1 6 0 ATGTAA\n1=", "reference M*\nsilent 1 M M\n"},
         {"empty lines", "ref 1 6 0 ATGTAA\n\n\n1=\n", "reference M*\nrefused 30\nrefused 30\nsilent 1 M M\n"},
         {"a refused first line", "ref 1 6 3 ATGTAA\n1=\n", "refused 4\n"},
+        {"no end can be stated: no stop", "ref 1 6 0 ATGGCC\n1=\n", "refused 6\n"},
+        {"no end can be stated: a cut codon", "ref 1 7 0 ATGGCCA\n1=\n", "refused 3\n"},
         {"no first line", "1=\n1=\n", "refused 30\n"},
         {"another base named", "ref 3 17 0 GGATGGCCAAATGGTAACCTGAC\n8T>G\n8Z>G\n", "reference MAKW*\nsubstitution 3 K R\nsubstitution 3 K R\n"},
         {"carriage returns", "ref 1 6 0 ATGTAA\n1=\r\n1=\n", "reference M*\nrefused 30\nsilent 1 M M\n"},
@@ -924,16 +1275,18 @@ static void *call_nothing(void *given)
 static void *call_record(void *given)
 {
     struct garumbott_buffers b = {on_t, sizeof on_t, on_r, sizeof on_r, on_a, sizeof on_a};
-    struct garumbott_reference r = longest_reference();
+    struct garumbott_reference r = longest_reference(), cut = endless_reference();
     garumbott_record_of(&r, given, &b);
+    garumbott_record_of(&cut, given, &b);
     return NULL;
 }
 
 static void *call_edit(void *given)
 {
     struct garumbott_buffers b = {on_t, sizeof on_t, on_r, sizeof on_r, on_a, sizeof on_a};
-    struct garumbott_reference r = longest_reference();
+    struct garumbott_reference r = longest_reference(), cut = endless_reference();
     garumbott_edit_of(&r, given, &b);
+    garumbott_edit_of(&cut, given, &b);
     return NULL;
 }
 
@@ -943,6 +1296,10 @@ static void *call_stored(void *given)
     struct garumbott_reference r = longest_reference();
     r.exceptions = bytes("\0\2U");
     r.exceptions_len = 3;
+    garumbott_read_stored(form, store(form, &r));
+    r.letters = endless;
+    r.ce = GARUMBOTT_LONGEST;
+    r.end = GARUMBOTT_END_CUT_CODON;
     garumbott_read_stored(form, store(form, &r));
     return given;
 }
@@ -1014,11 +1371,13 @@ static void stack(void)
 int main(int argc, char **argv)
 {
     (void)argv;
-    for (int i = 0; i < FENCES; i++) fence_make(&fences[i], i == STORED ? 66000 : 40960);
+    for (int i = 0; i < FENCES; i++) fence_make(&large[i], i == STORED ? 66000 : 40960), fence_make(&small[i], 256);
     make_longest();
     rows();
     refusals();
+    ends();
     limits();
+    cut_limits();
     stored();
     text();
     nulls();

@@ -2,8 +2,9 @@
 
     words | python3 tests/host/words.py
 
-Refusals: document 01's table, by its rows in docs/RULES.md. Exactly its numbers have words, no two the same, and the words of a number have every word and
-every number of its row. Where the row points to another sentence (POINTS), they have those of that sentence, which docs/RULES.md must quote.
+Refusals: document 01's table and what document 02 adds to it, by their rows in docs/RULES.md. Exactly these numbers have words, no two the same, and the words
+of a number have every word and every number of its rows. Where a row points to another sentence, or another sentence amends it (POINTS), they have those of that
+sentence, which docs/RULES.md must quote.
 Names of classes and answers: what the definitions print, crates/rules/specs.
 """
 import re
@@ -20,9 +21,19 @@ POINTS = [
     (14, "as above", "With full codons demanded, such a length is refused (14)"),
     (14, "", "one or two bytes remain"),
     (15, "as above", "an unknown name or a length not divisible by three"),
+    # document 02, E8
+    (3, "", "a cut codon needs a length not divisible by 3"),
+    (5, "", "Exceptions number whole codons only"),
+    (6, "", "only for ends at a stop"),
+    (12, "", "CDS/3 rounded up"),
+    (23, "", "a tag 8 content other than 1 or 2"),
+    (28, "doesn't fit the letters", "The last two need ce = L and no `*` in R"),
 ]
 # what the header says otherwise
-OWN = {"L is": "length is", "ce <= L": "ce <= length", "has place L or more": "is behind the transcript", "is refused (14)": ""}
+OWN = {"L is": "length is", "ce <= L": "ce <= length", "has place L or more": "is behind the transcript", "is refused (14)": "",
+       "needs a length not": "not", "the CDS still has at least 6 bases": "at least 6", "an unknown end keeps the old rule": "", "codons only": "codons",
+       "only for ends": "ends", "other than": "not", "in 6's place for the new ends": "", "The last two need ce = L": "cut short: ce not the last base",
+       "no `*` in R": "a codon reads *"}
 SMALL = set("a an the is are of or and in it its has whose also if with such each takes".split())
 
 faults = []
@@ -49,10 +60,12 @@ for line in sys.stdin.read().splitlines():
     said.setdefault(function.removeprefix("garumbott_"), {})[number] = words
 
 rules = text("docs/RULES.md")
-rows = {int(n): row for n, row in re.findall(r'^\| (\d+): "(.*?)" \|', rules, re.M)}
+rows = {}
+for n, row in re.findall(r'^\| (\d+): "(.*?)" \|', rules, re.M):
+    rows[int(n)] = f"{rows[int(n)]}; {row}" if int(n) in rows else row
 refusals = said["refusal_words"]
 other, none = refusals.pop("?"), refusals.pop("0", None)
-if len(rows) < 19 or {str(n) for n in rows} != set(refusals):
+if len(rows) < 20 or {str(n) for n in rows} != set(refusals):
     faults.append(f"the refusals with words and those of docs/RULES.md differ in {sorted(set(refusals) ^ {str(n) for n in rows})}")
 if none is None or len({other, none, *refusals.values()}) != 2 + len(refusals):
     faults.append("two refusals, or none and one, have the same words")

@@ -23,6 +23,9 @@ struct oracle_reference *oracle_reference_new(const uint8_t *letters, uint64_t l
 void oracle_reference_free(struct oracle_reference *);
 int64_t oracle_reference_protein(const struct oracle_reference *, uint8_t *out, uint64_t room);
 
+/* The end that the Rust finds in the letters, CdsEnd: 0 StopCodon, 1 NoStopCodon, 2 IncompleteCodon. It can't be told one. */
+uint64_t oracle_reference_end(const struct oracle_reference *);
+
 /* An edit. Kinds: 1 substitution, 2 deletion, 3 delins, 4 insertion, 5 duplication, 6 inversion, 7 identity; a star is 0 or 1. */
 struct oracle_edit *oracle_edit_new(uint64_t kind, uint64_t start_star, int64_t start, uint64_t end_star, int64_t end,
                                     const uint8_t *bases, uint64_t bases_len);
@@ -37,6 +40,10 @@ struct oracle_answer {
     int64_t moved_len;       /* moved exceptions, three bytes each as above */
     int64_t number;          /* the record's; 0 where there is none */
     int64_t deleted_len, inserted_len;
+    int64_t uncut_len;       /* of the altered protein before first_stop cuts it */
+    uint64_t form;           /* the protein variant's kind: 1 to 9 as the module numbers its classes, 10 nothing changes, 11 no protein, 12 unknown ("p.?"),
+                                0 where the Rust gives an error */
+    int64_t first;           /* a duplication's first residue, else 0 */
 };
 
 /* build_altseq_in for an edit in the CDS, then build_hgvsp for the record. With first_stop, the altered protein is cut at its first stop before

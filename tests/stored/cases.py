@@ -1,4 +1,4 @@
-"""The cases of the program vectors_stored, and what the second account of document 01 (tests/account) says of them.
+"""The cases of the program vectors_stored, and what the second account of documents 01 and 02 (tests/account) says of them.
 
 cases.py stdin    the program's input: names, stored bytes and edits, each string behind the two bytes of its length
 cases.py stdout   what the program must print
@@ -17,12 +17,12 @@ def bounds(cs, ce):
     return field(2, bytes([cs // 256, cs % 256, ce // 256, ce % 256]))
 
 
-def form(letters, cs, ce, table=0, exceptions=None):
+def form(letters, cs, ce, table=0, exceptions=None, end=None):
     """A stored reference; exceptions are pairs of a codon and a residue's byte."""
     data = field(1, letters) + bounds(cs, ce) + field(3, bytes([table]))
-    if exceptions is None:
-        return data
-    return data + field(4, b"".join(bytes([codon // 256, codon % 256, residue]) for codon, residue in exceptions))
+    if exceptions is not None:
+        data += field(4, b"".join(bytes([codon // 256, codon % 256, residue]) for codon, residue in exceptions))
+    return data if end is None else data + field(8, bytes([end]))
 
 
 WHOLE = form(b"CCATGTGAAAATACG", 3, 14, 1, [(2, ord("W")), (4, ord("*"))])
@@ -99,6 +99,50 @@ def spelled():
     yield "high bytes", form(b"C" * 256 + b"ATG" + b"A" * 768 + b"TAA", 257, 1030, 2, [(255, ord("U")), (257, ord("O"))])
 
 
+def ended():
+    """Tag 8: a reference cut at each byte and changed in each; its field in every place, of every length and content, beside unknown tags; and ends that fit and don't."""
+    whole = form(b"CATGTGAAAATA", 2, 12, 1, [(2, ord("W"))], 2)
+    for n in range(len(whole) + 1):
+        yield f"cut {n} of an end", whole[:n]
+    for i, b in enumerate(whole):
+        for value in sorted({0, 1, 2, 3, 4, 5, 8, 255, (b + 1) % 256, (b - 1) % 256}):
+            yield f"byte {i} of an end is {value}", whole[:i] + bytes([value]) + whole[i + 1:]
+    fields = {1: field(1, b"ATGGCC"), 2: bounds(1, 6), 3: field(3, b"\0"), 4: field(4, b"\0\1U"), 8: field(8, b"\1")}
+    for count in range(1, 4):
+        for number in range(5**count):
+            tags = [(1, 2, 3, 4, 8)[number // 5**i % 5] for i in range(count)]
+            if 8 in tags:
+                yield "order" + "".join(f" {t}" for t in tags), b"".join(fields[t] for t in tags)
+    for order in ((1, 2, 3, 8), (1, 2, 8, 3), (8, 1, 2, 3), (1, 2, 4, 8), (1, 2, 3, 8, 8), (1, 2, 3, 4, 8), (1, 2, 3, 8, 4), (1, 2, 3, 4, 8, 8), (8, 1, 2, 3, 4)):
+        yield "order" + "".join(f" {t}" for t in order), b"".join(fields[t] for t in order)
+    six, seven = form(b"ATGGCC", 1, 6), form(b"ATGGCCA", 1, 7)
+    for n in range(5):
+        for byte in range(4):
+            yield f"length of 8 is {n}, of {byte}", six + field(8, bytes([byte]) * n)
+    for content in list(range(12)) + [49, 50, 127, 128, 129, 254, 255]:
+        yield f"8 is {content} of ATGGCC", six + field(8, bytes([content]))
+        yield f"8 is {content} of ATGGCCA", seven + field(8, bytes([content]))
+    for tag in (5, 6, 7, 9, 16, 136, 255):
+        for content in (b"", b"\1"):
+            yield f"tag {tag} of {len(content)}", six + field(tag, content)
+            yield f"tag {tag} of {len(content)} before 8", six + field(tag, content) + field(8, b"\1")
+            yield f"tag {tag} of {len(content)} behind 8", six + field(8, b"\1") + field(tag, content)
+    for end in (None, 1, 2):
+        for letters in (b"ATGTAA", b"ATGGCC", b"ATGGCCA", b"ATGGCCAA", b"ATGTAAGCC", b"TAAGCCAA", b"ATGTRA", b"ATGAGR", b"ATGNNN", b"ATGGCU", b"ATGGC", b""):
+            for table in range(4):
+                yield f"end {end} of {letters.decode()} table {table}", form(letters, 1, len(letters), table, None, end)
+        for cs in range(5):
+            for ce in range(5, 11):
+                yield f"end {end} of bounds {cs} {ce}", form(b"ATGATGATG", cs, ce, 0, None, end)
+        for letters in (b"ATGTAA", b"ATGGCC", b"ATGTAAC"):
+            for es in ([], [(1, "U")], [(2, "K")], [(2, "*")], [(1, "*")], [(3, "K")], [(1, "U"), (2, "K")], [(2, "K"), (1, "U")]):
+                name = " ".join(f"{n} {x}" for n, x in es)
+                yield f"end {end} of {letters.decode()} codons {name}", form(letters, 1, len(letters), 0, [(n, ord(x)) for n, x in es], end)
+    for size, end in ((255, 1), (256, 1), (256, 2), (257, 2), (16383, 1), (16384, 2), (16385, 2)):
+        yield f"end {end} of size {size}", form(b"A" * size, 1, size, 0, None, end)
+    yield "a stop far within", form(b"A" * 9000 + b"TAA" + b"A" * 7381, 1, 16384, 0, None, 2)
+
+
 def read(data):
     """The reference's numbers, and where its letters and its exceptions stand: letters behind the first head, exceptions behind the fourth."""
     try:
@@ -106,8 +150,9 @@ def read(data):
     except account.Refused as refusal:
         return f"refused {refusal.number}"
     size = len(ref.letters)
-    exceptions = (17 + size, len(data) - 17 - size) if len(data) > 14 + size else (0, 0)
-    return f"cs {ref.cs} ce {ref.ce} table {ref.table} letters 3+{size} exceptions {exceptions[0]}+{exceptions[1]}"
+    exceptions = (17 + size, 3 * len(ref.exceptions)) if data[14 + size:15 + size] == b"\4" else (0, 0)
+    end = f" end {ref.end}" if ref.end else ""
+    return f"cs {ref.cs} ce {ref.ce} table {ref.table} letters 3+{size} exceptions {exceptions[0]}+{exceptions[1]}{end}"
 
 
 def edited():
@@ -132,6 +177,31 @@ def edited():
         "17 exceptions": form(b"ATGTAA", 1, 6, 0, [(1, ord("U"))] * 17),
         "no stop": form(b"ATGAAA", 1, 6),
         "two stops": form(b"ATGTAATAA", 1, 9),
+    }
+    for name, data in wrong.items():
+        for line in ("0=", "1="):
+            yield f"{line} {name}", data, line
+
+
+def edited_ends():
+    """Edits of references that are cut short, and of some that are refused for their end."""
+    six, seven = form(b"ATGGCC", 1, 6, 0, None, 1), form(b"GATGGCCA", 2, 8, 0, None, 2)
+    for line in "1= 6= 4G>C 5_6insC 3_4insGCCTAA 3_4insTAAGCC 4_6dup 1_6dup 1_*1dup 4_*1del 6_*1insA 6del 4_6del 1_6del 4_6inv 6delinsCTAA 6delinsCAAA 7del 0=".split():
+        yield f"{line} without a stop", six, line
+    for line in "1= 7= 7A>G 7del 7dup 6_7insAA 6_7insTA 6_7insTAA 6_7insAAA 4_6dup 4_6del -1_2del -1_7= -1_7dup 1_7del 1_7inv 7_*1= 8del 0=".split():
+        yield f"{line} in a cut codon", seven, line
+    kept = form(b"ATGTAAT", 1, 7, 0, [(1, ord("U")), (2, ord("K"))], 2)
+    for line in "1= 7= 3G>A 6A>G 3_4insAAA 3_4insA 4_6del 4_6dup 6_7insAA".split():
+        yield f"{line} U K", kept, line
+    wrong = {
+        "a stop": form(b"ATGTAA", 1, 6, 0, None, 1),
+        "a stop within": form(b"ATGTAAC", 1, 7, 0, None, 2),
+        "a base behind": form(b"ATGGCCC", 1, 6, 0, None, 1),
+        "whole codons": form(b"ATGGCC", 1, 6, 0, None, 2),
+        "no whole codons": form(b"ATGGCCA", 1, 7, 0, None, 1),
+        "an exception of the rest": form(b"ATGGCCA", 1, 7, 0, [(3, ord("K"))], 2),
+        "end 0": form(b"ATGTAA", 1, 6, 0, None, 0),
+        "end 3": form(b"ATGGCC", 1, 6, 0, None, 3),
     }
     for name, data in wrong.items():
         for line in ("0=", "1="):
@@ -173,8 +243,11 @@ def cases():
     for name, data, line in edited():
         edit = account.edit_line(line)
         yield name, data, packed(edit), answered(data, edit)
-    for name, data in spelled():
+    for name, data in list(spelled()) + list(ended()):
         yield name, data, b"", read(data)
+    for name, data, line in edited_ends():
+        edit = account.edit_line(line)
+        yield name, data, packed(edit), answered(data, edit)
 
 
 for name, data, edit, words in cases():

@@ -18,9 +18,8 @@ use Rattle.rules.proofs.Tests.{and-left, and-right, all-drop}
 use Rattle.rules.proofs.Over.{tail-is}
 use Rattle.codons.specs.Tables.{isBase}
 use Rattle.translation.specs.Residues.{Walks}
-use Rattle.translation.proofs.Strict.{strict-letters, strict-translated, whole-bases}
+use Rattle.translation.proofs.Strict.{strict-letters, strict-translated, whole-bases, bases-fold}
 use Rattle.reference.specs.declared.Known.{Known}
-use Rattle.reference.proofs.Bases.{bases-fold}
 use Rattle.exceptions.proofs.Moving.{moved-is}
 use Rattle.altseq.specs.Carried.{Codes}
 

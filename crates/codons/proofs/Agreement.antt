@@ -10,6 +10,7 @@ use borrow.Author.Tests.{ne-eqb}
 use Rattle.rules.specs.Letters.{pick}
 use Rattle.rules.specs.Codons.{residueX, geneticCode, plainCodon, withBase, basesOf, forEach, residues, allAre, agreed, codonRule}
 use Rattle.codons.specs.Expansion.{expanded, joinedAll}
+use Rattle.codons.specs.Tables.{HoldsPlain, baseSet}
 
 each-same : (is : List ℕ) (f g : ℕ → List ℕ) → ((i : ℕ) → f i ≡ g i) → forEach is f ≡ forEach is g
 each-same [] f g same = refl
@@ -70,7 +71,7 @@ pick-same : (b : Bool) (x : ℕ) → pick b x x ≡ x
 pick-same true x = refl
 pick-same false x = refl
 
-stays-X : (xs : List ℕ) → joinedAll residueX xs ≡ residueX
+pub stays-X : (xs : List ℕ) → joinedAll residueX xs ≡ residueX
 unfolding joinedAll
 stays-X [] = refl
 stays-X (x ∷ xs) = rw (pick-same (allAre residueX (x ∷ [])) residueX) (stays-X xs)
@@ -98,9 +99,38 @@ agreed-all t (i ∷ is) [] cs ha hb hc = absurd hb
 agreed-all t (i ∷ is) (j ∷ js) [] ha hb hc = absurd hc
 agreed-all t (i ∷ is) (j ∷ js) (k ∷ ks) ha hb hc = agreed-list (plainCodon t i j k) _ (plain-positive t i j k)
 
+-- the numbers b / 2 % 4 of the bases' letters, in the order T, C, A, G
+abbrev pub numberAt : ℕ → ℕ
+numberAt i = getD (2 ∷ 1 ∷ 0 ∷ 3 ∷ []) i 0
+
+pub number-small : (i : ℕ) → numberAt i < 4
+number-small zero = lit< tt
+number-small (suc zero) = lit< tt
+number-small (suc (suc zero)) = lit< tt
+number-small (suc (suc (suc zero))) = lit< tt
+number-small (suc (suc (suc (suc i)))) = lit< tt
+
+single : (i : ℕ) → i < 4 → basesOf (baseSet (numberAt i)) ≡ i ∷ []
+single zero h = refl
+single (suc zero) h = refl
+single (suc (suc zero)) h = refl
+single (suc (suc (suc zero))) h = refl
+single (suc (suc (suc (suc i)))) h = absurd (omega arith)
+
+-- the table of plain codons has the residue of three bases at their numbers' place
+pub plain-codon : (t : ℕ) (code : List ℕ) → HoldsPlain t code → (i j k : ℕ) → i < 4 → j < 4 → k < 4
+    → getD code (numberAt i * 16 + numberAt j * 4 + numberAt k) 0 ≡ plainCodon t i j k
+unfolding codonRule
+plain-codon t code holds i j k hi hj hk =
+    holds .entry (numberAt i) (numberAt j) (numberAt k) (number-small i) (number-small j) (number-small k)
+    ∙ rw (single i hi, single j hj, single k hk)
+
+-- joining the residues of all plain codons gives the codon rule
+pub by-plain : (t a b c : ℕ) → (0 < a) × (a < 16) → (0 < b) × (b < 16) → (0 < c) × (c < 16) → joinedAll 0 (residues t a b c) ≡ codonRule t a b c
+unfolding codonRule
+by-plain t a b c ha hb hc =
+    agreed-all t (basesOf a) (basesOf b) (basesOf c) (some-base a (ha .0) (ha .1)) (some-base b (hb .0) (hb .1)) (some-base c (hc .0) (hc .1))
+
 pub by-letters : (t a b c : ℕ) → (0 < a) × (a < 16) → (0 < b) × (b < 16) → (0 < c) × (c < 16)
     → joinedAll 0 (expanded 3 t (a ∷ b ∷ c ∷ []) 0) ≡ codonRule t a b c
-unfolding codonRule
-by-letters t a b c ha hb hc =
-    ap (joinedAll 0) (expanded-all t a b c)
-    ∙ agreed-all t (basesOf a) (basesOf b) (basesOf c) (some-base a (ha .0) (ha .1)) (some-base b (hb .0) (hb .1)) (some-base c (hc .0) (hc .1))
+by-letters t a b c ha hb hc = ap (joinedAll 0) (expanded-all t a b c) ∙ by-plain t a b c ha hb hc

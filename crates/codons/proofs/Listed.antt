@@ -5,8 +5,8 @@ use mathlib.Core.Path.{_≡_, refl, sym, ap, _∙_}
 use Prim.Native.Nat.{ℕ, zero, suc, _+_, _*_, _/_, _%_, _<_}
 use native.Mathlib.Nat.{zero-add, add-zero, le-of-suc-le-suc, not-suc-le-zero}
 use native.Mathlib.Omega.{arith}
-use lib.ListN.{getD}
 use lib.Dec.{ltb, lit<}
+use lib.ListN.{getD}
 use borrow.Author.Tests.{ltb-true}
 use Rattle.rules.specs.Codons.{codonRule}
 use Rattle.codons.specs.Tables.{HoldsCode, HoldsPlain, HoldsSets, baseSet}
@@ -24,9 +24,12 @@ listed-from d f i (suc n) (suc k) h = listed-from d f (suc i) n k (le-of-suc-le-
 pub listed-at : {A : Type 0} (d : A) (f : ℕ → A) (n k : ℕ) → k < n → getD (listed f 0 n) k d ≡ f k
 listed-at d f n k h = listed-from d f 0 n k h ∙ ap f (zero-add k)
 
--- two rules that antt computes alike for all bytes
+-- two rules that antt computes alike for the first n numbers, and for all bytes
+pub at-each : {A : Type 0} (n : ℕ) (d : A) (f g : ℕ → A) → listed f 0 n ≡ listed g 0 n → (k : ℕ) → k < n → f k ≡ g k
+at-each n d f g e k h = sym (listed-at d f n k h) ∙ ap (λ (xs : List _). getD xs k d) e ∙ listed-at d g n k h
+
 pub at-byte : {A : Type 0} (d : A) (f g : ℕ → A) → listed f 0 256 ≡ listed g 0 256 → (b : ℕ) → b < 256 → f b ≡ g b
-at-byte d f g e b h = sym (listed-at d f 256 b h) ∙ ap (λ (xs : List _). getD xs b d) e ∙ listed-at d g 256 b h
+at-byte d f g = at-each 256 d f g
 
 -- the codon rule at the place k of table t
 unfoldable pub ruleAt : ℕ → ℕ → ℕ

@@ -1,11 +1,11 @@
 -- Laws of tests of each byte of a string, by loops that go one at a time or in blocks, whatever the test. Assumes nothing.
 use mathlib.Core.Path.{_≡_, refl, sym, ap, _∙_}
-use mathlib.Core.Bool.{Bool, true, false, _&&_, not, and-eq-true-iff}
+use mathlib.Core.Bool.{Bool, true, false, _&&_, not, and-true, and-false, and-eq-true-iff}
 use mathlib.Core.List.{List, [], _∷_}
 use Prim.Native.Nat.{ℕ, _+_, _-_, _≤_, _<_}
 use native.Mathlib.Omega.{arith}
-use lib.ListN.{length, getD, take, drop, take-append-drop}
-use lib.Seq.{drop-drop}
+use lib.ListN.{length, getD, take, drop, take-append-drop, length-drop}
+use lib.Seq.{drop-drop, take-add, take-all}
 use borrow.Author.Tests.{not-true, not-false}
 use Rattle.rules.specs.Bytes.{all}
 use Rattle.rules.proofs.Lists.{all-and, all-and-end, all-append, all-end}
@@ -58,3 +58,33 @@ module _ {p : ℕ → Bool} {s : List ℕ} {i : ℕ} (t : Passed p s i) where
 
     pub passed-not : not r ≡ true → false ≡ all p s
     passed-not e = sym (block ∙ rw (not-true r e)) ∙ t .decides
+
+-- two parts that overlap decide together
+twice : (a b c : Bool) → (a && b) && (b && c) ≡ a && (b && c)
+twice true true c = refl
+twice true false c = refl
+twice false b c = refl
+
+pub overlapped : (p : ℕ → Bool) (s : List ℕ) (m k : ℕ) → k ≤ m → all p (take m s) && all p (drop k s) ≡ all p s
+overlapped p s m k h =
+    let n : ℕ = m - k in
+    let part = all-append p (take n (drop k s)) (drop n (drop k s)) in
+    let to : k + n ≡ m = omega arith in
+    let front : all p (take m s) ≡ all p (take k s) && all p (take n (drop k s)) = ap (λ (j : ℕ). all p (take j s)) (sym to) ∙ ap (all p) (take-add k n s) ∙ all-append p (take k s) (take n (drop k s)) in
+    let back : all p (drop k s) ≡ all p (take n (drop k s)) && all p (drop n (drop k s)) = ap (all p) (sym (take-append-drop n (drop k s))) ∙ part in
+    let whole : all p s ≡ all p (take k s) && all p (drop k s) = ap (all p) (sym (take-append-drop k s)) ∙ all-append p (take k s) (drop k s) in
+    rw (front, whole, back) (twice (all p (take k s)) (all p (take n (drop k s))) (all p (drop n (drop k s))))
+
+-- the rest from k on decides where it fails, and what stands before m where it passes
+module _ (p : ℕ → Bool) (s : List ℕ) (m k : ℕ) (h : k ≤ m) {r : Bool} (is : r ≡ all p (take (length s - k) (drop k s))) where
+  rest : all p (drop k s) ≡ r
+  rest = sym (is ∙ ap (all p) (take-all (length s - k) (drop k s) (simp length-drop (omega arith))))
+
+  pub both-parts : {q : Bool} → q ≡ all p (take m s) → q && r ≡ all p s
+  both-parts {q} e = rw e (ap (λ (x : Bool). all p (take m s) && x) (sym rest) ∙ overlapped p s m k h)
+
+  pub front-decides : {q : Bool} → q ≡ all p (take m s) → not r ≡ false → q ≡ all p s
+  front-decides {q} e n = sym (and-true q) ∙ ap (λ (x : Bool). q && x) (sym (not-false r n)) ∙ both-parts e
+
+  pub rest-fails : not r ≡ true → false ≡ all p s
+  rest-fails n = sym (and-false (all p (take m s))) ∙ ap (λ (x : Bool). all p (take m s) && x) (sym (not-true r n)) ∙ both-parts refl

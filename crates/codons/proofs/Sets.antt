@@ -8,8 +8,9 @@ use lib.Dec.{eqb, leb, ltb, lit<}
 use borrow.Author.Tests.{ltb-true, leb-true, eqb-true}
 use Rattle.rules.specs.Bytes.{if_then_else_}
 use Rattle.rules.specs.Letters.{pick, valueOf, bases, letters, letterSet, isLetter, upper, folded}
-use Rattle.codons.specs.Tables.{foldedSet, foldsToBase, baseSet}
-use Rattle.codons.proofs.Listed.{at-byte}
+use Rattle.codons.specs.Tables.{foldedSet, isBase, foldsToBase, baseSet}
+use Rattle.codons.specs.Rows.{letterNumber, setAt}
+use Rattle.codons.proofs.Listed.{listed, at-byte}
 
 pub and-left : (a b : Bool) → a && b ≡ true → a ≡ true
 and-left true b e = refl
@@ -24,18 +25,6 @@ abbrev within : ℕ → ℕ → ℕ → List (ℕ × ℕ) → Bool
 within low high n [] = true
 within low high n (p ∷ ps) = (leb low (p .0) && ltb (p .0) high) && (ltb (p .1) n && within low high n ps)
 
-value-case : (t : Bool) (v w n : ℕ) → v < n → w < n → pick t v w < n
-value-case true v w n hv hw = hv
-value-case false v w n hv hw = hw
-
-value-small : (low high n b : ℕ) (ps : List (ℕ × ℕ)) → 0 < n → within low high n ps ≡ true → valueOf b ps < n
-value-small low high n b [] h e = h
-value-small low high n b (p ∷ ps) h e =
-    let e′ = and-right (leb low (p .0) && ltb (p .0) high) _ e in
-    value-case (eqb b (p .0)) (p .1) (valueOf b ps) n
-    (ltb-true (p .1) n (and-left (ltb (p .1) n) _ e′))
-    (value-small low high n b ps h (and-right (ltb (p .1) n) _ e′))
-
 key-case : (t : Bool) (low high b k v w : ℕ) → eqb b k ≡ t → low ≤ k → k < high → 0 < pick t v w → (0 < w → (low ≤ b) × (b < high)) → (low ≤ b) × (b < high)
 key-case true low high b k v w is hl hh h rest = rw (eqb-true b k is) (hl, hh)
 key-case false low high b k v w is hl hh h rest = rest h
@@ -48,14 +37,6 @@ key-within low high n b (p ∷ ps) e h =
     key-case (eqb b (p .0)) low high b (p .0) (p .1) (valueOf b ps) refl
     (leb-true low (p .0) (and-left (leb low (p .0)) _ key)) (ltb-true (p .0) high (and-right (leb low (p .0)) _ key)) h
     (key-within low high n b ps (and-right (ltb (p .1) n) _ rest))
-
-pub letter-small : (b : ℕ) → letterSet b < 16
-unfolding letterSet
-letter-small b = value-small 64 96 16 b letters (lit< tt) refl
-
-pub plain-small : (b : ℕ) → foldedSet b < 16
-unfolding foldedSet
-plain-small b = letter-small (folded b)
 
 -- a letter's set is not empty
 pub letter-some : (b : ℕ) → isLetter b ≡ true → 0 < letterSet b
@@ -95,18 +76,42 @@ letter-plain b e =
     let h = letter-within b e in
     rw e at (at-byte 0 (λ (k : ℕ). if isLetter k then folded k else 0) (λ (k : ℕ). if isLetter k then k else 0) refl b (omega arith))
 
+-- two rules that antt computes alike for all letters of plain translation
+pub at-letter : {A : Type 0} (d : A) (f g : ℕ → A)
+    → listed (λ (k : ℕ). if isLetter (folded k) then f k else d) 0 256 ≡ listed (λ (k : ℕ). if isLetter (folded k) then g k else d) 0 256
+    → (b : ℕ) → isLetter (folded b) ≡ true → f b ≡ g b
+at-letter d f g same b e =
+    rw e at (at-byte d (λ (k : ℕ). if isLetter (folded k) then f k else d) (λ (k : ℕ). if isLetter (folded k) then g k else d) same b (plain-byte b (letter-within (folded b) e .1)))
+
+-- the set of a letter is what its number stands for
+pub letter-number : (b : ℕ) → isLetter (folded b) ≡ true → setAt (letterNumber b) ≡ foldedSet b
+unfolding letterSet isLetter upper folded foldedSet
+letter-number b e = at-letter 0 (λ (k : ℕ). setAt (letterNumber k)) foldedSet refl b e
+
+base-within : (b : ℕ) → isBase b ≡ true → b < 96
+base-within b e = key-within 64 96 16 b bases refl (ltb-true 0 (valueOf b bases) e) .1
+
+-- a base is a letter, and folds to a base
+pub base-is-letter : (b : ℕ) → isBase b ≡ true → isLetter b ≡ true
+unfolding letterSet isLetter
+base-is-letter b e =
+    rw e at (at-byte false (λ (k : ℕ). if isBase k then isLetter k else true) (λ (k : ℕ). true) refl b (omega (arith, base-within b e)))
+
+pub base-folds : (b : ℕ) → isBase b ≡ true → foldsToBase b ≡ true
+unfolding upper folded foldsToBase
+base-folds b e =
+    rw e at (at-byte false (λ (k : ℕ). if isBase k then foldsToBase k else true) (λ (k : ℕ). true) refl b (omega (arith, base-within b e)))
+
+-- what plain translation takes for a base is a letter, with the set of its letter's number
 base-byte : (b : ℕ) → foldsToBase b ≡ true → b < 256
 unfolding foldsToBase
-base-byte b e =
-    plain-byte b (key-within 64 96 16 (folded b) bases refl (ltb-true 0 (valueOf (folded b) bases) e) .1)
+base-byte b e = plain-byte b (base-within (folded b) e)
 
--- a base's set is that of its letter's number
 pub base-set : (b : ℕ) → foldsToBase b ≡ true → foldedSet b ≡ baseSet (b / 2 % 4)
 unfolding letterSet upper folded foldedSet foldsToBase
 base-set b e =
     rw e at (at-byte 0 (λ (k : ℕ). if foldsToBase k then foldedSet k else 0) (λ (k : ℕ). if foldsToBase k then baseSet (k / 2 % 4) else 0) refl b (base-byte b e))
 
 pub base-letter : (b : ℕ) → foldsToBase b ≡ true → isLetter (folded b) ≡ true
-unfolding letterSet isLetter upper folded foldsToBase
-base-letter b e =
-    rw e at (at-byte false (λ (k : ℕ). if foldsToBase k then isLetter (folded k) else true) (λ (k : ℕ). true) refl b (base-byte b e))
+unfolding foldsToBase
+base-letter b e = base-is-letter (folded b) e

@@ -1,11 +1,11 @@
 -- A byte's reading in plain translation, and what the tables of letter sets, of residues and of complements hold. Assumes nothing: these are definitions.
 use Prim.Native.Nat.{ℕ, _+_, _*_, _<_}
 use mathlib.Core.List.{List, [], _∷_}
-use mathlib.Core.Bool.{Bool, _&&_}
+use mathlib.Core.Bool.{Bool}
 use mathlib.Core.Path.{_≡_}
 use lib.Dec.{ltb}
 use lib.ListN.{getD}
-use Rattle.rules.specs.Letters.{valueOf, bases, letterSet, isLetter, folded}
+use Rattle.rules.specs.Letters.{valueOf, bases, letterSet, folded}
 use Rattle.rules.specs.Codons.{codonRule}
 use Rattle.rules.specs.Complement.{complement}
 
@@ -13,13 +13,13 @@ use Rattle.rules.specs.Complement.{complement}
 unfoldable pub foldedSet : ℕ → ℕ
 foldedSet b = letterSet (folded b)
 
+-- one of the four bases: A, C, G, T
+abbrev pub isBase : ℕ → Bool
+isBase b = ltb 0 (valueOf b bases)
+
 -- plain translation takes the byte for one base
 unfoldable pub foldsToBase : ℕ → Bool
-foldsToBase b = ltb 0 (valueOf (folded b) bases)
-
--- one of the fifteen, and one base: A, C, G, T
-abbrev pub isBase : ℕ → Bool
-isBase b = isLetter b && foldsToBase b
+foldsToBase b = isBase (folded b)
 
 -- the set that a reading of letters gives each byte stands at the byte, and is below 16
 pub record HoldsSets (read : ℕ → ℕ) (xs : List ℕ) : Type 0 where

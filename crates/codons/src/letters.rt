@@ -1,5 +1,6 @@
 // The two readings of letters: plain translation takes either case, and U as T; transcripts and edits take the fifteen upper-case letters alone.
 ghost use mathlib.Core.Path.{_≡_};
+ghost use mathlib.Core.Bool.{true};
 ghost use Prim.Native.Nat.{_<_};
 ghost use Rattle.rules.specs.Bytes.{isCapital};
 ghost use Rattle.rules.specs.Letters.{letterSet, isLetter, folded};
@@ -71,6 +72,28 @@ pub fn folds_to_base(b: u8) -> bool
 {
     let u = b & 223;
     (u == b'A') | (u == b'C') | (u == b'G') | (u == b'T') | (u == b'U')
+}
+
+// Whether a letter of plain translation stands for one base: its place in the alphabet is A's, C's, G's, T's or U's.
+pub fn is_base_letter(b: u8) -> bool
+    requires { ⌜ isLetter (folded b) ≡ true ⌝ }
+    ensures { λ r. ⌜ r ≡ foldsToBase b ⌝ }
+{
+    let places: u32 = 0x30008a;
+    (places >> (b % 32)) % 2 == 1
+}
+
+// The set of a letter of plain translation, without the table of all.
+pub fn set_of_letter(b: u8) -> usize
+    requires { ⌜ isLetter (folded b) ≡ true ⌝ }
+    ensures { λ r. ⌜ r ≡ foldedSet b ⌝ }
+    ensures small { λ r. ⌜ r < 16 ⌝ }
+{
+    let u = b & 223;
+    if u == b'U' {
+        return 8;
+    }
+    letter_set(u)
 }
 
 // Whether transcripts and edits take a byte: an upper-case letter of plain translation, but not U.

@@ -4,4 +4,5 @@
 pub mod complement;
 pub mod letters;
 pub mod reader;
+pub mod rows;
 pub mod tables;

@@ -1,8 +1,10 @@
 // The plain codon reader: the codon rule without the tables of letter sets, for comparison with them.
 ghost use mathlib.Core.Path.{_≡_};
+ghost use mathlib.Core.List.{[], _∷_};
 ghost use Prim.Native.Nat.{_-_, _<_, _≤_};
 ghost use lib.ListN.{getD};
-ghost use Rattle.rules.specs.Codons.{geneticCode, residueX, codonRule};
+ghost use Rattle.rules.specs.Codons.{geneticCode, residueX, plainCodon, basesOf, forEach, codonRule};
+ghost use Rattle.codons.specs.Tables.{HoldsPlain};
 ghost use Rattle.codons.specs.Expansion.{codonCount, expanded, joined, joinedAll};
 
 // What a base adds to a set, in the order T, C, A, G.
@@ -70,4 +72,78 @@ pub fn read_codon(table: usize, a: usize, b: usize, c: usize) -> u8
     ensures { λ r. ⌜ r ≡ codonRule table a b c ⌝ }
 {
     expand(table, [a, b, c], 3, 0, 0)
+}
+
+// The same by the residues of the plain codons, which a walk has at hand: the bases of each letter in turn.
+
+// The numbers b / 2 % 4 of the bases' letters, in the order T, C, A, G.
+const NUMBERS: [usize; 4] = [2, 1, 0, 3];
+
+// The residue of a plain codon of three bases.
+fn plain_at(table: usize, code: &[u8; 64], i: usize, j: usize, k: usize) -> u8
+    requires { ⌜ HoldsPlain table (now code) ⌝ }
+    requires { ⌜ (i < 4) × (j < 4) × (k < 4) ⌝ }
+    ensures { λ r. ⌜ r ≡ plainCodon table i j k ⌝ }
+{
+    let place = NUMBERS[i] * 16 + NUMBERS[j] * 4 + NUMBERS[k];
+    code[place]
+}
+
+// Joins the residues of two bases with each base of a third letter to the one found so far.
+fn join_third(table: usize, code: &[u8; 64], i: usize, j: usize, c: usize, found: u8) -> u8
+    requires { ⌜ HoldsPlain table (now code) ⌝ }
+    requires { ⌜ (i < 4) × (j < 4) ⌝ }
+    ensures { λ r. ⌜ r ≡ joinedAll found (forEach (basesOf c) λ k. plainCodon table i j k ∷ []) ⌝ }
+{
+    if found == b'X' {
+        return found;
+    }
+    let mut all = found;
+    let mut k = 0;
+    while k < 4 {
+        if c / BITS[k] % 2 == 1 {
+            all = join(all, plain_at(table, code, i, j, k));
+        }
+        k += 1;
+    }
+    all
+}
+
+// The same of a base with each base of a second and a third letter.
+fn join_second(table: usize, code: &[u8; 64], i: usize, b: usize, c: usize, found: u8) -> u8
+    requires { ⌜ HoldsPlain table (now code) ⌝ }
+    requires { ⌜ i < 4 ⌝ }
+    ensures { λ r. ⌜ r ≡ joinedAll found (forEach (basesOf b) λ j. forEach (basesOf c) λ k. plainCodon table i j k ∷ []) ⌝ }
+{
+    if found == b'X' {
+        return found;
+    }
+    let mut all = found;
+    let mut j = 0;
+    while j < 4 {
+        if b / BITS[j] % 2 == 1 {
+            all = join_third(table, code, i, j, c, all);
+        }
+        j += 1;
+    }
+    all
+}
+
+// The residue of a codon of three letter sets, none of them empty.
+pub fn read_by_plain(table: usize, code: &[u8; 64], a: usize, b: usize, c: usize) -> u8
+    requires { ⌜ HoldsPlain table (now code) ⌝ }
+    requires { ⌜ (0 < a) × (a < 16) ⌝ }
+    requires { ⌜ (0 < b) × (b < 16) ⌝ }
+    requires { ⌜ (0 < c) × (c < 16) ⌝ }
+    ensures { λ r. ⌜ r ≡ codonRule table a b c ⌝ }
+{
+    let mut all = 0;
+    let mut i = 0;
+    while i < 4 {
+        if a / BITS[i] % 2 == 1 {
+            all = join_second(table, code, i, b, c, all);
+        }
+        i += 1;
+    }
+    all
 }

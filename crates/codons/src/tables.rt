@@ -29,15 +29,15 @@ pub fn plain_code(table: usize) -> [u8; 64]
 }
 
 // The residue of a codon of three letter sets, from the residues of its table. An entry with an empty set is never read.
-pub fn residue_in(table: usize, lut: &[u8; 4096], a: usize, b: usize, c: usize) -> u8
-    requires { ⌜ HoldsCode table (now lut) ⌝ }
+pub fn residue_in(table: usize, residues: &[u8; 4096], a: usize, b: usize, c: usize) -> u8
+    requires { ⌜ HoldsCode table (now residues) ⌝ }
     requires { ⌜ (0 < a) × (a < 16) ⌝ }
     requires { ⌜ (0 < b) × (b < 16) ⌝ }
     requires { ⌜ (0 < c) × (c < 16) ⌝ }
     ensures { λ r. ⌜ r ≡ codonRule table a b c ⌝ }
 {
     let i = a * 256 + b * 16 + c;
-    lut[i]
+    residues[i]
 }
 
 // The residue of the letter sets a, b, c stands at a * 256 + b * 16 + c: sixty-four residues a line, four second sets by sixteen third ones.

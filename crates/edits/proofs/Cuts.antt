@@ -23,8 +23,7 @@ use Rattle.rules.proofs.Tests.{all-take, all-drop}
 use Rattle.codons.specs.Tables.{isBase}
 use Rattle.codons.proofs.Sets.{letter-some}
 use Rattle.translation.specs.Residues.{Reads}
-use Rattle.translation.proofs.Strict.{strict-letters, strict-whole, whole-bases}
-use Rattle.reference.proofs.Bases.{bases-fold}
+use Rattle.translation.proofs.Strict.{strict-letters, strict-whole, whole-bases, bases-fold}
 use Rattle.edits.specs.declared.cut.Cut.{Cut}
 use Rattle.edits.specs.Cuts.{cutOf, Cuts}
 

@@ -1,5 +1,4 @@
 -- Laws that this crate's proofs and the crates above cite.
-pub mod Bases
 pub mod Testing
 pub mod Judging
 pub mod Stops

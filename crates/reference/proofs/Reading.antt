@@ -21,10 +21,9 @@ use Rattle.rules.proofs.Translation.{length-exceptions}
 use Rattle.rules.proofs.Reference.{length-cds, length-protein}
 use Rattle.codons.specs.Tables.{isBase}
 use Rattle.translation.specs.Residues.{foldToBases, Reads, Walks}
-use Rattle.translation.proofs.Strict.{strict-letters, strict-translated, whole-bases}
+use Rattle.translation.proofs.Strict.{strict-letters, strict-translated, whole-bases, bases-fold}
 use Rattle.reference.specs.declared.Known.{Known}
 use Rattle.reference.specs.Known.{knownOf, Readable}
-use Rattle.reference.proofs.Bases.{bases-fold}
 use Rattle.reference.proofs.Testing.{size-of}
 
 -- R of a reference that passes 1 to 5

@@ -8,24 +8,24 @@ use lib.ListN.{length, take, drop}
 use Rattle.rules.specs.declared.Kind.{Kind}
 use Rattle.rules.specs.declared.Kind.the-variants.{Substitution, Deletion, Delins, Insertion, Duplication, Inversion, Identity, Other}
 use Rattle.rules.specs.Bytes.{all}
-use Rattle.rules.specs.Letters.{letterSet, isLetter, upper, folded}
 use Rattle.rules.specs.Complement.{partnerIn, complement, reverseComplement}
 use Rattle.rules.specs.Reference.{Reference}
 use Rattle.rules.specs.Edit.{Asked, kindOf, startIndex, endIndex}
 use Rattle.rules.specs.Altered.{part, carried, swapBy, swap, kept, cutSwap, alteredTranscript}
-use Rattle.rules.proofs.Tests.{and-left, and-right, and-both, all-take, all-drop, all-both, all-reverse, all-map}
+use Rattle.rules.proofs.Tests.{all-take, all-drop, all-both, all-reverse, all-map}
 use Rattle.rules.proofs.Complement.{of-letters}
 use Rattle.rules.proofs.Altered.{kept-is}
-use Rattle.codons.specs.Tables.{foldsToBase, isBase}
+use Rattle.codons.specs.Tables.{isBase}
+use Rattle.codons.proofs.Sets.{base-is-letter}
 
 implied : (a b : Bool) → (not a || b) ≡ true → a ≡ true → b ≡ true
 implied true b h k = h
 implied false b h k = cc
 
 plain-complement : (b : ℕ) → isBase b ≡ true → isBase (complement b) ≡ true
-unfolding all isLetter letterSet upper folded foldsToBase complement partnerIn
+unfolding all complement partnerIn
 plain-complement b h =
-    implied (isBase b) (isBase (complement b)) (of-letters (λ x. not (isBase x) || isBase (complement x)) b refl (and-left (isLetter b) (foldsToBase b) h)) h
+    implied (isBase b) (isBase (complement b)) (of-letters (λ x. not (isBase x) || isBase (complement x)) b refl (base-is-letter b h)) h
 
 plain-part : (from to : ℕ) (s : List ℕ) → all isBase s ≡ true → all isBase (part from to s) ≡ true
 unfolding part

@@ -18,6 +18,7 @@ use Rattle.rules.specs.Answer.{writtenOf, bytesOf}
 use Rattle.rules.proofs.Lists.{all-map}
 use Rattle.rules.proofs.Tests.{first-clear}
 use Rattle.codons.specs.Tables.{foldsToBase}
+use Rattle.codons.proofs.Loops.{all-implied}
 use Rattle.codons.proofs.Sets.{base-letter}
 use Rattle.translation.specs.Residues.{foldToBases, exceptedFrom}
 use Rattle.translation.proofs.Residues.{length-plain}
@@ -59,14 +60,6 @@ other n m e = let z : _≡_ {A = ℕ} 0 1 = ap isBytes e in omega arith
     isBytes : Written → ℕ
     isBytes (Refused k) = 0
     isBytes (Bytes k) = 1
-
--- what all pass that pass another test
-all-implied : (p q : ℕ → Bool) → ((x : ℕ) → p x ≡ true → q x ≡ true) → (s : List ℕ) → all p s ≡ true → all q s ≡ true
-unfolding all
-all-implied p q f [] e = refl
-all-implied p q f (x ∷ s) e =
-    let both = and-eq-true-iff (p x) (all p s) .0 e in
-    rw (f x (both .0), all-implied p q f s (both .1))
 
 -- bases are letters
 pub bases-letters : (s : List ℕ) → foldToBases s ≡ true → foldToLetters s ≡ true

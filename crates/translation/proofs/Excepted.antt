@@ -19,7 +19,7 @@ use Rattle.rules.specs.Translation.{exceptionList, excepted, residuesFrom, tran
 use Rattle.rules.proofs.Lists.{all-append}
 use Rattle.rules.proofs.Translation.{first-exceptions, length-exceptions, length-translated}
 use Rattle.rules.proofs.Reading.{restOf, excepted-append, length-whole, whole-and-rest}
-use Rattle.translation.specs.Residues.{exceptedFrom, nearer, nextFrom}
+use Rattle.translation.specs.Residues.{exceptedFrom, nearer, nextFrom, Clear}
 
 abbrev pub canBe : Exception → Bool
 canBe x = leb 1 (x .codon) && isResidue (x .residue)
@@ -238,11 +238,6 @@ next-not [] n past m r h l = refl
 next-not (x ∷ es) n past m r h l =
     let none : x .codon ≡ m → ⊥ = nearer-not x n past m h (omega (arith, next-le es n (nearer x n past))) in
     rw (ne-eqb (x .codon) m none) (next-not es n (nearer x n past) m r h l)
-
--- `next` is the next codon behind codon i that has an exception, or behind all
-pub record Clear (es : List Exception) (i next : ℕ) : Type 0 where
-  pub ahead : i < next
-  pub none : (m r : ℕ) → i < m → m < next → excepted es m r ≡ r
 
 pub next-clear : (es : List Exception) (i past next : ℕ) → i < past → next ≡ nextFrom es (i + 1) past → Clear es i next
 next-clear es i past next h e =

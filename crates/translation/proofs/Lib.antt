@@ -1,7 +1,8 @@
 -- Laws of translation by loops.
-pub mod Blocks
+pub mod Six
 pub mod Residues
 pub mod Places
+pub mod Entries
 pub mod Excepted
 pub mod Walks
 pub mod PlainWalks

@@ -1,5 +1,5 @@
 -- Laws of a walk over bases, by the places of their codons. Assumes nothing.
-use mathlib.Core.Path.{_≡_, ap, _∙_}
+use mathlib.Core.Path.{_≡_}
 use mathlib.Core.Bool.{true}
 use mathlib.Core.List.{List, []}
 use Prim.Native.Nat.{ℕ, _+_, _/_, _≤_, _<_}
@@ -8,15 +8,15 @@ use lib.ListN.{length, getD, set}
 use Rattle.rules.specs.Bytes.{byte}
 use Rattle.rules.specs.Translation.{excepted, residueCount}
 use Rattle.codons.specs.Tables.{HoldsPlain}
-use Rattle.translation.specs.Residues.{placeAt, foldToBases, WalkedTo}
-use Rattle.translation.proofs.Places.{place-residue}
-use Rattle.translation.proofs.Walks.{residueAt, Walk, walk-more, walk-stop}
+use Rattle.translation.specs.Residues.{residueAt, placeAt, foldToBases, WalkedTo}
+use Rattle.translation.proofs.Places.{place-read}
+use Rattle.translation.proofs.Walks.{Walk, walk-more, walk-stop}
 
 module _ (t : ℕ) (code s : List ℕ) (holds : HoldsPlain t code) (bases : foldToBases s ≡ true) where
   -- the residue at a codon's place
   pub place-reads : (i p : ℕ) → i < length s / 3 → p ≡ placeAt s i → getD code p 0 ≡ residueAt t [] s i
   unfolding excepted residueAt
-  place-reads i p h is = ap (λ (n : ℕ). getD code n 0) is ∙ place-residue t code s i holds bases h
+  place-reads i p h is = place-read t code s i p holds is bases h
 
   module _ (A old : List ℕ) (room : residueCount (length s) ≤ length old) (out : List ℕ) (i p : ℕ) (w : Walk t [] s A old out i) (h : i < length s / 3) (is : p ≡ placeAt s i) where
     pub fits : i < length out

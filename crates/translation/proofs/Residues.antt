@@ -4,7 +4,7 @@ use mathlib.Core.Bool.{Bool, true, false, and-eq-true-iff}
 use mathlib.Core.List.{List, [], _∷_, _++_, map}
 use Prim.Native.Nat.{ℕ, zero, suc, _+_, _-_, _*_, _/_, _%_, _≤_, _<_}
 use native.Mathlib.Omega.{arith}
-use lib.ListN.{length, getD, take, drop, set, length-map, length-drop, List·getD-map}
+use lib.ListN.{length, getD, take, drop, set, length-set, length-map, length-drop, List·getD-map}
 use lib.Seq.{getD-take, length-take-le, take-add}
 use Rattle.rules.specs.declared.Exception.{Exception}
 use Rattle.rules.specs.Bytes.{byte, all, over}
@@ -18,6 +18,11 @@ use Rattle.rules.proofs.Reading.{restOf, residues-more, residues-rest, length-w
 use Rattle.codons.specs.Tables.{foldedSet, foldsToBase}
 use Rattle.codons.proofs.Sets.{plain-some}
 use Rattle.translation.specs.Residues.{codonAt, foldToBases}
+
+pub never : false ≡ true → ⊥
+never e =
+    let z : _≡_ {A = ℕ} 0 1 = cc in
+    omega arith
 
 pub plain-at : (s : List ℕ) (k : ℕ) → getD (map folded s) k 0 ≡ folded (getD s k 0)
 unfolding upper folded
@@ -122,3 +127,20 @@ module _ (t : ℕ) (s : List ℕ) (i : ℕ) (out e : List ℕ) where
   -- behind the last turn
   pub last-turn : (es : List Exception) → i ≡ length s / 3 → overFrom i (leftFrom t es s i) out ≡ e → overFrom (length s / 3) (restOf (length s % 3)) out ≡ e
   last-turn es h left = rw (← left-rest t es s i h, ← h) left
+
+-- a turn that stores two, and one that stores four
+pair-turn : (t : ℕ) (s : List ℕ) (i : ℕ) (out e : List ℕ) (v w : ℕ) → i + 1 < length s / 3 → i + 1 < length out → v ≡ codonAt t (map folded s) i → w ≡ codonAt t (map folded s) (i + 1)
+    → overFrom i (leftFrom t [] s i) out ≡ e → overFrom (i + 2) (leftFrom t [] s (i + 2)) (set (set out i v) (i + 1) w) ≡ e
+pair-turn t s i out e v w h k is is′ left =
+    let two : i + 2 ≡ i + 1 + 1 = omega arith in
+    rw two (codon-turn t s (i + 1) (set out i v) e w h (rw length-set k) is′ (codon-turn t s i out e v (omega arith) (omega arith) is left))
+
+pub four-turn : (t : ℕ) (s : List ℕ) (i : ℕ) (out e : List ℕ) (v w x y : ℕ) → i + 3 < length s / 3 → i + 3 < length out
+    → v ≡ codonAt t (map folded s) i → w ≡ codonAt t (map folded s) (i + 1) → x ≡ codonAt t (map folded s) (i + 2) → y ≡ codonAt t (map folded s) (i + 2 + 1)
+    → overFrom i (leftFrom t [] s i) out ≡ e → overFrom (i + 4) (leftFrom t [] s (i + 4)) (set (set (set (set out i v) (i + 1) w) (i + 2) x) (i + 3) y) ≡ e
+four-turn t s i out e v w x y h k is is′ is″ is‴ left =
+    let three : i + 3 ≡ i + 2 + 1 = omega arith in
+    let four : i + 4 ≡ i + 2 + 2 = omega arith in
+    rw (four, three)
+    (pair-turn t s (i + 2) (set (set out i v) (i + 1) w) e x y (omega arith) (rw (length-set, length-set) (omega arith)) is″ is‴
+    (pair-turn t s i out e v w (omega arith) (omega arith) is is′ left))

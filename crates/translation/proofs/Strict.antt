@@ -9,8 +9,9 @@ use Rattle.rules.specs.declared.Exception.{Exception}
 use Rattle.rules.specs.Bytes.{all}
 use Rattle.rules.specs.Letters.{isLetter, folded}
 use Rattle.rules.specs.Translation.{translated, foldedTranslated, wholeCodons, foldToLetters}
-use Rattle.codons.specs.Tables.{foldsToBase}
-use Rattle.codons.proofs.Sets.{letter-plain}
+use Rattle.codons.specs.Tables.{isBase, foldsToBase}
+use Rattle.codons.proofs.Loops.{all-implied}
+use Rattle.codons.proofs.Sets.{letter-plain, base-is-letter, base-folds}
 use Rattle.translation.specs.Residues.{foldToBases}
 
 same-letters : (s : List ℕ) → all isLetter s ≡ true → map folded s ≡ s
@@ -47,3 +48,10 @@ module _ (s : List ℕ) (e : all isLetter s ≡ true) where
 pub whole-bases : (s : List ℕ) → all foldsToBase s ≡ true → foldToBases s ≡ true
 unfolding foldToBases wholeCodons
 whole-bases s e = all-take foldsToBase (length s - length s % 3) s e
+
+-- bases are letters, and fold to bases
+pub bases-are-letters : (s : List ℕ) → all isBase s ≡ true → all isLetter s ≡ true
+bases-are-letters = all-implied isBase isLetter base-is-letter
+
+pub bases-fold : (s : List ℕ) → all isBase s ≡ true → all foldsToBase s ≡ true
+bases-fold = all-implied isBase foldsToBase base-folds

@@ -16,13 +16,9 @@ use Rattle.rules.specs.Letters.{folded}
 use Rattle.rules.specs.Translation.{exceptionList, excepted, foldedTranslated, beforeStop, throughStop, wholeCodons}
 use Rattle.rules.proofs.Over.{overFrom, from-start, from-end, from-turn, tail-is}
 use Rattle.rules.proofs.Reading.{restOf, before-here, before-later, through-here, through-later, through-rest, length-whole}
-use Rattle.translation.specs.Residues.{codonAt, nextFrom, WalkedTo}
+use Rattle.translation.specs.Residues.{codonAt, residueAt, nextFrom, Clear, WalkedTo}
 use Rattle.translation.proofs.Residues.{plain-at, leftFrom, left-all, left-more, left-rest, left-part}
-use Rattle.translation.proofs.Excepted.{Clear, next-clear, still-clear}
-
--- the residue of codon i, exceptions applied
-unfoldable pub residueAt : ℕ → List Exception → List ℕ → ℕ → ℕ
-residueAt t es s i = excepted es (i + 1) (codonAt t (map folded s) i)
+use Rattle.translation.proofs.Excepted.{next-clear, still-clear}
 
 -- a codon with an exception, and one without
 module _ (t : ℕ) (es : List Exception) (s : List ℕ) (i next c : ℕ) (is : c ≡ codonAt t (map folded s) i) where
@@ -30,11 +26,11 @@ module _ (t : ℕ) (es : List Exception) (s : List ℕ) (i next c : ℕ) (is : c
   unfolding residueAt
   at-exception past r next′ h e x n = (x ∙ rw (e, is), next-clear es (i + 1) past next′ h (rw e n))
 
-  pub at-no-exception : (r next′ : ℕ) → Clear es i next → (i + 1 ≡ next → ⊥) → r ≡ c → next′ ≡ next → (r ≡ residueAt t es s i) × Clear es (i + 1) next′
+  pub at-no-exception : Clear es i next → (i + 1 ≡ next → ⊥) → (c ≡ residueAt t es s i) × Clear es (i + 1) next
   unfolding residueAt
-  at-no-exception r next′ clear n e e′ =
+  at-no-exception clear n =
       let still = still-clear es i next c clear n in
-      (e ∙ rw (← is) (still .0), rw e′ (still .1))
+      (rw (← is) (still .0), still .1)
 
 -- before codon i: writing what is left gives the protein, and its length is that of both
 pub record Walk (t : ℕ) (es : List Exception) (s A old out : List ℕ) (i : ℕ) : Type 0 where

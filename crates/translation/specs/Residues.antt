@@ -2,21 +2,28 @@
 use Prim.Native.Nat.{ℕ, zero, suc, _+_, _*_, _/_, _%_, _<_, _≤_}
 use mathlib.Core.Path.{_≡_}
 use mathlib.Core.Bool.{Bool, true, _&&_}
-use mathlib.Core.List.{List, [], _∷_}
+use mathlib.Core.List.{List, [], _∷_, map}
+use lib.Bits.{bitAnd}
 use lib.Dec.{leb, ltb}
 use lib.ListN.{length, getD}
 use Rattle.rules.specs.declared.Exception.{Exception}
 use Rattle.rules.specs.declared.Exceptions.{Exceptions}
 use Rattle.rules.specs.Bytes.{if_then_else_, all, over}
+use Rattle.rules.specs.Letters.{folded}
 use Rattle.rules.specs.Codons.{codon}
 use Rattle.rules.specs.Translation.{excepted, wholeCodons, residueCount, foldToLetters}
 use Rattle.rules.proofs.Over.{overFrom}
 use Rattle.rules.proofs.Reading.{restOf}
 use Rattle.codons.specs.Tables.{foldsToBase}
+use Rattle.codons.specs.Rows.{letterNumber}
 
 -- the residue of codon i, counted from 0, of a list of letters
 unfoldable pub codonAt : ℕ → List ℕ → ℕ → ℕ
 codonAt t s i = codon t (getD s (i * 3) 0) (getD s (i * 3 + 1) 0) (getD s (i * 3 + 2) 0)
+
+-- the same with exceptions, of letters of plain translation
+unfoldable pub residueAt : ℕ → List Exception → List ℕ → ℕ → ℕ
+residueAt t es s i = excepted es (i + 1) (codonAt t (map folded s) i)
 
 -- residues with the exceptions, the first of them codon n's
 unfoldable pub exceptedFrom : List Exception → ℕ → List ℕ → List ℕ
@@ -32,6 +39,11 @@ unfoldable pub nextFrom : List Exception → ℕ → ℕ → ℕ
 nextFrom [] n past = past
 nextFrom (x ∷ es) n past = nextFrom es n (nearer x n past)
 
+-- `next` is the number of the first codon behind the first i that has an exception, or behind all
+pub record Clear (es : List Exception) (i next : ℕ) : Type 0 where
+  pub ahead : i < next
+  pub none : (m r : ℕ) → i < m → m < next → excepted es m r ≡ r
+
 -- the number of a base's letter: A 0, C 1, T and U 2, G 3
 abbrev pub numberOf : ℕ → ℕ
 numberOf b = b / 2 % 4
@@ -40,9 +52,21 @@ numberOf b = b / 2 % 4
 unfoldable pub placeAt : List ℕ → ℕ → ℕ
 placeAt s i = numberOf (getD s (i * 3) 0) * 16 + numberOf (getD s (i * 3 + 1) 0) * 4 + numberOf (getD s (i * 3 + 2) 0)
 
+-- where the residue of codon i of letters stands among the 4,096
+unfoldable pub entryAt : List ℕ → ℕ → ℕ
+entryAt s i = letterNumber (getD s (i * 3 + 2) 0) * 256 + letterNumber (getD s (i * 3) 0) * 16 + letterNumber (getD s (i * 3 + 1) 0)
+
+-- of six letters in a number, the first lowest: the places of their two codons, from bit 10 on and from bit 34 on
+unfoldable pub entriesOf : ℕ → ℕ
+entriesOf six = bitAnd (bitAnd six 0x1f1f1f1f1f1f + bitAnd six 0x0e0e0e0e0e0e * 4 + 0x010101010101) 0x3c3c3c3c3c3c * 4097
+
 -- each byte of the whole codons is a base of plain translation
 unfoldable pub foldToBases : List ℕ → Bool
 foldToBases s = all foldsToBase (wholeCodons s)
+
+-- three bytes from place k on as one number, the first lowest
+abbrev pub threeAt : List ℕ → ℕ → ℕ
+threeAt s k = getD s k 0 + getD s (k + 1) 0 * 256 + getD s (k + 2) 0 * 65536
 
 -- four bytes from place k on as one number, the first lowest, and eight
 abbrev pub fourAt : List ℕ → ℕ → ℕ

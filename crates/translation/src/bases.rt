@@ -9,8 +9,11 @@ ghost use Rattle.rules.specs.Bytes.{all};
 ghost use Rattle.rules.specs.Letters.{isLetter, folded};
 ghost use Rattle.codons.specs.Tables.{foldsToBase, isBase};
 
-// Whether each byte is a letter of plain translation.
-pub(crate) fn all_fold_to_letters(s: &[u8]) -> bool
+// The tests below go eight bytes at a time or more, and one at a time over what is left. So that nothing is left, the last eight are tested by
+// themselves.
+
+// Whether each byte is a letter of plain translation, whatever their number.
+fn block_folds_to_letters(s: &[u8]) -> bool
     ensures { λ r. ⌜ r ≡ all isLetter (map folded (now (s .entry))) ⌝ }
 {
     let mut good = true;
@@ -20,6 +23,15 @@ pub(crate) fn all_fold_to_letters(s: &[u8]) -> bool
         i += 1;
     }
     good
+}
+
+// Whether each byte is a letter of plain translation.
+pub(crate) fn all_fold_to_letters(s: &[u8]) -> bool
+    ensures { λ r. ⌜ r ≡ all isLetter (map folded (now (s .entry))) ⌝ }
+{
+    let whole = s.len() - s.len() % 8;
+    let last = s.len() - least(8, s.len());
+    block_folds_to_letters(&s[..whole]) & block_folds_to_letters(&s[last..])
 }
 
 // Whether each byte of a block is a base.
@@ -35,8 +47,8 @@ fn block_folds_to_bases(s: &[u8]) -> bool
     good
 }
 
-// Whether each byte is a base of plain translation: A, C, G, T, U, of either case. The first block with another letter ends it.
-pub(crate) fn all_fold_to_bases(s: &[u8]) -> bool
+// Whether each byte is a base of plain translation, block by block. The first block with another letter ends it.
+fn blocks_fold_to_bases(s: &[u8]) -> bool
     ensures { λ r. ⌜ r ≡ all foldsToBase (now (s .entry)) ⌝ }
 {
     let mut i = 0;
@@ -48,6 +60,18 @@ pub(crate) fn all_fold_to_bases(s: &[u8]) -> bool
         i = end;
     }
     true
+}
+
+// Whether each byte is a base of plain translation: A, C, G, T, U, of either case.
+pub(crate) fn all_fold_to_bases(s: &[u8]) -> bool
+    ensures { λ r. ⌜ r ≡ all foldsToBase (now (s .entry)) ⌝ }
+{
+    let whole = s.len() - s.len() % 8;
+    let last = s.len() - least(8, s.len());
+    if !block_folds_to_bases(&s[last..]) {
+        return false;
+    }
+    blocks_fold_to_bases(&s[..whole])
 }
 
 // Whether each byte of a block is plain.

@@ -1,6 +1,7 @@
 // Translation of a byte string: one residue a whole codon, exceptions applied, then one X for a rest.
 mod bases;
 mod exceptions;
+mod packed;
 mod reading;
 mod stops;
 mod translate;

@@ -1,9 +1,9 @@
 // The first stop, and the residues through it.
 use crate::exceptions::excepted_at;
 use crate::exceptions::next_exception;
+use crate::packed::pair_at;
+use crate::packed::place_at;
 use crate::reading::codon_at;
-use crate::reading::pair_at;
-use crate::reading::place_at;
 use codons::letters::folded_sets;
 use codons::tables::plain_code;
 use codons::tables::residues_of;
@@ -11,12 +11,50 @@ use rules::Exceptions;
 ghost use mathlib.Core.Path.{_≡_};
 ghost use mathlib.Core.Bool.{true, false};
 ghost use mathlib.Core.List.{[]};
-ghost use Prim.Native.Nat.{_≤_};
+ghost use Prim.Native.Nat.{_+_, _/_, _<_, _≤_};
 ghost use lib.ListN.{length};
 ghost use Rattle.rules.specs.Bytes.{over};
 ghost use Rattle.rules.specs.Translation.{exceptionList, residueCount, beforeStop, throughStop, wholeCodons, foldToLetters, foldedTranslated};
 ghost use Rattle.codons.specs.Tables.{HoldsCode, HoldsPlain, HoldsSets, foldedSet};
-ghost use Rattle.translation.specs.Residues.{foldToBases, WalkedTo, Reads, Walks};
+ghost use Rattle.translation.specs.Residues.{residueAt, Clear, foldToBases, WalkedTo, Reads, Walks};
+
+// A codon's residue, exceptions applied, and the number of the next codon with an exception.
+struct Turn {
+    residue: u8,
+    next: usize,
+}
+
+// A turn of the walks below, at codon i, where the number of the next codon with an exception is known.
+fn turn_at(
+    seq: &[u8],
+    table: usize,
+    sets: &[u8; 256],
+    residues: &[u8; 4096],
+    e: Exceptions,
+    i: usize,
+    next: usize,
+) -> Turn
+    requires { ⌜ HoldsSets foldedSet (now sets) ⌝ }
+    requires { ⌜ HoldsCode table (now residues) ⌝ }
+    requires { ⌜ (foldToLetters (now seq) ≡ true) × (e .count ≤ 16) ⌝ }
+    requires { ⌜ (i < length (now seq) / 3) × Clear (exceptionList e) i next ⌝ }
+    ensures { λ r. ⌜ r .residue ≡ residueAt table (exceptionList e) (now (seq .entry)) i ⌝ }
+    ensures clear { λ r. ⌜ Clear (exceptionList e) (i + 1) (r .next) ⌝ }
+{
+    let r = codon_at(seq, table, sets, residues, i);
+    if i + 1 == next {
+        let past = seq.len() / 3 + 1;
+        let y = excepted_at(e, next, r);
+        return Turn {
+            residue: y,
+            next: next_exception(e, next + 1, past),
+        };
+    }
+    Turn {
+        residue: r,
+        next: next,
+    }
+}
 
 // The index of the first codon that reads `*`, exceptions applied, or the number of whole codons.
 fn stop_by_sets(
@@ -39,11 +77,9 @@ fn stop_by_sets(
         if whole <= i {
             break whole;
         }
-        let mut r = codon_at(seq, table, sets, residues, i);
-        if i + 1 == next {
-            r = excepted_at(e, next, r);
-            next = next_exception(e, next + 1, whole + 1);
-        }
+        let turn = turn_at(seq, table, sets, residues, e, i, next);
+        let r = turn.residue;
+        next = turn.next;
         if r == b'*' {
             break i;
         }
@@ -110,11 +146,9 @@ fn write_to_stop(
         if whole <= i {
             break whole;
         }
-        let mut r = codon_at(seq, table, sets, residues, i);
-        if i + 1 == next {
-            r = excepted_at(e, next, r);
-            next = next_exception(e, next + 1, whole + 1);
-        }
+        let turn = turn_at(seq, table, sets, residues, e, i, next);
+        let r = turn.residue;
+        next = turn.next;
         out[i] = r;
         if r == b'*' {
             break i;

@@ -20,6 +20,9 @@ fn print_reference(p: StoredAt) {
     print_number(b" table ", p.cds.table);
     print_part(b" letters ", p.letters);
     print_part(b" exceptions ", p.exceptions);
+    if p.cds.end != 0 {
+        print_number(b" end ", p.cds.end);
+    }
 }
 
 pub fn print_stored(s: &[u8]) {

@@ -1,8 +1,9 @@
 //! The harness for C: see ../../oracle.h, which says what each function does.
 use crate::mapper::altseq::harness::{self, Given, Kind, Letters, Position};
-use crate::mapper::altseq::{AltSeqBuilder, RefTranscriptData};
+use crate::mapper::altseq::{AltSeqBuilder, CdsEnd, RefTranscriptData};
+use crate::mapper::error::Error;
 use crate::data::interface::TranslationException;
-use crate::parser::HgvsVariant;
+use crate::parser::{HgvsVariant, ProtLocEdit, ProteinEdit};
 use crate::sequences;
 use std::{slice, str, sync::Arc};
 
@@ -119,6 +120,16 @@ pub unsafe extern "C" fn oracle_reference_protein(reference: *const Reference, o
     put((*reference).made.aa_sequence.as_bytes(), out, room)
 }
 
+/// The end that the text itself finds, by the numbers of the module.
+#[no_mangle]
+pub unsafe extern "C" fn oracle_reference_end(reference: *const Reference) -> u64 {
+    match (*reference).made.cds_end {
+        CdsEnd::StopCodon => 0,
+        CdsEnd::NoStopCodon => 1,
+        CdsEnd::IncompleteCodon(_) => 2,
+    }
+}
+
 /// The variant moves into the text's builder and back, so that no call copies it.
 pub struct Edit {
     held: Option<HgvsVariant>,
@@ -172,6 +183,9 @@ pub struct Answer {
     pub number: i64,
     pub deleted_len: i64,
     pub inserted_len: i64,
+    pub uncut_len: i64,
+    pub form: u64,
+    pub first: i64,
 }
 
 const NOTHING: Answer = Answer {
@@ -185,6 +199,9 @@ const NOTHING: Answer = Answer {
     number: 0,
     deleted_len: 0,
     inserted_len: 0,
+    uncut_len: 0,
+    form: 0,
+    first: 0,
 };
 
 #[no_mangle]
@@ -205,6 +222,7 @@ pub unsafe extern "C" fn oracle_edit(
     let builder = AltSeqBuilder::new(variant, reference);
     let answer = (|| {
         let mut alt = harness::altered(&builder, until_stop != 0).ok()?;
+        let uncut_len = alt.aa_sequence.len() as i64;
         if first_stop != 0 {
             cut_at_first_stop(&mut alt.aa_sequence);
         }
@@ -220,9 +238,12 @@ pub unsafe extern "C" fn oracle_edit(
             transcript_len: put(alt.transcript_sequence.as_bytes(), transcript, transcript_room),
             altered_len: put(alt.aa_sequence.as_bytes(), altered, altered_room),
             moved_len: put(&exceptions, moved, moved_room),
+            uncut_len,
             ..NOTHING
         };
-        if let Some(record) = harness::record(reference, alt).0 {
+        let (record, variant) = harness::record(reference, alt);
+        (answer.form, answer.first) = form(variant);
+        if let Some(record) = record {
             answer.number = record.number.into();
             answer.deleted_len = record.deleted.len() as i64;
             answer.inserted_len = record.inserted.len() as i64;
@@ -231,6 +252,31 @@ pub unsafe extern "C" fn oracle_edit(
     })();
     (*edit).held = Some(builder.var_c);
     answer.unwrap_or(NOTHING)
+}
+
+/// The number of the protein variant's kind, see oracle.h, and a duplication's first residue. A substitution by nothing is the text's way to say
+/// that nothing changed.
+fn form(variant: Result<HgvsVariant, Error>) -> (u64, i64) {
+    let Ok(HgvsVariant::ProtVariant { loc_edit, .. }) = variant else { return (0, 0) };
+    let (loc, edit) = match &loc_edit {
+        ProtLocEdit::InitiationUncertain => return (1, 0),
+        ProtLocEdit::NoChange => return (10, 0),
+        ProtLocEdit::NoProteinUncertain => return (11, 0),
+        ProtLocEdit::Unknown => return (12, 0),
+        ProtLocEdit::Ordinary { loc, edit } => (loc.inner(), edit.inner()),
+    };
+    match edit {
+        ProteinEdit::Ext { .. } => (2, 0),
+        ProteinEdit::Subst { alternative } if alternative == "*" => (3, 0),
+        ProteinEdit::Fs { .. } => (4, 0),
+        ProteinEdit::Subst { alternative } if alternative.is_empty() => (10, 0),
+        ProteinEdit::Subst { .. } => (5, 0),
+        ProteinEdit::Del => (6, 0),
+        ProteinEdit::Dup => (7, loc.start.number.into()),
+        ProteinEdit::Ins { .. } => (8, 0),
+        ProteinEdit::DelIns { .. } => (9, 0),
+        ProteinEdit::Ident => (10, 0),
+    }
 }
 
 /// Document 01's A, of the text's.

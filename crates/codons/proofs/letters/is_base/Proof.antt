@@ -4,14 +4,12 @@ use mathlib.Core.Path.{refl}
 use Prim.Native.Nat.{ℕ}
 use borrow.Author.Needs.{needs}
 use lib.Dec.{eqb}
-use Rattle.rules.specs.Letters.{letterSet, isLetter, upper, folded}
-use Rattle.codons.specs.Tables.{foldsToBase, isBase}
+use Rattle.codons.specs.Tables.{isBase}
 use Rattle.codons.proofs.Listed.{at-byte}
 use Rattle.codons.proofs.letters.is_base.Statement.{statement}
 use Rattle.codons.proofs.letters.is_base.Tie as tie
 
 returns : tie.Need-returns
-unfolding letterSet isLetter upper folded foldsToBase
 returns c =
     at-byte false (λ (b : ℕ). eqb b 65 || eqb b 67 || eqb b 71 || eqb b 84) isBase refl (c .args .b) (search needs)
 

@@ -1,12 +1,12 @@
 -- `reference::tests::are_letters` meets its contract. Assumes nothing.
 use mathlib.Core.Path.{_≡_, sym, _∙_}
 use borrow.Author.Needs.{needs}
-use Rattle.reference.proofs.Bases.{bases-letters}
+use Rattle.translation.proofs.Strict.{bases-are-letters}
 use Rattle.reference.proofs.tests.are_letters.Statement.{statement}
 use Rattle.reference.proofs.tests.are_letters.Tie as tie
 
 returns : tie.Need-returns
-returns c = sym (bases-letters (c .before .before .args .letters .now) (sym (c .before .before .pre) ∙ c .if1 .taken))
+returns c = sym (bases-are-letters (c .before .before .args .letters .now) (sym (c .before .before .pre) ∙ c .if1 .taken))
 
 pub are-letters-spec : {M : Type 1} → statement M
 are-letters-spec = tie.close (tie.spec returns (λ c κs. search needs) (λ c. search needs))

@@ -1,6 +1,7 @@
 -- `translation::all_bases` meets its contract. The invariant: what is left decides.
 -- Assumes nothing.
 use Prim.Native.Nat.{_-_}
+use native.Mathlib.Omega.{arith}
 use borrow.Author.Needs.{needs}
 use lib.ListN.{length}
 use Rattle.codons.specs.Tables.{isBase}
@@ -21,14 +22,14 @@ all-bases-spec =
     Inv-loop
     μ-loop
     (λ c. passed-none isBase _)
-    (λ c. search needs)
-    (λ c κs. search needs)
-    (λ c. search needs)
-    (λ c. search needs)
-    (λ c. search needs)
-    (λ c. search needs)
-    (λ c κs. search needs)
+    (λ c. omega arith)
+    (λ c κs. omega arith)
+    (λ c. omega arith)
+    (λ c. omega arith)
+    (λ c. omega arith)
+    (λ c. omega arith)
+    (λ c κs. omega arith)
     (λ c. passed-not (c .before .before .before .before .before .loop .inv) _ (search needs) (c .before .block-bases .ensures) (c .if1 .taken))
-    (λ c. search needs)
+    (λ c. omega arith)
     (λ c. passed-more (c .before .before .before .before .before .loop .inv) _ (search needs) (c .before .block-bases .ensures) (search needs) (c .if1 .left))
     (λ c. passed-all (c .before .loop .inv) (c .loop-test .left)))

@@ -1,26 +1,34 @@
--- `translation::all_fold_to_bases` meets its contract. The invariant: what is left decides.
--- Assumes nothing.
-use Prim.Native.Nat.{_-_}
+-- `translation::all_fold_to_bases` meets its contract: two parts that overlap decide together. Assumes nothing.
+use mathlib.Core.Path.{_≡_, sym, ap, _∙_}
+use Prim.Native.Nat.{ℕ, _-_, _%_}
+use native.Mathlib.Omega.{arith}
 use borrow.Author.Needs.{needs}
-use lib.ListN.{length}
+use lib.ListN.{length, take, drop}
+use lib.Seq.{length-take-le}
 use Rattle.codons.specs.Tables.{foldsToBase}
-use Rattle.codons.proofs.Loops.{Passed, passed-none, passed-more, passed-not, passed-all}
+use Rattle.codons.proofs.Loops.{rest-fails, front-decides}
 use Rattle.translation.proofs.bases.all_fold_to_bases.Statement.{statement}
 use Rattle.translation.proofs.bases.all_fold_to_bases.Tie as tie
 
-abbrev Inv-loop : tie.InvT-loop
-Inv-loop s i₀ i = Passed foldsToBase s i
+returns : tie.Need-returns
+returns c =
+    let s = c .before .before .before .before .before .args .s .now in
+    rest-fails foldsToBase s (length s - length s % 8) _ (omega (arith, c .before .before .before .least .ensures)) (c .before .block-folds-to-bases .ensures) (c .if1 .taken)
 
-abbrev μ-loop : tie.MeasureT-loop
-μ-loop s i₀ i = length s - i
+slice-aggregate-blocks-fold-to-bases : tie.Need-slice-aggregate-blocks-fold-to-bases
+slice-aggregate-blocks-fold-to-bases c =
+    let s = c .before .before .before .before .before .before .args .s .now in
+    sym (length-take-le (length s - length s % 8) s (omega arith))
+
+returns-2 : tie.Need-returns-2
+returns-2 c =
+    let s = c .before .before .before .before .before .before .before .args .s .now in
+    front-decides foldsToBase s (length s - length s % 8) _ (omega (arith, c .before .before .before .before .before .least .ensures)) (c .before .before .before .block-folds-to-bases .ensures) (c .blocks-fold-to-bases .ensures) (c .before .before .if1 .left)
 
 pub all-fold-to-bases-spec : {M : Type 1} → statement M
 all-fold-to-bases-spec =
     tie.close
     (tie.spec
-    Inv-loop
-    μ-loop
-    (λ c. passed-none foldsToBase _)
     (λ c. search needs)
     (λ c κs. search needs)
     (λ c. search needs)
@@ -28,7 +36,7 @@ all-fold-to-bases-spec =
     (λ c. search needs)
     (λ c. search needs)
     (λ c κs. search needs)
-    (λ c. passed-not (c .before .before .before .before .before .loop .inv) _ (search needs) (c .before .block-folds-to-bases .ensures) (c .if1 .taken))
-    (λ c. search needs)
-    (λ c. passed-more (c .before .before .before .before .before .loop .inv) _ (search needs) (c .before .block-folds-to-bases .ensures) (search needs) (c .if1 .left))
-    (λ c. passed-all (c .before .loop .inv) (c .loop-test .left)))
+    returns
+    slice-aggregate-blocks-fold-to-bases
+    (λ c κs. search needs)
+    returns-2)

@@ -1,7 +1,7 @@
 -- `translation::block_bases` meets its contract. The invariant: what was found and what is left decide.
 -- Assumes nothing.
 use Prim.Native.Nat.{_-_}
-use borrow.Author.Needs.{needs}
+use native.Mathlib.Omega.{arith}
 use lib.ListN.{length}
 use Rattle.codons.specs.Tables.{isBase}
 use Rattle.codons.proofs.Loops.{Tested, tested-none, tested-more, tested-all}
@@ -21,9 +21,9 @@ block-bases-spec =
     Inv-loop
     μ-loop
     (λ c. tested-none isBase _)
-    (λ c. search needs)
-    (λ c κs. search needs)
-    (λ c. search needs)
-    (λ c. search needs)
+    (λ c. omega arith)
+    (λ c κs. omega arith)
+    (λ c. omega arith)
+    (λ c. omega arith)
     (λ c. tested-more (c .before .before .before .loop .inv) (c .before .before .loop-test .taken) (c .is-base .ensures))
     (λ c. tested-all (c .before .loop .inv) (c .loop-test .left)))

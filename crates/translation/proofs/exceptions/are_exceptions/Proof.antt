@@ -5,9 +5,10 @@ use mathlib.Core.Bool.{true}
 use Prim.Native.Nat.{_-_, _≤_}
 use native.Mathlib.Omega.{arith}
 use borrow.Author.Needs.{needs}
+use borrow.Author.Tests.{not-true, not-false}
 use lib.ListN.{length, take, length-map}
 use Rattle.rules.specs.Bytes.{all}
-use Rattle.translation.proofs.Blocks.{was-false, was-true, never}
+use Rattle.translation.proofs.Residues.{never}
 use Rattle.translation.proofs.Excepted.{canBe, too-many, taken-more, not-taken, all-taken}
 use Rattle.translation.proofs.exceptions.are_exceptions.Statement.{statement}
 use Rattle.translation.proofs.exceptions.are_exceptions.Tie as tie
@@ -37,7 +38,7 @@ returns-2 c =
     let args = c .before .before .before .before .before .before .args in
     let loop = c .before .before .before .before .loop in
     let is-exception = c .before .is-exception in
-    (sym (not-taken (args .t1) (loop .inv .2) (loop .inv .1) (loop .k) _ (search needs) (sym (is-exception .ensures) ∙ was-false (is-exception .result) (c .if2 .taken))), λ e. loop .inv .1)
+    (sym (not-taken (args .t1) (loop .inv .2) (loop .inv .1) (loop .k) _ (search needs) (sym (is-exception .ensures) ∙ not-true (is-exception .result) (c .if2 .taken))), λ e. loop .inv .1)
 
 loop-again : tie.Need-loop-again Inv-loop μ-loop
 loop-again c =
@@ -47,7 +48,7 @@ loop-again c =
       search needs,
       loop .inv .1,
       loop .inv .2,
-      taken-more (args .t1) (loop .inv .2) (loop .inv .1) (loop .k) _ (search needs) (loop .inv .3) (sym (is-exception .ensures) ∙ was-true (is-exception .result) (c .if2 .left)),
+      taken-more (args .t1) (loop .inv .2) (loop .inv .1) (loop .k) _ (search needs) (loop .inv .3) (sym (is-exception .ensures) ∙ not-false (is-exception .result) (c .if2 .left)),
     )
 
 returns-3 : tie.Need-returns-3 Inv-loop μ-loop
@@ -64,11 +65,11 @@ are-exceptions-spec =
     μ-loop
     returns
     loop-holds
-    (λ c. search needs)
-    (λ c. search needs)
-    (λ c κs. search needs)
+    (λ c. omega arith)
+    (λ c. omega arith)
+    (λ c κs. omega arith)
     returns-2
-    (λ c. search needs)
-    (λ c. search needs)
+    (λ c. omega arith)
+    (λ c. omega arith)
     loop-again
     returns-3)

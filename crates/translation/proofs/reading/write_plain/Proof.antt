@@ -1,18 +1,16 @@
 -- `translation::write_plain` meets its contract. The invariants: writing the residues that are left gives the whole.
 -- Assumes nothing.
 use mathlib.Core.Path.{_≡_, refl, ap, _∙_}
-use mathlib.Core.List.{[], map}
-use Prim.Native.Nat.{_+_, _-_, _*_, _/_, _%_, _≤_, _<_}
+use mathlib.Core.List.{[]}
+use Prim.Native.Nat.{_+_, _-_, _/_, _%_, _≤_}
 use native.Mathlib.Omega.{arith}
 use borrow.Author.Needs.{needs}
-use lib.ListN.{length, getD, set, length-set}
+use lib.ListN.{length, length-set}
 use Rattle.rules.specs.Bytes.{over}
-use Rattle.rules.specs.Letters.{folded}
 use Rattle.rules.specs.Translation.{residueCount, foldedTranslated}
 use Rattle.rules.proofs.Over.{overFrom, from-start}
-use Rattle.translation.specs.Residues.{placeAt}
-use Rattle.translation.proofs.Residues.{leftFrom, left-all, codon-turn, last-turn, no-rest, with-rest}
-use Rattle.translation.proofs.Places.{place-small, place-turn, pair-turn}
+use Rattle.translation.proofs.Residues.{leftFrom, left-all, codon-turn, four-turn, last-turn, no-rest, with-rest}
+use Rattle.translation.proofs.Places.{place-small, place-read}
 use Rattle.translation.proofs.reading.write_plain.Statement.{statement}
 use Rattle.translation.proofs.reading.write_plain.Tie as tie
 
@@ -36,53 +34,66 @@ abbrev μ-loop2 : tie.MeasureT-loop2
 
 loop-holds : tie.Need-loop-holds Inv-loop μ-loop Inv-loop2 μ-loop2
 loop-holds c =
-    (search needs, refl, ap (λ l. overFrom 0 l (c .before .before .args .out .now)) (left-all (c .before .before .args .table) [] (c .before .before .args .seq .now)) ∙ from-start (foldedTranslated (c .before .before .args .table) [] (c .before .before .args .seq .now)) (c .before .before .args .out .now))
-
-slice-write-out-2 : tie.Need-slice-write-out-2 Inv-loop μ-loop Inv-loop2 μ-loop2
-unfolding residueCount
-slice-write-out-2 c =
-    simp length-set (search needs)
+    let args = c .before .before .args in
+    (search needs, refl, ap (λ l. overFrom 0 l (args .out .now)) (left-all (args .table) [] (args .seq .now)) ∙ from-start (foldedTranslated (args .table) [] (args .seq .now)) (args .out .now))
 
 loop-again : tie.Need-loop-again Inv-loop μ-loop Inv-loop2 μ-loop2
 unfolding residueCount
-loop-again c = (
-  search needs,
-  simp length-set (c .before .before .before .before .loop .inv .1),
-  pair-turn (c .before .before .before .before .before .before .before .args .table) (c .before .before .before .before .before .before .before .args .code .now) (c .before .before .before .before .before .before .before .args .seq .now) (c .before .before .before .before .before .before .before .pre .0) (c .before .before .before .before .before .before .before .pre .1 .0) (c .before .before .before .before .loop .i) (c .before .before .before .before .loop .out) _ (c .before .before .pair-at .result / 131072 % 64) (c .before .before .pair-at .result / 2199023255552 % 64) (search needs) (search needs) (c .before .before .pair-at .ensures .0) (c .before .before .pair-at .ensures .1) (c .before .before .before .before .loop .inv .2),
-)
+loop-again c =
+    let args = c .before .before .before .before .before .before .before .before .before .before .args in
+    let pre = c .before .before .before .before .before .before .before .before .before .before .pre in
+    let loop = c .before .before .before .before .before .before .before .loop in
+    let first = c .before .before .before .before .before .pair-at in
+    let next = c .before .before .before .before .pair-at2 in (
+      search needs,
+      simp length-set (loop .inv .1),
+      four-turn (args .table) (args .seq .now) (loop .i) (loop .out) _ _ _ _ _ (omega arith) (omega (arith, loop .inv .1, pre .1 .1))
+          (place-read (args .table) (args .code .now) (args .seq .now) (loop .i) _ (pre .0) (first .ensures .0) (pre .1 .0) (omega arith))
+          (place-read (args .table) (args .code .now) (args .seq .now) (loop .i + 1) _ (pre .0) (first .ensures .1) (pre .1 .0) (omega arith))
+          (place-read (args .table) (args .code .now) (args .seq .now) (loop .i + 2) _ (pre .0) (next .ensures .0) (pre .1 .0) (omega arith))
+          (place-read (args .table) (args .code .now) (args .seq .now) (loop .i + 2 + 1) _ (pre .0) (next .ensures .1) (pre .1 .0) (omega arith))
+          (loop .inv .2),
+    )
 
 loop2-holds : tie.Need-loop2-holds Inv-loop μ-loop Inv-loop2 μ-loop2
-loop2-holds c =
-    (c .before .loop .inv .0, refl, refl)
+loop2-holds c = (c .before .loop .inv .0, refl, refl)
 
-element-copy-out-out-3 : tie.Need-element-copy-out-out-3 Inv-loop μ-loop Inv-loop2 μ-loop2
-element-copy-out-out-3 c =
-    rw (c .place-at .ensures) (place-small (c .before .before .before .before .before .before .before .args .seq .now) (c .before .before .loop2 .i))
+element-copy-out-out-5 : tie.Need-element-copy-out-out-5 Inv-loop μ-loop Inv-loop2 μ-loop2
+element-copy-out-out-5 c = rw (c .place-at .ensures) (place-small (c .before .before .before .before .before .before .before .args .seq .now) (c .before .before .loop2 .i))
 
 loop2-again : tie.Need-loop2-again Inv-loop μ-loop Inv-loop2 μ-loop2
 unfolding residueCount
-loop2-again c = (
-  search needs,
-  simp length-set (c .before .before .before .loop2 .inv .1),
-  place-turn (c .before .before .before .before .before .before .before .before .args .table) (c .before .before .before .before .before .before .before .before .args .code .now) (c .before .before .before .before .before .before .before .before .args .seq .now) (c .before .before .before .before .before .before .before .before .pre .0) (c .before .before .before .before .before .before .before .before .pre .1 .0) (c .before .before .before .loop2 .i) (c .before .before .before .loop2 .out) _ (c .before .place-at .result) (search needs) (search needs) (c .before .place-at .ensures) (c .before .before .before .loop2 .inv .2),
-)
+loop2-again c =
+    let args = c .before .before .before .before .before .before .before .before .args in
+    let pre = c .before .before .before .before .before .before .before .before .pre in
+    let loop2 = c .before .before .before .loop2 in (
+      search needs,
+      simp length-set (loop2 .inv .1),
+      codon-turn (args .table) (args .seq .now) (loop2 .i) (loop2 .out) _ _ (search needs) (search needs)
+          (place-read (args .table) (args .code .now) (args .seq .now) (loop2 .i) _ (pre .0) (c .before .place-at .ensures) (pre .1 .0) (search needs))
+          (loop2 .inv .2),
+    )
 
 same-length : tie.Need-same-length Inv-loop μ-loop Inv-loop2 μ-loop2
-same-length c =
-    simp length-set (c .before .before .loop2 .inv .1 ∙ c .before .before .before .before .loop .inv .1)
+same-length c = simp length-set (c .before .before .loop2 .inv .1 ∙ c .before .before .before .before .loop .inv .1)
 
 returns : tie.Need-returns Inv-loop μ-loop Inv-loop2 μ-loop2
 unfolding residueCount
 returns c =
-    with-rest (length (c .before .before .before .before .before .before .before .args .seq .now) / 3) (length (c .before .before .before .before .before .before .before .args .seq .now) % 3) (c .before .before .loop2 .out) _ (last-turn (c .before .before .before .before .before .before .before .args .table) (c .before .before .before .before .before .before .before .args .seq .now) (c .before .before .loop2 .i) (c .before .before .loop2 .out) _ [] (omega arith) (c .before .before .loop2 .inv .2 ∙ c .before .before .before .before .loop .inv .2)) (c .if1 .taken) (search needs)
+    let args = c .before .before .before .before .before .before .before .args in
+    let loop2 = c .before .before .loop2 in
+    let n = length (args .seq .now) in
+    with-rest (n / 3) (n % 3) (loop2 .out) _ (last-turn (args .table) (args .seq .now) (loop2 .i) (loop2 .out) _ [] (omega arith) (loop2 .inv .2 ∙ c .before .before .before .before .loop .inv .2)) (c .if1 .taken) (search needs)
 
 same-length-2 : tie.Need-same-length-2 Inv-loop μ-loop Inv-loop2 μ-loop2
-same-length-2 c =
-    c .before .before .loop2 .inv .1 ∙ c .before .before .before .before .loop .inv .1
+same-length-2 c = c .before .before .loop2 .inv .1 ∙ c .before .before .before .before .loop .inv .1
 
 returns-2 : tie.Need-returns-2 Inv-loop μ-loop Inv-loop2 μ-loop2
 returns-2 c =
-    no-rest (length (c .before .before .before .before .before .before .before .args .seq .now) / 3) (length (c .before .before .before .before .before .before .before .args .seq .now) % 3) (c .before .before .loop2 .out) _ (last-turn (c .before .before .before .before .before .before .before .args .table) (c .before .before .before .before .before .before .before .args .seq .now) (c .before .before .loop2 .i) (c .before .before .loop2 .out) _ [] (omega arith) (c .before .before .loop2 .inv .2 ∙ c .before .before .before .before .loop .inv .2)) (c .if1 .left)
+    let args = c .before .before .before .before .before .before .before .args in
+    let loop2 = c .before .before .loop2 in
+    let n = length (args .seq .now) in
+    no-rest (n / 3) (n % 3) (loop2 .out) _ (last-turn (args .table) (args .seq .now) (loop2 .i) (loop2 .out) _ [] (omega arith) (loop2 .inv .2 ∙ c .before .before .before .before .loop .inv .2)) (c .if1 .left)
 
 pub write-plain-spec : {M : Type 1} → statement M
 unfolding residueCount
@@ -94,25 +105,33 @@ write-plain-spec =
     Inv-loop2
     μ-loop2
     loop-holds
-    (λ c. search needs)
-    (λ c. search needs)
-    (λ c κs. search needs)
-    (λ c. search needs)
-    (λ c. search needs)
-    (λ c. search needs)
-    (λ c. search needs)
-    slice-write-out-2
-    (λ c. search needs)
-    (λ c. search needs)
+    (λ c. omega arith)
+    (λ c. omega arith)
+    (λ c κs. omega arith)
+    (λ c. omega arith)
+    (λ c κs. omega arith)
+    (λ c. omega arith)
+    (λ c. omega arith)
+    (λ c. omega arith)
+    (λ c. omega arith)
+    (λ c. simp length-set (omega arith))
+    (λ c. omega arith)
+    (λ c. omega arith)
+    (λ c. simp length-set (omega arith))
+    (λ c. omega arith)
+    (λ c. omega arith)
+    (λ c. simp length-set (omega arith))
+    (λ c. omega arith)
+    (λ c. omega arith)
     loop-again
     loop2-holds
-    (λ c κs. search needs)
-    element-copy-out-out-3
-    (λ c. search needs)
-    (λ c. search needs)
-    (λ c. search needs)
+    (λ c κs. omega arith)
+    element-copy-out-out-5
+    (λ c. omega arith)
+    (λ c. omega arith)
+    (λ c. omega arith)
     loop2-again
-    (λ c. search needs)
+    (λ c. omega arith)
     same-length
     returns
     same-length-2

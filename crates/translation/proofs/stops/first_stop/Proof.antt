@@ -1,4 +1,5 @@
 -- `translation::first_stop` meets its contract, whichever way is taken. Assumes nothing.
+use native.Mathlib.Omega.{arith}
 use borrow.Author.Needs.{needs}
 use Rattle.translation.proofs.Walks.{both}
 use Rattle.translation.proofs.stops.first_stop.Statement.{statement}
@@ -18,10 +19,10 @@ pub first-stop-spec : {M : Type 1} → statement M
 first-stop-spec =
     tie.close
     (tie.spec
-    (λ c κs. search needs)
+    (λ c κs. omega arith)
     stop-by-places-requires
     returns
+    (λ c κs. omega arith)
+    (λ c κs. omega arith)
     (λ c κs. search needs)
-    (λ c κs. search needs)
-    (λ c κs. search needs)
-    (λ c. search needs))
+    (λ c. omega arith))

@@ -1,14 +1,14 @@
 -- `translation::stop_by_sets` meets its contract. The invariant: the first stop from codon i on is the first, and no exception stands
 -- between codon i and the next that is known. Assumes nothing.
-use mathlib.Core.Logic.{⊎-elim}
-use mathlib.Core.Path.{_≡_, refl, sym, _∙_}
-use Prim.Native.Nat.{_+_, _-_, _/_, _≤_, _<_}
+use mathlib.Core.Path.{_≡_, sym, _∙_}
+use Prim.Native.Nat.{_+_, _-_, _/_, _≤_}
 use native.Mathlib.Omega.{arith}
 use borrow.Author.Needs.{needs}
 use lib.ListN.{length}
 use Rattle.rules.specs.Translation.{exceptionList, beforeStop, wholeCodons, foldedTranslated}
-use Rattle.translation.proofs.Excepted.{Clear, next-clear}
-use Rattle.translation.proofs.Walks.{residueAt, at-exception, at-no-exception, stopsFrom, stops-all, stops-later, stops-here, stops-none}
+use Rattle.translation.specs.Residues.{Clear}
+use Rattle.translation.proofs.Excepted.{next-clear}
+use Rattle.translation.proofs.Walks.{stopsFrom, stops-all, stops-later, stops-here, stops-none}
 use Rattle.translation.proofs.stops.stop_by_sets.Statement.{statement}
 use Rattle.translation.proofs.stops.stop_by_sets.Tie as tie
 
@@ -29,18 +29,10 @@ loop-holds c =
 
 loop-again : tie.Need-loop-again Inv-loop μ-loop
 loop-again c =
-    let args = c .before .before .before .before .before .before .before .args in
-    let if2 = c .before .if2 in
-    let loop = c .before .before .before .before .loop in
-    let codon-at = c .before .before .codon-at in
-    let es = exceptionList (args .e) in
-    let at = args .seq .now in
-    let turn : (if2 .r ≡ residueAt (args .table) es at (loop .i)) × Clear es (loop .i + 1) (if2 .next) =
-    ⊎-elim
-    (λ w. at-exception (args .table) es at (loop .i) (loop .next) (codon-at .result) (codon-at .ensures) (length at / 3 + 1) (if2 .r) (if2 .next) (omega arith) (w .0 .taken) (w .4 ∙ w .1 .ensures) (w .3 ∙ w .2 .ensures))
-    (λ w. at-no-exception (args .table) es at (loop .i) (loop .next) (codon-at .result) (codon-at .ensures) (if2 .r) (if2 .next) (loop .inv .1) (w .0 .left) (w .2) (w .1))
-    (if2 .came) in
-    (search needs, turn .1, sym (stops-later (args .table) es at (loop .i) (if2 .r) (search needs) (turn .0) (c .if3 .left)) ∙ loop .inv .2)
+    let args = c .before .before .before .before .before .before .args in
+    let turn = c .before .turn-at in
+    let loop = c .before .before .before .loop in
+    (search needs, turn .ensures .1, sym (stops-later (args .table) (exceptionList (args .e)) (args .seq .now) (loop .i) (turn .result .residue) (search needs) (turn .ensures .0) (c .if2 .left)) ∙ loop .inv .2)
 
 returns : tie.Need-returns Inv-loop μ-loop
 returns c =
@@ -50,18 +42,10 @@ returns c =
 
 returns-2 : tie.Need-returns-2 Inv-loop μ-loop
 returns-2 c =
-    let args = c .before .before .before .before .before .before .before .args in
-    let if2 = c .before .if2 in
-    let loop = c .before .before .before .before .loop in
-    let codon-at = c .before .before .codon-at in
-    let es = exceptionList (args .e) in
-    let at = args .seq .now in
-    let turn : (if2 .r ≡ residueAt (args .table) es at (loop .i)) × Clear es (loop .i + 1) (if2 .next) =
-    ⊎-elim
-    (λ w. at-exception (args .table) es at (loop .i) (loop .next) (codon-at .result) (codon-at .ensures) (length at / 3 + 1) (if2 .r) (if2 .next) (omega arith) (w .0 .taken) (w .4 ∙ w .1 .ensures) (w .3 ∙ w .2 .ensures))
-    (λ w. at-no-exception (args .table) es at (loop .i) (loop .next) (codon-at .result) (codon-at .ensures) (if2 .r) (if2 .next) (loop .inv .1) (w .0 .left) (w .2) (w .1))
-    (if2 .came) in
-    sym (stops-here (args .table) es at (loop .i) (if2 .r) (search needs) (turn .0) (c .if3 .taken)) ∙ loop .inv .2
+    let args = c .before .before .before .before .before .before .args in
+    let turn = c .before .turn-at in
+    let loop = c .before .before .before .loop in
+    sym (stops-here (args .table) (exceptionList (args .e)) (args .seq .now) (loop .i) (turn .result .residue) (search needs) (turn .ensures .0) (c .if2 .taken)) ∙ loop .inv .2
 
 pub stop-by-sets-spec : {M : Type 1} → statement M
 stop-by-sets-spec =
@@ -69,17 +53,12 @@ stop-by-sets-spec =
     (tie.spec
     Inv-loop
     μ-loop
-    (λ c. search needs)
-    (λ c κs. search needs)
+    (λ c. omega arith)
+    (λ c κs. omega arith)
     loop-holds
     (λ c κs. search needs)
-    (λ c. search needs)
-    (λ c κs. search needs)
-    (λ c. search needs)
-    (λ c. search needs)
-    (λ c κs. search needs)
-    (λ c. search needs)
-    (λ c. search needs)
+    (λ c. omega arith)
+    (λ c. omega arith)
     loop-again
     returns
     returns-2)

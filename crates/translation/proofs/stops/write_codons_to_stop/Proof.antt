@@ -70,11 +70,11 @@ write-codons-to-stop-spec =
     Inv-loop
     μ-loop
     loop-holds
-    (λ c κs. search needs)
+    (λ c κs. omega arith)
     element-copy-out-r
     slice-write-out
-    (λ c. search needs)
-    (λ c. search needs)
+    (λ c. omega arith)
+    (λ c. omega arith)
     loop-again
     same-length
     returns

@@ -41,12 +41,12 @@ write-through-stop-spec =
     tie.close
     (tie.spec
     (λ c κs. search needs)
-    (λ c. search needs)
-    (λ c. search needs)
+    (λ c. omega arith)
+    (λ c. omega arith)
     returns
     slice-write-out
-    (λ c. search needs)
+    (λ c. omega arith)
     (λ c. search needs)
     returns-2
-    (λ c. search needs)
+    (λ c. omega arith)
     returns-3)

@@ -1,14 +1,13 @@
 -- `translation::write_to_stop` meets its contract. The invariant: writing what is left gives the protein, and no exception stands
 -- between codon i and the next that is known. Assumes nothing.
-use mathlib.Core.Logic.{⊎-elim}
-use mathlib.Core.Path.{_≡_, refl, sym, _∙_}
-use Prim.Native.Nat.{_+_, _-_, _/_, _≤_, _<_}
+use Prim.Native.Nat.{_+_, _-_, _/_, _≤_}
 use native.Mathlib.Omega.{arith}
 use borrow.Author.Needs.{needs}
 use lib.ListN.{length, length-set}
 use Rattle.rules.specs.Translation.{exceptionList, residueCount, foldedTranslated, throughStop}
-use Rattle.translation.proofs.Excepted.{Clear, next-clear}
-use Rattle.translation.proofs.Walks.{residueAt, at-exception, at-no-exception, Walk, walk-start, walk-more, walk-stop, walk-end}
+use Rattle.translation.specs.Residues.{Clear}
+use Rattle.translation.proofs.Excepted.{next-clear}
+use Rattle.translation.proofs.Walks.{Walk, walk-start, walk-more, walk-stop, walk-end}
 use Rattle.translation.proofs.stops.write_to_stop.Statement.{statement}
 use Rattle.translation.proofs.stops.write_to_stop.Tie as tie
 
@@ -31,23 +30,15 @@ loop-holds c =
 slice-write-out : tie.Need-slice-write-out Inv-loop μ-loop
 unfolding residueCount
 slice-write-out c =
-    omega (arith, c .before .before .before .loop .inv .2 .same, c .before .before .if1 .left, c .before .before .before .before .before .before .before .pre .1 .1 .room)
+    omega (arith, c .before .before .loop .inv .2 .same, c .before .if1 .left, c .before .before .before .before .before .before .pre .1 .1 .room)
 
 loop-again : tie.Need-loop-again Inv-loop μ-loop
 unfolding residueCount
 loop-again c =
-    let args = c .before .before .before .before .before .before .before .before .args in
-    let if2 = c .before .if2 in
-    let loop = c .before .before .before .before .loop in
-    let codon-at = c .before .before .codon-at in
-    let es = exceptionList (args .e) in
-    let at = args .seq .now in
-    let turn : (if2 .r ≡ residueAt (args .table) es at (loop .i)) × Clear es (loop .i + 1) (if2 .next) =
-    ⊎-elim
-    (λ w. at-exception (args .table) es at (loop .i) (loop .next) (codon-at .result) (codon-at .ensures) (length at / 3 + 1) (if2 .r) (if2 .next) (omega arith) (w .0 .taken) (w .4 ∙ w .1 .ensures) (w .3 ∙ w .2 .ensures))
-    (λ w. at-no-exception (args .table) es at (loop .i) (loop .next) (codon-at .result) (codon-at .ensures) (if2 .r) (if2 .next) (loop .inv .1) (w .0 .left) (w .2) (w .1))
-    (if2 .came) in
-    (search needs, turn .1, walk-more (args .table) es at _ (args .out .now) (loop .out) (loop .i) (if2 .r) (loop .inv .2) (search needs) (omega (arith, loop .inv .2 .same, c .before .before .before .if1 .left, c .before .before .before .before .before .before .before .before .pre .1 .1 .room)) (turn .0) (c .if3 .left))
+    let start = c .before .before .before .before .before .before .before in
+    let turn = c .before .turn-at in
+    let loop = c .before .before .before .loop in
+    (search needs, turn .ensures .1, walk-more (start .args .table) (exceptionList (start .args .e)) (start .args .seq .now) _ (start .args .out .now) (loop .out) (loop .i) (turn .result .residue) (loop .inv .2) (search needs) (omega (arith, loop .inv .2 .same, c .before .before .if1 .left, start .pre .1 .1 .room)) (turn .ensures .0) (c .if2 .left))
 
 same-length : tie.Need-same-length Inv-loop μ-loop
 same-length c =
@@ -61,23 +52,15 @@ returns c =
 
 same-length-2 : tie.Need-same-length-2 Inv-loop μ-loop
 same-length-2 c =
-    simp length-set (c .before .before .before .before .loop .inv .2 .same)
+    simp length-set (c .before .before .before .loop .inv .2 .same)
 
 returns-2 : tie.Need-returns-2 Inv-loop μ-loop
 unfolding residueCount
 returns-2 c =
-    let args = c .before .before .before .before .before .before .before .before .args in
-    let if2 = c .before .if2 in
-    let loop = c .before .before .before .before .loop in
-    let codon-at = c .before .before .codon-at in
-    let es = exceptionList (args .e) in
-    let at = args .seq .now in
-    let turn : (if2 .r ≡ residueAt (args .table) es at (loop .i)) × Clear es (loop .i + 1) (if2 .next) =
-    ⊎-elim
-    (λ w. at-exception (args .table) es at (loop .i) (loop .next) (codon-at .result) (codon-at .ensures) (length at / 3 + 1) (if2 .r) (if2 .next) (omega arith) (w .0 .taken) (w .4 ∙ w .1 .ensures) (w .3 ∙ w .2 .ensures))
-    (λ w. at-no-exception (args .table) es at (loop .i) (loop .next) (codon-at .result) (codon-at .ensures) (if2 .r) (if2 .next) (loop .inv .1) (w .0 .left) (w .2) (w .1))
-    (if2 .came) in
-    walk-stop (args .table) es at _ (args .out .now) (loop .out) (loop .i) (if2 .r) (loop .inv .2) (search needs) (omega (arith, loop .inv .2 .same, c .before .before .before .if1 .left, c .before .before .before .before .before .before .before .before .pre .1 .1 .room)) (turn .0) (c .if3 .taken)
+    let start = c .before .before .before .before .before .before .before in
+    let turn = c .before .turn-at in
+    let loop = c .before .before .before .loop in
+    walk-stop (start .args .table) (exceptionList (start .args .e)) (start .args .seq .now) _ (start .args .out .now) (loop .out) (loop .i) (turn .result .residue) (loop .inv .2) (search needs) (omega (arith, loop .inv .2 .same, c .before .before .if1 .left, start .pre .1 .1 .room)) (turn .ensures .0) (c .if2 .taken)
 
 pub write-to-stop-spec : {M : Type 1} → statement M
 write-to-stop-spec =
@@ -85,18 +68,13 @@ write-to-stop-spec =
     (tie.spec
     Inv-loop
     μ-loop
-    (λ c. search needs)
-    (λ c κs. search needs)
+    (λ c. omega arith)
+    (λ c κs. omega arith)
     loop-holds
     (λ c κs. search needs)
-    (λ c. search needs)
-    (λ c κs. search needs)
-    (λ c. search needs)
-    (λ c. search needs)
-    (λ c κs. search needs)
     slice-write-out
-    (λ c. search needs)
-    (λ c. search needs)
+    (λ c. omega arith)
+    (λ c. omega arith)
     loop-again
     same-length
     returns

@@ -1,6 +1,7 @@
 -- `translation::write_walk` meets its contract, whichever way is taken. Assumes nothing.
+use native.Mathlib.Omega.{arith}
 use borrow.Author.Needs.{needs}
-use Rattle.translation.proofs.Blocks.{never}
+use Rattle.translation.proofs.Residues.{never}
 use Rattle.translation.proofs.Walks.{both}
 use Rattle.translation.proofs.stops.write_walk.Statement.{statement}
 use Rattle.translation.proofs.stops.write_walk.Tie as tie
@@ -25,12 +26,12 @@ pub write-walk-spec : {M : Type 1} → statement M
 write-walk-spec =
     tie.close
     (tie.spec
-    (λ c κs. search needs)
+    (λ c κs. omega arith)
     write-plain-to-stop-requires
-    (λ c. search needs)
+    (λ c. omega arith)
     returns
-    (λ c κs. search needs)
-    (λ c κs. search needs)
+    (λ c κs. omega arith)
+    (λ c κs. omega arith)
     write-to-stop-requires
-    (λ c. search needs)
+    (λ c. omega arith)
     (λ c. search needs))

@@ -10,7 +10,7 @@ use lib.Seq.{length-take-le}
 use Rattle.rules.specs.Translation.{wholeCodons, foldToLetters, residueCount, foldedTranslated, translation}
 use Rattle.rules.proofs.Fills.{refuses, gives}
 use Rattle.translation.specs.Residues.{foldToBases}
-use Rattle.translation.proofs.Blocks.{never}
+use Rattle.translation.proofs.Residues.{never}
 use Rattle.translation.proofs.Residues.{length-plain}
 use Rattle.translation.proofs.Answers.{no-table, not-full, no-room, no-letter, all-fold-to-letters, bases-letters, none-taken}
 use Rattle.translation.proofs.translate.translate_cds.Statement.{statement}
@@ -85,17 +85,17 @@ translate-cds-spec =
     (tie.spec
     returns
     returns-2
-    (λ c κs. search needs)
+    (λ c κs. omega arith)
     returns-3
-    (λ c. search needs)
+    (λ c. omega arith)
     slice-aggregate-all-fold-to-bases
-    (λ c κs. search needs)
+    (λ c κs. omega arith)
     write-letters-requires
-    (λ c. search needs)
+    (λ c. omega arith)
     returns-4
     slice-aggregate-all-fold-to-letters
-    (λ c κs. search needs)
+    (λ c κs. omega arith)
     write-letters-requires-2
-    (λ c. search needs)
+    (λ c. omega arith)
     returns-5
     returns-6)
