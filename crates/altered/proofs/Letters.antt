@@ -10,18 +10,25 @@ use lib.Seq.{length-take-le, getD-take, getD-drop, getD-append-add}
 use Rattle.rules.specs.Bytes.{all}
 use Rattle.rules.specs.Letters.{letterSet, isLetter}
 use Rattle.rules.specs.Complement.{complement, reverseComplement}
+use Rattle.rules.specs.Reference.{Reference, size}
+use Rattle.rules.specs.Edit.{Asked}
 use Rattle.rules.specs.Altered.{part, carried}
+use Rattle.rules.specs.declared.Limits.{Limits}
+use Rattle.rules.specs.Refusal.{refusal}
 use Rattle.rules.proofs.Tests.{all-take, all-drop, all-both}
 use Rattle.rules.proofs.Lists.{all-at}
 use Rattle.rules.proofs.Complement.{complement-last, letters-complement}
 use Rattle.rules.proofs.Parts.{letters-part}
+use Rattle.rules.proofs.Refusal.{reference-accepted}
+use Rattle.rules.proofs.Span.{span}
+use Rattle.rules.proofs.Altered.{altered-length, longestAltered, altered-fits}
 use Rattle.codons.proofs.Sets.{letter-some}
 use Rattle.edits.specs.declared.plans.Plan.{Plan}
 use Rattle.edits.specs.declared.plans.Source.{Source}
 use Rattle.edits.specs.declared.plans.Source.the-variants.{New, Copy, Turned}
-use Rattle.edits.specs.Plans.{sourceBytes, goesIn}
+use Rattle.edits.specs.Plans.{planOf, sourceBytes, goesIn}
 use Rattle.transcript.specs.Carrying.{Sourced, carriedBy}
-use Rattle.transcript.proofs.Transcripts.{length-goes-in, length-carried-by, copy-fits, turned-fits}
+use Rattle.transcript.proofs.Transcripts.{length-goes-in, length-carried-by, copy-fits, turned-fits, sourced-of, carried-by-is}
 use Rattle.altered.specs.Over.{Makes}
 
 -- a letter of a reverse complement is that of the letter as far from the end
@@ -114,3 +121,18 @@ module _ (p : Plan) (letters new : List ℕ) (m : Makes p letters new) where
   -- a letter's set
   pub some-set : (i : ℕ) → i < length (carriedBy p letters new) → 0 < letterSet (getD (carriedBy p letters new) i 0)
   some-set i h = letter-some (getD (carriedBy p letters new) i 0) (all-at isLetter (carriedBy p letters new) i letters-made h)
+
+-- what a caller has of an edit that isn't refused, whose new bases are letters
+pub makes-of : (m : Limits) (r : Reference) (e : Asked) → refusal m r e ≡ 0 → longestAltered m < 4294967296 → all isLetter (e .new) ≡ true
+    → Makes (planOf r e) (r .letters) (e .new)
+unfolding planOf size
+makes-of m r e ok short new =
+    let w = span m r e ok in
+    record {
+      source = sourced-of m r e ok;
+      rising = w .rising;
+      ends = w .ends;
+      old-short = omega (arith, reference-accepted m r e ok .fits);
+      new-short = rw (carried-by-is r e) (omega (arith, altered-length m r e ok .is, altered-fits m r e ok));
+      new-letters = new;
+    }

@@ -9,7 +9,7 @@ use lib.Seq.{length-take-le, drop-drop, drop-at, drop-append-add, getD-drop}
 use Rattle.rules.specs.Trims.{commonPrefix, commonSuffix}
 use Rattle.rules.specs.Altered.{carried}
 use Rattle.rules.specs.Exceptions.{suffixBehind}
-use Rattle.rules.proofs.Trims.{cp-le-l, cp-le-r, cp-append, cs-append, cs-le-l, cs-le-r, cs-more-at, cs-stop-at}
+use Rattle.rules.proofs.Trims.{cp-append, cs-append, cs-le-l, cs-le-r, cs-more-at, cs-stop-at}
 use Rattle.edits.specs.declared.plans.Plan.{Plan}
 use Rattle.edits.specs.Plans.{goesIn}
 use Rattle.transcript.specs.Carrying.{carriedBy}
