@@ -25,7 +25,7 @@ use Rattle.rules.specs.Refusal.{limits, refusal, Room, roomRefusal}
 use Rattle.rules.specs.Check.{isChanged}
 use Rattle.rules.specs.Views.{bare, asked, referenceOf}
 use Rattle.rules.proofs.Tests.{or-left}
-use Rattle.rules.proofs.Altered.{altered-length, altered-fits}
+use Rattle.rules.proofs.Altered.{altered-length}
 use Rattle.rules.proofs.Refusal.{reference-accepted}
 use Rattle.rules.proofs.Span.{span}
 use Rattle.reference.specs.declared.Known.{Known}
@@ -40,8 +40,9 @@ use Rattle.edits.proofs.Planning.{planned}
 use Rattle.exceptions.specs.Moving.{Given}
 use Rattle.exceptions.proofs.Moving.{given-of, moved-is, none-given}
 use Rattle.transcript.specs.Carrying.{carriedBy}
-use Rattle.transcript.proofs.Transcripts.{sourced-of, carried-by-is}
+use Rattle.transcript.proofs.Transcripts.{carried-by-is}
 use Rattle.altered.specs.Over.{Makes}
+use Rattle.altered.proofs.Letters.{makes-of}
 use Rattle.silent.specs.Comparing.{codingBy, proteinWith, Compares}
 use Rattle.silent.proofs.Same.{no-exceptions}
 use Rattle.altseq.specs.Carried.{proteinBy}
@@ -93,18 +94,10 @@ module _ (s : List ℕ) (k : Known) (e : Exceptions) (protein : List ℕ) (p : P
   front = omega (arith, ap (λ (p : Plan). p .from) (x .is), span limits r a (x .allowed) .front)
 
   pub makes : Makes p s new
-  unfolding planOf size
   makes =
-      let w = span limits r a (x .allowed) in
-      let bare-tests = sym (allowed-is limits s k e protein (x .known) a) ∙ x .allowed in
-      record {
-        source = rw (x .is) (sourced-of limits r a (x .allowed));
-        rising = omega (arith, ap (λ (p : Plan). p .from) (x .is), ap (λ (p : Plan). p .to) (x .is), w .rising);
-        ends = omega (arith, ap (λ (p : Plan). p .to) (x .is), w .ends);
-        old-short = omega (arith, reference-accepted limits r a (x .allowed) .fits);
-        new-short = omega (arith, ap length carried-is, altered-length limits r a (x .allowed) .is, altered-fits limits r a (x .allowed));
-        new-letters = planned (bare s (k .cds)) (sound limits s k e protein (x .known)) (limits .most) a (omega arith) bare-tests .letters;
-      }
+      let tests = sym (allowed-is limits s k e protein (x .known) a) ∙ x .allowed in
+      let letters = planned (bare s (k .cds)) (sound limits s k e protein (x .known)) (limits .most) a (omega arith) tests .letters in
+      rw (x .is) (makes-of limits r a (x .allowed) (omega arith) letters)
 
   pub given : Given first s e
   given = given-of limits r a (x .allowed) e refl
