@@ -232,16 +232,15 @@ static void check_case(const char *name, const struct garumbott_reference *refer
     }
 }
 
-static const struct proposal NOTHING = {.number = 1}, WRONG = {.deleted = (const uint8_t *)"k", .deleted_len = 1, .inserted = (const uint8_t *)"", .inserted_len = 1};
+static const struct proposal WRONG = {.deleted = (const uint8_t *)"k", .deleted_len = 1, .inserted = (const uint8_t *)"", .inserted_len = 1};
 
 /* An edit's own record, as `w` tells of it: accepted, and not the shortest where it was left whole for its flag and both ends are alike. Where the answer
- * isn't Changed, 26, whatever is proposed. */
+ * isn't Changed, its refusal or 26, although the proposal is wrong too. */
 static void own_record(const char *name, const struct garumbott_reference *reference, const struct garumbott_coding_edit *edit, const size_t room[3],
                        const struct garumbott_answer *w, const char *t, const char *r, const char *a)
 {
     if (w->answer != GARUMBOTT_CHANGED) {
         uint64_t refusal = w->answer == GARUMBOTT_REFUSED ? w->refusal : GARUMBOTT_REFUSAL_NOT_CHANGED;
-        check_case(name, reference, edit, &NOTHING, room, refusal, NO_NO, w, t, r, a);
         check_case(name, reference, edit, &WRONG, room, refusal, NO_NO, w, t, r, a);
         return;
     }
