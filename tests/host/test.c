@@ -998,26 +998,32 @@ static void proposal_bytes(void)
     }
 }
 
-/* Proposals longer than any protein: a no, but for a byte that is no residue, wherever it stands. */
+/* Proposals longer than any protein: a no, but for a byte that is no residue, wherever it stands. Those that begin as the right ones do are wrong too. */
 static void proposal_lengths(void)
 {
-    enum { LONG = 1 << 20 };
+    enum { LONG = (1 << 20) + 3 };
     static const struct garumbott_coding_edit lysine = ONE_NEW(SUBSTITUTION, 8, "G");
-    static uint8_t many[LONG];
-    static const uint64_t lengths[] = {0, 1, 2, 3, 4, 5, 6, 7, 100, 5461, 5462, 5463, 10923, 10924, 16384, 65535, 65536, 65537, LONG};
+    static uint8_t many[LONG], others[LONG];
+    static const uint64_t lengths[] = {0, 1, 2, 3, 4, 5, 6, 7, 100, 256, 259, 5461, 5462, 5463, 10923, 10924, 16384, 65535, 65536, 65537, 65539, LONG - 3, LONG};
     struct fence usual[2] = {fences[DELETED], fences[INSERTED]};
     uint8_t *t, *r, *a;
     struct garumbott_answer w = made(&W, &lysine, &t, &r, &a);
     memset(many, 'W', sizeof many);
     memcpy(many, "KW*", 3);
+    memset(others, 'W', sizeof others);
+    memcpy(others, "RW*", 3);
     for (size_t i = 0; i < sizeof lengths / sizeof *lengths; i++) {
         uint64_t n = lengths[i];
-        if (n == 5461 || n == 65535 || n == LONG) fence_make(&fences[DELETED], n + 10923), fence_make(&fences[INSERTED], n + 10923);
+        if (n == 5461 || n == 65535 || n == LONG - 3) fence_make(&fences[DELETED], n + 10923), fence_make(&fences[INSERTED], n + 10923);
         struct proposal both = {3, many, n, many, n}, deleted = {3, many, n, NULL, 0}, put_in = {3, NULL, 0, many, n}, last = {6, NULL, 0, many, n};
         check_case("long, both", &W, &lysine, &both, plenty, 0, NO_NO, &w, t, r, a);
         check_case("long, deleted", &W, &lysine, &deleted, plenty, 0, NO_NO, &w, t, r, a);
         check_case("long, inserted", &W, &lysine, &put_in, plenty, 0, NO_NO, &w, t, r, a);
         check_case("long, at the end", &W, &lysine, &last, plenty, 0, NO_NO, &w, t, r, a);
+        struct proposal more_deleted = {3, many, n, others, 3}, more_put_in = {3, many, 3, others, n}, more = {3, many, n, others, n};
+        check_case("long, begins right, deleted", &W, &lysine, &more_deleted, plenty, 0, n == 3 ? YES_NO : NO_NO, &w, t, r, a);
+        check_case("long, begins right, inserted", &W, &lysine, &more_put_in, plenty, 0, n == 3 ? YES_NO : NO_NO, &w, t, r, a);
+        check_case("long, begins right, both", &W, &lysine, &more, plenty, 0, n == 1 ? YES_YES : n == 2 || n == 3 ? YES_NO : NO_NO, &w, t, r, a);
         if (n == 0) continue;
         uint8_t kept = many[n - 1];
         many[n - 1] = '@';

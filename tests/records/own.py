@@ -172,7 +172,7 @@ def cases(count, seed):
             if word not in CLASSES:
                 if rand.random() < 0.2 and word != "refused":
                     proposal = (rand.randint(0, 3), "", rand.choice(("", "K", "k")))
-                    room = (0, 0, 0) if word == "unknown" and rand.random() < 0.5 else AMPLE
+                    room = (0, 0, 0) if rand.random() < 0.4 else AMPLE
                     yield ref, edit, altered, word, room, [(word, proposal, wanted(ref, edit, None, room, proposal))]
                 continue
             r, a, s = ref.protein, altered.protein, record.number - 1
