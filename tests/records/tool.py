@@ -2,9 +2,11 @@
 wrong. The account of the documents (tests/account) must say the same. Prints what was tried; exits 1 if something differs."""
 import os
 import random
+import shutil
 import signal
 import subprocess
 import sys
+import tempfile
 
 sys.path.insert(0, "tests/account")
 import account
@@ -198,9 +200,47 @@ def seen():
     expect("a reader that wants no more", (head.wait(), head.stderr.read()), (-signal.SIGPIPE, b""))
 
 
+def building():
+    """The script among crates and a toolchain of the test's own, whose rt hands out the archive that is there."""
+    with tempfile.TemporaryDirectory() as room:
+        def put(name, text):
+            path = os.path.join(room, name)
+            os.makedirs(os.path.dirname(path), exist_ok=True)
+            with open(path, "w", encoding="utf-8") as f:
+                f.write(text)
+            os.chmod(path, 0o755)
+
+        for name in ("check-records", "tools/check-records.c", "include/garumbott.h"):
+            with open(name, encoding="utf-8") as f:
+                put(f"here/{name}", f.read())
+        put("here/crates.txt", "garumbott:\n")
+        put("here/crates/garumbott/src/lib.rt", "")
+        put("kit/bin/rt", '#!/bin/sh\n[ "$*" = "staticlib garumbott" ] || exit 2\n[ ! -e broken ] || { echo "a wrong proof"; exit 1; }\n'
+            f'mkdir -p target/staticlib && cp "{os.path.abspath("target/staticlib/libgarumbott.a")}" target/staticlib/\n')
+        real = os.path.dirname(os.path.dirname(os.path.realpath(shutil.which("rt"))))
+        env = {"RATTLE_HOME": real, **os.environ, "PATH": f"{room}/kit/bin:{os.environ['PATH']}"}
+        ran = lambda: subprocess.run([os.path.join(room, "here/check-records")], input=W + b"8A>G 3 K R\n", capture_output=True, env=env)
+        started, counted = b"check-records: proving the library and building the program; this takes some minutes the first time\n", b"check-records: 1 yes yes, 0 yes no, 0 no no\n"
+        for what, before in (("a first run", started), ("a second run", b"")):
+            got = ran()
+            expect(what, (got.returncode, got.stdout, got.stderr), (0, b"reference MAKW*\nyes yes\n", before + counted))
+        put("here/crates/garumbott/src/lib.rt", "// changed")
+        got = ran()
+        expect("a run when a source has changed", (got.returncode, got.stderr), (0, started + counted))
+        put("here/broken", "")
+        put("here/crates/garumbott/src/lib.rt", "// changed again")
+        got = ran()
+        expect("a run that isn't proved", (got.returncode, got.stdout, got.stderr), (1, b"", started + b"a wrong proof\ncheck-records: the library was not proved\n"))
+        os.remove(os.path.join(room, "here/broken"))
+        put("here/tools/check-records.c", "int main(void) { return x; }\n")
+        got = ran()
+        expect("a program that doesn't compile", (got.returncode, got.stdout, got.stderr.endswith(b"check-records: the program was not built\n")), (1, b"", True))
+
+
 run(b"")  # builds the program, if that wasn't done
 count = listed()
 limits()
 lines = random_inputs(1, 60)
 seen()
+building()
 print(f"check-records: {count} lines beside their answers, {lines} random and damaged lines: as the account has them")
