@@ -1,8 +1,8 @@
 /* garumbott.h: the Garumbott variant module, for programs written in C.
  *
  * Given a reference transcript and one coding edit, the module builds the altered transcript, reads the altered protein from it and answers
- * one protein record, or the one numbered refusal that its rules give. References can be read from a stored form. Translation, residue names,
- * the reverse complement and two trims can be called by themselves.
+ * one protein record, or the one numbered refusal that its rules give. It also says whether a record that another program made fits its edit.
+ * References can be read from a stored form. Translation, residue names, the reverse complement and two trims can be called by themselves.
  *
  * In ten minutes. Put this into first.c, and
  *     cc -std=c11 first.c $(pkg-config --cflags --libs garumbott) -o first && ./first
@@ -79,8 +79,8 @@ extern "C" {
 #define GARUMBOTT_MOST_EXCEPTIONS 16
 #define GARUMBOTT_EXCEPTION_BYTES 3
 
-/* Buffers of these sizes are never too short for garumbott_edit and garumbott_record. garumbott_transcript_room and the two functions behind it
- * compute smaller ones. */
+/* Buffers of these sizes are never too short for garumbott_edit, garumbott_record and garumbott_check. garumbott_transcript_room and the two
+ * functions behind it compute smaller ones. */
 #define GARUMBOTT_TRANSCRIPT_ROOM 32768
 #define GARUMBOTT_REFERENCE_ROOM 5462
 #define GARUMBOTT_ALTERED_ROOM 10923
@@ -145,6 +145,8 @@ extern "C" {
 #define GARUMBOTT_REFUSAL_TAG 21             /* stored: a tag is unknown, repeated or not rising */
 #define GARUMBOTT_REFUSAL_MISSING 22         /* stored: letters, bounds or table are missing */
 #define GARUMBOTT_REFUSAL_FIELD 23           /* stored: a field's length is wrong for its tag, or tag 8 isn't 1 or 2 */
+#define GARUMBOTT_REFUSAL_NOT_CHANGED 26     /* a record to be checked: the edit's answer isn't GARUMBOTT_CHANGED */
+#define GARUMBOTT_REFUSAL_PROPOSAL 27        /* a record to be checked: its number is 0 or above R's length plus one, or a byte of it is no residue */
 #define GARUMBOTT_REFUSAL_END 28             /* the end is unknown; or it isn't at a stop, and ce isn't the last base or R has a '*' */
 #define GARUMBOTT_REFUSAL_LINE 30            /* a text line isn't in the form */
 
@@ -182,6 +184,23 @@ struct garumbott_answer {
     uint64_t inserted_at;  /* the residues of A that come: A[inserted_at] .. A[inserted_at + inserted_len - 1] */
     uint64_t inserted_len; /* may be 0 */
     uint64_t first;        /* duplication: the number of the first residue that is repeated, else 0 */
+};
+
+/* What garumbott_check answers. A yes is 1, a no 0.
+ *
+ *                   refused  no       yes, no  yes, yes
+ *   refusal         number   0        0        0
+ *   replays         0        0        1        1
+ *   shortest        0        0        0        1
+ *   .._len          0        written  written  written
+ */
+struct garumbott_checked {
+    uint64_t refusal;        /* GARUMBOTT_REFUSAL_.., or 0 */
+    uint64_t replays;        /* the first answer: whether the proposed record, carried out on R, gives A */
+    uint64_t shortest;       /* the second: whether it also begins where R and A part, and is the shortest such */
+    uint64_t transcript_len; /* bytes written to each buffer */
+    uint64_t reference_len;
+    uint64_t altered_len;
 };
 
 /* What garumbott_read_stored answers: a refusal's number and every other number 0, or 0, the reference's numbers, and where its letters and its
@@ -254,6 +273,38 @@ struct garumbott_answer garumbott_edit(const uint8_t *letters, uint64_t letters_
                                        uint64_t start_star, int64_t start, uint64_t end_star, int64_t end, const uint8_t *bases,
                                        uint64_t bases_len, uint8_t *transcript, uint64_t transcript_len);
 
+/* Checks a protein record that somebody else made of an edit: a proposal. The reference, the edit and the buffers are those of garumbott_record, and R and A
+ * are what it writes. The proposal:
+ *   number                       of the first residue of R that is replaced; where none is, of the one before which residues go in. From 1 to R's
+ *                                length plus one, which is behind R's last residue (27)
+ *   deleted, deleted_len         the residues that go, each 'A' to 'Z' or '*', upper case; none: length 0 (27)
+ *   inserted, inserted_len       the residues that come, likewise (27). Neither has a longest length
+ *
+ * What the answers mean, whoever proposed the record:
+ *   replays    Yes says exactly this: the deleted residues stand in R at that number, so that R[number - 1] .. R[number + deleted_len - 2] are these, and R
+ *              with the inserted residues in their place is A, from its first residue to its last. Everything else is a no: deleted residues that R
+ *              doesn't have there or that run over its end, one residue or a number that is off, an ending that is left out.
+ *   shortest   Yes says that the proposal also begins where the proteins part and is the shortest such: number is one more than the count of leading
+ *              residues that R and A share, and behind these the longest ending that both share is left out. Then no proposal that gets the first yes
+ *              and begins there has fewer residues, and none that gets it begins later. No wherever the first answer is no.
+ * So a change that can be written at several places, as a copy among equal residues, gets a first yes at each of them, and a second one at the last.
+ * In the reference of the example above "4_6dup" makes MAAKW* of MAKW*: "3 - A" gets yes, yes; "2 - A" yes, no; "2 A AA" yes, no; "3 - K" no, no.
+ * Only residues are compared. The class, the words and the letters by which another program tells of a change aren't looked at.
+ *
+ * What garumbott_record itself answers to the edit always gets the first yes, and both where its frameshift flag isn't set. With the flag its record has
+ * all that is left of both proteins, and gets a second no where these end alike: "10delinsTAG" is answered "stop-gained 4 W* *", which gets yes, no;
+ * "4 W -" gets yes, yes.
+ *
+ * Refusals, the first that applies: 1 to 5; 6 or 28; 7 to 10; 26 where garumbott_record answers Unknown; 11; 12; 26 where it answers no protein or
+ * silent; 27. So an Unknown needs no room, and a proposal is looked at only where there is a change to hold it to. A refusal leaves every byte of the
+ * three buffers as it was, 26 and 27 too. A yes and a no have written all three as garumbott_record does. */
+struct garumbott_checked garumbott_check(const uint8_t *letters, uint64_t letters_len, uint64_t cs, uint64_t ce, uint64_t table,
+                                         const uint8_t *exceptions, uint64_t exceptions_len, uint64_t cds_end, uint64_t kind,
+                                         uint64_t start_star, int64_t start, uint64_t end_star, int64_t end, const uint8_t *bases,
+                                         uint64_t bases_len, uint64_t number, const uint8_t *deleted, uint64_t deleted_len,
+                                         const uint8_t *inserted, uint64_t inserted_len, uint8_t *transcript, uint64_t transcript_len,
+                                         uint8_t *reference, uint64_t reference_len, uint8_t *altered, uint64_t altered_len);
+
 /* ---- Stored references -------------------------------------------------------------------------------------------------------------- */
 
 /* Reads a reference from its stored form, and judges it: 1 to 6 and 28 are tested here as in garumbott_record.
@@ -277,7 +328,7 @@ struct garumbott_answer garumbott_edit(const uint8_t *letters, uint64_t letters_
  *   1 to 6       the lowest, 28 in 6's place where the CDS doesn't end at a stop
  *
  * Nothing is copied: the letters and the exceptions stay where they stand in data, which must stay as it is while they are used.
- * garumbott_reference_at, below, makes of the answer what garumbott_record_of and garumbott_edit_of take. */
+ * garumbott_reference_at, below, makes of the answer what garumbott_record_of, garumbott_edit_of and garumbott_check_of take. */
 struct garumbott_stored garumbott_read_stored(const uint8_t *data, uint64_t data_len);
 
 /* ---- The text program --------------------------------------------------------------------------------------------------------------- */
@@ -382,6 +433,15 @@ static inline struct garumbott_answer garumbott_edit_of(const struct garumbott_r
                           e->start_star, e->start, e->end_star, e->end, e->bases, e->bases_len, b->transcript, b->transcript_len);
 }
 
+static inline struct garumbott_checked garumbott_check_of(const struct garumbott_reference *r, const struct garumbott_coding_edit *e,
+                                                          uint64_t number, const uint8_t *deleted, uint64_t deleted_len,
+                                                          const uint8_t *inserted, uint64_t inserted_len, const struct garumbott_buffers *b)
+{
+    return garumbott_check(r->letters, r->letters_len, r->cs, r->ce, r->table, r->exceptions, r->exceptions_len, r->end, e->kind,
+                           e->start_star, e->start, e->end_star, e->end, e->bases, e->bases_len, number, deleted, deleted_len, inserted,
+                           inserted_len, b->transcript, b->transcript_len, b->reference, b->reference_len, b->altered, b->altered_len);
+}
+
 /* Room that is enough for any edit of a kind with so many new bases. Less may do: 11 and 12 ask for the altered length itself, and for a
  * residue of each of its codons from cs on. The numbers are those of a reference and an edit that aren't refused; garumbott_record with three
  * buffers of length 0 tells whether they are: it answers 11, 12 or Unknown to one that is accepted. */
@@ -469,6 +529,9 @@ static inline const char *garumbott_refusal_words(uint64_t number)
     case GARUMBOTT_REFUSAL_TAG: return "a stored tag is unknown, repeated or not rising";
     case GARUMBOTT_REFUSAL_MISSING: return "stored tag 1, 2 or 3 (letters, bounds, table) is missing";
     case GARUMBOTT_REFUSAL_FIELD: return "a stored field's length is wrong for its tag, or the content of tag 8 is not 1 or 2";
+    case GARUMBOTT_REFUSAL_NOT_CHANGED: return "the edit's answer isn't Changed: it is unknown, silent or no protein, and has no record to check";
+    case GARUMBOTT_REFUSAL_PROPOSAL:
+        return "the proposed record's number is 0 or above the length of R plus one, or a residue byte of it is not A to Z or *";
     case GARUMBOTT_REFUSAL_END:
         return "the CDS's stated end is unknown, or it is cut short and ce is not the last base or a codon reads *";
     case GARUMBOTT_REFUSAL_LINE: return "the text line is not in the form";
