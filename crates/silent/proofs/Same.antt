@@ -19,6 +19,7 @@ use Rattle.rules.specs.Reference.{Reference, cdsSize, cds, referenceProtein}
 use Rattle.rules.specs.Altered.{carried}
 use Rattle.rules.specs.Views.{referenceOf}
 use Rattle.rules.proofs.Tests.{and-left, and-right}
+use Rattle.rules.proofs.Translation.{length-exceptions}
 use Rattle.rules.proofs.Reading.{restOf, residue-at}
 use Rattle.rules.proofs.Reference.{accepted, length-cds, protein-read}
 use Rattle.rules.proofs.Silent.{residueAt, sameFrom, same-all, same-on, same-stop, same-parts, same-past, same-rest, same-before, stopless, same-own}
@@ -27,11 +28,19 @@ use Rattle.edits.specs.declared.plans.Plan.{Plan}
 use Rattle.edits.specs.Plans.{goesIn}
 use Rattle.transcript.specs.Carrying.{carriedBy}
 use Rattle.transcript.proofs.Transcripts.{length-goes-in}
-use Rattle.altered.proofs.Letters.{length-made, before-at}
+use Rattle.altered.proofs.Letters.{length-made, before-at, behind-at}
 use Rattle.altered.proofs.Shares.{front-starts}
 use Rattle.altered.specs.Over.{Makes}
 use Rattle.silent.proofs.Kept.{all-before}
-use Rattle.silent.specs.Comparing.{codingBy, proteinWith, Compares}
+use Rattle.silent.specs.Comparing.{codingBy, proteinWith, Compares, Placed}
+
+-- none are counted, none are there
+no-exceptions : (e : Exceptions) → e .count ≡ 0 → exceptionList e ≡ []
+no-exceptions e h = by (exceptionList e) (length-exceptions e ∙ h)
+  where
+    by : {A : Type 0} (xs : List A) → length xs ≡ 0 → xs ≡ []
+    by [] k = refl
+    by (x ∷ xs) k = absurd (omega arith)
 
 -- the transcript that a plan makes
 module _ (p : Plan) (s new : List ℕ) (m : Makes p s new) where
@@ -81,6 +90,16 @@ module _ (s : List ℕ) (c : Cds) (e moved : Exceptions) (R : List ℕ) (p : Pla
 
   pub in-made : (k : ℕ) → k < (p .length - first) / 3 → first + k * 3 + 3 ≤ length (carriedBy p s new)
   in-made k h = omega (arith, x .long, in-transcript)
+
+  pub placed : (k : ℕ) → k < (p .length - first) / 3 → Placed p first k
+  placed k h =
+      let made = length-made p s new (x .makes) in
+      record {
+        front = omega (arith, x .front, x .makes .rising);
+        small = omega (arith, in-made k h, x .makes .new-short);
+        to-small = omega (arith, x .makes .ends, x .makes .old-short);
+        put-small = omega (arith, made, x .makes .new-short);
+      }
 
   pub starts-within : (k : ℕ) → first + k * 3 ≤ p .from → k ≤ (p .length - first) / 3
   starts-within k h = omega (arith, x .long, length-made p s new (x .makes))
@@ -154,15 +173,28 @@ module _ (s : List ℕ) (c : Cds) (e moved : Exceptions) (R : List ℕ) (p : Pla
       let both = and-left (none && level) behind h in
       ends-level (eqb-true (e .count) 0 (and-left none level both)) k (eqb-true (p .to - p .from) (p .kept) (and-right none level both)) (leb-true (p .to) (first + k * 3) (and-right (none && level) behind h)) few more
 
-  -- a turn
-  module _ (k v : ℕ) (more : k < (p .length - first) / 3)
-      (is : v ≡ excepted (exceptionList moved) (k + 1) (codon (c .table) (getD (carriedBy p s new) (first + k * 3) 0) (getD (carriedBy p s new) (first + k * 3 + 1) 0) (getD (carriedBy p s new) (first + k * 3 + 2) 0))) where
-    read : v ≡ residueAt (c .table) (exceptionList moved) u R k
-    read =
-        let two : first + k * 3 + 1 ≡ first + (k * 3 + 1) = omega arith in
-        let three : first + k * 3 + 2 ≡ first + (k * 3 + 2) = omega arith in
-        is ∙ rw (letter-of (k * 3), letter-of (k * 3 + 1), letter-of (k * 3 + 2), two, three)
+  -- behind the edit, a codon of the reference
+  pub reused-is : (k j : ℕ) → e .count ≡ 0 → p .from + p .kept ≤ first + k * 3 → first + k * 3 + p .to ≡ first + j * 3 + (p .from + p .kept) → j + 1 < length R
+      → getD R j 0 ≡ residueAt (c .table) (exceptionList moved) u R k
+  unfolding excepted
+  reused-is k j none behind place few =
+      let alike : (i m n : ℕ) → m ≡ j * 3 + i → n ≡ k * 3 + i → getD (drop first s) m 0 ≡ getD u n 0 = λ i m n f g.
+      let old : first + m ≡ first + n - p .from - p .kept + p .to = omega arith in
+      getD-drop first s m 0 ∙ ap (λ (l : ℕ). getD s l 0) old ∙ behind-at p s new (x .makes) (first + n) (omega arith) (omega arith) ∙ sym (letter-of n) in
+      reference-at j few
+      ∙ rw (both-none none, no-exceptions e none, alike 0 (j * 3) (k * 3) (omega arith) (omega arith), alike 1 (j * 3 + 1) (k * 3 + 1) refl refl, alike 2 (j * 3 + 2) (k * 3 + 2) refl refl)
 
+  -- a residue that is read
+  pub read-is : (k v : ℕ)
+      → v ≡ excepted (exceptionList moved) (k + 1) (codon (c .table) (getD (carriedBy p s new) (first + k * 3) 0) (getD (carriedBy p s new) (first + k * 3 + 1) 0) (getD (carriedBy p s new) (first + k * 3 + 2) 0))
+      → v ≡ residueAt (c .table) (exceptionList moved) u R k
+  read-is k v is =
+      let two : first + k * 3 + 1 ≡ first + (k * 3 + 1) = omega arith in
+      let three : first + k * 3 + 2 ≡ first + (k * 3 + 2) = omega arith in
+      is ∙ rw (letter-of (k * 3), letter-of (k * 3 + 1), letter-of (k * 3 + 2), two, three)
+
+  -- a turn
+  module _ (k v : ℕ) (more : k < (p .length - first) / 3) (read : v ≡ residueAt (c .table) (exceptionList moved) u R k) where
     in-coding : k < length u / 3
     in-coding = omega (arith, length-coding)
 

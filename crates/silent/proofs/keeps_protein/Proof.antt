@@ -10,17 +10,17 @@ use Rattle.rules.specs.Translation.{exceptionList}
 use Rattle.rules.proofs.Silent.{sameFrom}
 use Rattle.transcript.specs.Carrying.{carriedBy}
 use Rattle.silent.specs.Comparing.{proteinWith}
-use Rattle.silent.proofs.Same.{first-some, in-transcript, some-residues, codes, starts, starts-within, past, ends, ends-here, parts, stops, goes-on, in-made}
+use Rattle.silent.proofs.Same.{first-some, in-transcript, some-residues, starts, starts-within, past, ends, ends-here, parts, stops, goes-on}
 use Rattle.silent.proofs.keeps_protein.Statement.{statement}
 use Rattle.silent.proofs.keeps_protein.Tie as tie
 
 abbrev Inv-loop : tie.InvT-loop
-Inv-loop letters c moved protein plan new first whole rest level tail k₀ k =
+Inv-loop letters c e moved protein plan new first whole rest level tail k₀ k =
     (sameFrom (c .table) (exceptionList moved) (drop (c .cs - 1) (carriedBy plan letters new)) protein k ≡ same protein (proteinWith c moved plan letters new))
     × (k ≤ (plan .length - (c .cs - 1)) / 3)
 
 abbrev μ-loop : tie.MeasureT-loop
-μ-loop letters c moved protein plan new first whole rest level tail k₀ k = (plan .length - (c .cs - 1)) / 3 - k
+μ-loop letters c e moved protein plan new first whole rest level tail k₀ k = (plan .length - (c .cs - 1)) / 3 - k
 
 sub-first : tie.Need-sub-first Inv-loop μ-loop
 sub-first c =
@@ -91,18 +91,15 @@ returns-3 c =
     let turn = c .before .before .before .loop in
     sym (ends-here (a .letters .now) (a .c) (a .e) (a .moved) (a .protein .now) (a .plan) (a .new .now) x (turn .k) (c .if3 .taken) (omega (arith, c .before .if2 .left)) (omega (arith, c .before .before .if1 .left))) ∙ turn .inv .0
 
-residue-at-requires : tie.Need-residue-at-requires Inv-loop μ-loop
-residue-at-requires c κs =
-    let a = c .before .before .before .before .before .before .before .before .before .before .before .before .before .before .args in
-    let x = c .before .before .before .before .before .before .before .before .before .before .before .before .before .before .pre in
-    (x .makes, (in-made (a .letters .now) (a .c) (a .e) (a .moved) (a .protein .now) (a .plan) (a .new .now) x (c .before .before .before .loop .k) (omega (arith, c .before .before .if1 .left)), (codes (a .letters .now) (a .c) (a .e) (a .moved) (a .protein .now) (a .plan) (a .new .now) x, x .few)))
+altered-at-requires : tie.Need-altered-at-requires Inv-loop μ-loop
+altered-at-requires c κs = (c .before .before .before .before .before .before .before .before .before .before .before .before .before .before .pre, omega (arith, c .before .before .if1 .left))
 
 returns-4 : tie.Need-returns-4 Inv-loop μ-loop
 returns-4 c =
     let a = c .before .before .before .before .before .before .before .before .before .before .before .before .before .before .before .before .before .args in
     let x = c .before .before .before .before .before .before .before .before .before .before .before .before .before .before .before .before .before .pre in
     let turn = c .before .before .before .before .before .before .loop in
-    let read = c .before .before .residue-at in
+    let read = c .before .before .altered-at in
     sym (parts (a .letters .now) (a .c) (a .e) (a .moved) (a .protein .now) (a .plan) (a .new .now) x (turn .k) (read .result) (omega (arith, c .before .before .before .before .before .if1 .left)) (read .ensures) (omega (arith, c .before .before .before .before .if2 .left)) (c .if4 .taken)) ∙ turn .inv .0
 
 returns-5 : tie.Need-returns-5 Inv-loop μ-loop
@@ -110,7 +107,7 @@ returns-5 c =
     let a = c .before .before .before .before .before .before .before .before .before .before .before .before .before .before .before .before .before .before .args in
     let x = c .before .before .before .before .before .before .before .before .before .before .before .before .before .before .before .before .before .before .pre in
     let turn = c .before .before .before .before .before .before .before .loop in
-    let read = c .before .before .before .residue-at in
+    let read = c .before .before .before .altered-at in
     sym (stops (a .letters .now) (a .c) (a .e) (a .moved) (a .protein .now) (a .plan) (a .new .now) x (turn .k) (read .result) (omega (arith, c .before .before .before .before .before .before .if1 .left)) (read .ensures) (omega (arith, c .before .before .before .before .before .if2 .left)) (c .before .if4 .left) (c .if5 .taken)) ∙ turn .inv .0
 
 loop-less : tie.Need-loop-less Inv-loop μ-loop
@@ -121,7 +118,7 @@ loop-again c =
     let a = c .before .before .before .before .before .before .before .before .before .before .before .before .before .before .before .before .before .before .args in
     let x = c .before .before .before .before .before .before .before .before .before .before .before .before .before .before .before .before .before .before .pre in
     let turn = c .before .before .before .before .before .before .before .loop in
-    let read = c .before .before .before .residue-at in (
+    let read = c .before .before .before .altered-at in (
       sym (goes-on (a .letters .now) (a .c) (a .e) (a .moved) (a .protein .now) (a .plan) (a .new .now) x (turn .k) (read .result) (omega (arith, c .before .before .before .before .before .before .if1 .left)) (read .ensures) (omega (arith, c .before .before .before .before .before .if2 .left)) (c .before .if4 .left) (c .if5 .left)) ∙ turn .inv .0,
       omega (arith, c .before .before .before .before .before .before .if1 .left),
     )
@@ -144,7 +141,7 @@ keeps-protein-spec =
     mul-if3
     add-if3
     returns-3
-    residue-at-requires
+    altered-at-requires
     (λ c. search needs)
     returns-4
     (λ c. search needs)
