@@ -5,13 +5,10 @@ use numbers::least;
 use rules::Cds;
 use rules::Exceptions;
 ghost use mathlib.Core.Path.{_≡_};
-ghost use Prim.Native.Nat.{_+_, _-_, _*_, _/_, _≤_, _<_};
+ghost use Prim.Native.Nat.{_+_, _*_, _≤_};
 ghost use lib.ListN.{drop};
 ghost use Rattle.rules.specs.Bytes.{same};
-ghost use Rattle.rules.specs.Translation.{exceptionList};
 ghost use Rattle.rules.proofs.Reading.{restOf};
-ghost use Rattle.rules.proofs.Silent.{residueAt};
-ghost use Rattle.transcript.specs.Carrying.{carriedBy};
 ghost use Rattle.silent.specs.Comparing.{proteinWith, Compares, Placed, Reused};
 
 // Whether R has as many residues left behind its first k as a rest of bases makes: an X, or none.
@@ -36,49 +33,25 @@ fn first_changed(plan: Plan, first: usize, residues: usize) -> usize
     least((plan.from - first) / 3, residues - 1)
 }
 
-// Which residue of R, before its last, codon k is, counted from 0: behind the edit, in the reference's frame, and without exceptions; else `last`.
-fn source_of(plan: Plan, first: usize, count: usize, last: usize, k: usize) -> usize
+// Which codon of R codon k is, counted from 0: behind the edit, in the reference's frame, and without exceptions; else `residues`, R's length.
+fn source_of(plan: Plan, first: usize, count: usize, residues: usize, k: usize) -> usize
     requires { ⌜ Placed plan first k ⌝ }
-    ensures { λ r. ⌜ Reused plan first count last k r ⌝ }
+    ensures { λ r. ⌜ Reused plan first count residues k r ⌝ }
 {
     let at = first + k * 3;
     let back = plan.from + plan.kept;
     if (count != 0) | (at < back) {
-        return last;
+        return residues;
     }
     let old = at - back + (plan.to - first);
     if old % 3 != 0 {
-        return last;
+        return residues;
     }
-    least(old / 3, last)
-}
-
-// The residue of codon k of the transcript that a plan makes: R's where the codon is one of the reference's, else read.
-fn altered_at(
-    letters: &[u8],
-    c: Cds,
-    e: Exceptions,
-    moved: Exceptions,
-    protein: &[u8],
-    plan: Plan,
-    new: &[u8],
-    k: usize,
-) -> u8
-    requires { ⌜ Compares (now letters) c e moved (now protein) plan (now new) ⌝ }
-    requires { ⌜ k < (plan .length - (c .cs - 1)) / 3 ⌝ }
-    ensures { λ r. ⌜ r ≡ residueAt (c .table) (exceptionList moved) (drop (c .cs - 1) (carriedBy plan (now (letters .entry)) (now (new .entry)))) (now (protein .entry)) k ⌝ }
-{
-    let first = c.cs - 1;
-    let last = protein.len() - 1;
-    let j = source_of(plan, first, e.count, last, k);
-    if j < last {
-        return protein[j];
-    }
-    residue_at(letters, c.table, plan, new, moved, first, k)
+    least(old / 3, residues)
 }
 
 // Whether the protein that a plan makes, with the moved exceptions, is R: read codon by codon from the first that the edit may change, to where
-// the two part or end, or to where the transcript is as it was.
+// the two part or end, or to where the codons are the reference's again: then A is R exactly if they stand where they stood.
 pub fn keeps_protein(
     letters: &[u8],
     c: Cds,
@@ -94,8 +67,7 @@ pub fn keeps_protein(
     let first = c.cs - 1;
     let whole = (plan.length - first) / 3;
     let rest = (plan.length - first) % 3;
-    let level = (e.count == 0) & (plan.to - plan.from == plan.kept);
-    let tail = plan.to;
+    let count = e.count;
     let mut k = first_changed(plan, first, protein.len());
     loop {
         if whole <= k {
@@ -104,10 +76,11 @@ pub fn keeps_protein(
         if protein.len() <= k {
             return false;
         }
-        if level & (tail <= first + k * 3) {
-            return true;
+        let source = source_of(plan, first, count, protein.len(), k);
+        if source < protein.len() {
+            return source == k;
         }
-        let r = altered_at(letters, c, e, moved, protein, plan, new, k);
+        let r = residue_at(letters, c.table, plan, new, moved, first, k);
         if r != protein[k] {
             return false;
         }
