@@ -10,7 +10,7 @@
 #include <string.h>
 #include <time.h>
 
-enum { PASSES = 10, ROUNDS = 100, SAMPLE_NS = 20000, MOST = 20000, CALLS = 5, ROWS = 32 };
+enum { PASSES = 10, ROUNDS = 100, SAMPLE_NS = 20000, MOST = 20000, CALLS = 5, ROWS = 40 };
 
 static double now(void)
 {
@@ -116,6 +116,11 @@ void record_through(struct garumbott_answer *answer, const uint8_t *letters, uin
                     const uint8_t *exceptions, uint64_t exceptions_len, uint64_t cds_end, uint64_t kind, uint64_t start_star, int64_t start, uint64_t end_star,
                     int64_t end, const uint8_t *bases, uint64_t bases_len, uint8_t *transcript, uint64_t transcript_len, uint8_t *reference,
                     uint64_t reference_len, uint8_t *altered, uint64_t altered_len) __asm__("garumbott_record");
+void check_through(struct garumbott_checked *checked, const uint8_t *letters, uint64_t letters_len, uint64_t cs, uint64_t ce, uint64_t table,
+                   const uint8_t *exceptions, uint64_t exceptions_len, uint64_t cds_end, uint64_t kind, uint64_t start_star, int64_t start, uint64_t end_star,
+                   int64_t end, const uint8_t *bases, uint64_t bases_len, uint64_t number, const uint8_t *deleted, uint64_t deleted_len,
+                   const uint8_t *inserted, uint64_t inserted_len, uint8_t *transcript, uint64_t transcript_len, uint8_t *reference,
+                   uint64_t reference_len, uint8_t *altered, uint64_t altered_len) __asm__("garumbott_check");
 #endif
 
 static struct garumbott_answer ours_record(uint64_t table, int64_t start)
@@ -136,6 +141,28 @@ static void ours_anew(void)
     sink += ours_record(0, edit.start).number;
 }
 
+/* The edit's own record, handed back. */
+static uint8_t own_deleted[MOST], own_inserted[MOST];
+static struct garumbott_answer own;
+
+static struct garumbott_checked ours_judged(void)
+{
+#ifdef __x86_64__
+    return garumbott_check(letters, ref.len, ref.cs, ref.ce, 0, NULL, 0, 0, edit.kind, 0, edit.start, 0, edit.end, edit.bases, edit.bases_len, own.number, own_deleted,
+                           own.deleted_len, own_inserted, own.inserted_len, tx, sizeof tx, rp, sizeof rp, ap, sizeof ap);
+#else
+    struct garumbott_checked checked;
+    check_through(&checked, letters, ref.len, ref.cs, ref.ce, 0, NULL, 0, 0, edit.kind, 0, edit.start, 0, edit.end, edit.bases, edit.bases_len, own.number, own_deleted,
+                  own.deleted_len, own_inserted, own.inserted_len, tx, sizeof tx, rp, sizeof rp, ap, sizeof ap);
+    return checked;
+#endif
+}
+
+static void ours_record_checked(void)
+{
+    sink += ours_judged().replays;
+}
+
 /* Refused at the edit's positions: the reference was checked and R read. */
 static void ours_check(void)
 {
@@ -153,6 +180,7 @@ static void ours_letters(void)
 #define ours_anew NULL
 #define ours_check NULL
 #define ours_letters NULL
+#define ours_record_checked NULL
 #endif
 
 /* ---- timing ---- */
@@ -225,6 +253,25 @@ static void row(const char *what, double ours, double rust, double until, double
     ratio(ours, rust);
     ratio(ours, until);
     ratio(ours, c);
+    printf("\n");
+    fflush(stdout);
+}
+
+static void head_checked(const char *what)
+{
+    if (pass == PASSES)
+        printf("\n%-38s%10s%10s%14s\n", what, "check", "record", "check/record");
+}
+
+static void row_checked(const char *what, double checked, double record)
+{
+    if (pass < PASSES)
+        return;
+    printf("%-38s", what);
+    cell(checked);
+    cell(record);
+    printf("    ");
+    ratio(checked, record);
     printf("\n");
     fflush(stdout);
 }
@@ -318,6 +365,13 @@ static void check_edit(void)
     if (ours_record(0, edit.start).number != mine.number || memcmp(tx, tx3, mine.transcript_len) || tx[mine.transcript_len] || memcmp(rp, rp3, mine.reference_len)
         || rp[mine.reference_len] || memcmp(ap, ap3, mine.altered_len) || ap[mine.altered_len])
         fail("edit, ours");
+    own = ours_record(0, edit.start);
+    memcpy(own_deleted, rp + own.deleted_at, own.deleted_len);
+    memcpy(own_inserted, ap + own.inserted_at, own.inserted_len);
+    memset(ap, 0, sizeof ap);
+    struct garumbott_checked checked = ours_judged();
+    if (checked.refusal || !checked.replays || checked.altered_len != mine.altered_len || memcmp(ap, ap3, mine.altered_len) || ap[mine.altered_len])
+        fail("its own record, checked");
 #endif
 }
 
@@ -360,22 +414,41 @@ static void prefixes(uint64_t len)
     row("prefix of two equal strings, 16384", best[0], best[1], 0, best[2]);
 }
 
-static void edits(uint64_t len)
+static const struct {
+    const char *name;
+    uint64_t kind;
+    int64_t more;
+} kinds[] = {{"substitution", 1, 0}, {"deletion of one", 2, 0}, {"duplication of three", 5, 2}};
+
+/* The edit of that kind in the middle of a transcript, and its name. */
+static void make_middle(unsigned k, uint64_t len, char what[64])
 {
-    static const struct {
-        const char *name;
-        uint64_t kind;
-        int64_t more;
-    } kinds[] = {{"substitution", 1, 0}, {"deletion of one", 2, 0}, {"duplication of three", 5, 2}};
+    make_reference(len);
+    int64_t middle = (int64_t)(ref.ce - ref.cs + 1) / 6 * 3 + 2;   /* the second base of a codon */
+    const char *base = letters[ref.cs - 1 + middle - 1] == 'C' ? "G" : "C";
+    make_edit(kinds[k].kind, middle, middle + kinds[k].more, kinds[k].kind == 1 ? base : "");
+    check_edit();
+    snprintf(what, 64, "%lu %s", (unsigned long)len, kinds[k].name);
+}
+
+static void checks(uint64_t len)
+{
     for (unsigned k = 0; k < 3; k++) {
         char what[64];
-        make_reference(len);
-        int64_t middle = (int64_t)(ref.ce - ref.cs + 1) / 6 * 3 + 2;   /* the second base of a codon */
-        const char *base = letters[ref.cs - 1 + middle - 1] == 'C' ? "G" : "C";
-        make_edit(kinds[k].kind, middle, middle + kinds[k].more, kinds[k].kind == 1 ? base : "");
-        check_edit();
+        make_middle(k, len, what);
+        const double *best = best_of((call[]){ours_record_checked, ours_anew}, 2);
+        row_checked(what, best[0], best[1]);
+        oracle_edit_free(rust_edit);
+        oracle_reference_free(rust_ref);
+    }
+}
+
+static void edits(uint64_t len)
+{
+    for (unsigned k = 0; k < 3; k++) {
+        char what[64];
+        make_middle(k, len, what);
         const double *best = best_of((call[]){ours_anew, rust_anew, rust_anew_until, c_anew, ours_check}, 5);
-        snprintf(what, sizeof what, "%lu %s", (unsigned long)len, kinds[k].name);
         row(what, best[0], best[1], best[2], best[3]);
         double ours = beside(best[0], best[4]);
         best = best_of((call[]){NULL, rust_known, rust_known_until, c_known}, 4);
@@ -401,6 +474,9 @@ int main(void)
         head("edits with their record");
         edits(3000);
         edits(16384);
+        head_checked("an edit's own record, checked");
+        checks(3000);
+        checks(16384);
     }
     return 0;
 }

@@ -1,7 +1,7 @@
-"""A second account of documents 01 and 02 (E8), in Python, written from their text and not from the definitions or the code.
+"""A second account of documents 01 and 02 (E7, E8), in Python, written from their text and not from the definitions or the code.
 
 What the programs print is compared with it. It is only as good as its reading of the documents: where it and the proved module differ, one of
-the two is wrong. `python3 account.py < input` prints what the text program prints.
+the two is wrong. `python3 account.py < input` prints what the text program prints, `python3 account.py records < input` what check-records does.
 """
 import sys
 
@@ -242,6 +242,38 @@ def check_room(ref, altered, transcript, reference, protein):
     refuse(12, reference < -(-(ref.ce - ref.cs + 1) // 3) or protein < -(-behind // 3))
 
 
+# Records from elsewhere (E7): a proposal is a number, deleted residues and inserted residues
+
+def replays(r, a, number, deleted, inserted):
+    """Whether the deleted residues stand in R at that number, and replacing them gives A."""
+    before, there, behind = r[:number - 1], r[number - 1:number - 1 + len(deleted)], r[number - 1 + len(deleted):]
+    return there == deleted and before + inserted + behind == a
+
+
+def least_deleted(r, a):
+    """How many residues are deleted by the shortest of all the proposals that begin where the proteins part and replay. Between two of these, as many more
+    are inserted as are deleted."""
+    s = shared_first(r, a)
+    return next(d for d in range(max(0, len(r) - len(a)), len(r) - s + 1) if r[s + d:] == a[s + d + len(a) - len(r):])
+
+
+def proposal_answers(r, a, number, deleted, inserted):
+    """The two answers, where the edit's answer is Changed."""
+    refuse(27, not 1 <= number <= len(r) + 1 or any(not is_residue(x) for x in deleted + inserted))
+    first = replays(r, a, number, deleted, inserted)
+    return first, first and number == shared_first(r, a) + 1 and len(deleted) == least_deleted(r, a)
+
+
+def checked(ref, edit, number, deleted, inserted, room=None):
+    """The two answers to a proposal for an edit of a checked reference, and what the edit makes."""
+    record, altered = answer(ref, edit)
+    refuse(26, record.word == "unknown")
+    if room is not None:
+        check_room(ref, altered, *room)
+    refuse(26, record.word in ("no-protein", "silent"))
+    return proposal_answers(ref.protein, altered.protein, number, deleted, inserted), altered
+
+
 # The functions that stand alone
 
 NAMES = dict(zip("ARNDCQEGHILKMFPSTWYVUXBZ*", "Ala Arg Asn Asp Cys Gln Glu Gly His Ile Leu Lys Met Phe Pro Ser Thr Trp Tyr Val Sec Xaa Asx Glx Ter".split()))
@@ -388,5 +420,45 @@ def run(data):
     return ("\n".join(out) + "\n").encode()
 
 
+# check-records: the text program's reference and edits, with a proposal behind each edit
+
+def proposal_line(text):
+    """An edit, a number, deleted and inserted residues; None where the line isn't in the form."""
+    parts = text.split(" ")
+    if len(parts) != 4 or any(not part or any(not "!" <= c <= "~" for c in part) for part in parts[2:]):
+        return None
+    edit, found = edit_line(parts[0]), number(parts[1], 0)
+    if edit is None or found is None or found[1] != len(parts[1]):
+        return None
+    return edit, found[0], *("" if part == "-" else part for part in parts[2:])
+
+
+def check_run(data):
+    """What check-records prints on an input, and how often each answer behind the reference's; None where that is refused."""
+    counts = {"yes yes": 0, "yes no": 0, "no no": 0}
+    if not data:
+        return b"", counts
+    lines = data.decode("latin-1").split("\n")
+    if lines[-1] == "":
+        lines.pop()
+    try:
+        parsed = None if len(lines[0]) > LONGEST_LINE else reference_line(lines[0])
+        refuse(30, parsed is None)
+        ref = parsed.check()
+    except Refused as refusal:
+        return f"refused {refusal.number}\n".encode(), None
+    out = ["reference " + ref.protein]
+    for line in lines[1:]:
+        try:
+            parsed = None if len(line) > LONGEST_LINE else proposal_line(line)
+            refuse(30, parsed is None)
+            out.append(" ".join("yes" if yes else "no" for yes in checked(ref, *parsed)[0]))
+        except Refused as refusal:
+            out.append(f"refused {refusal.number}")
+        counts[out[-1]] = counts.get(out[-1], 0) + 1
+    return ("\n".join(out) + "\n").encode(), counts
+
+
 if __name__ == "__main__":
-    sys.stdout.buffer.write(run(sys.stdin.buffer.read()))
+    given = sys.stdin.buffer.read()
+    sys.stdout.buffer.write(check_run(given)[0] if sys.argv[1:] == ["records"] else run(given))

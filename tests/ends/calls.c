@@ -3,7 +3,7 @@
  * Input, each number a byte, each string behind its length: for a reference its letters, cs, ce, table, exceptions, end and stored form, then the number
  * of edits in two bytes, high byte first; for an edit its kind, start_star, start, end_star, end, new bases, and the room in each of the three buffers.
  * Output: for a reference what garumbott_read_stored answers; for an edit what garumbott_record answers and the buffers, the same of garumbott_edit, and,
- * where the stored form wasn't refused, of garumbott_record on what was read. A number is a byte, 255 for every number that is too large for one. */
+ * where the stored form wasn't refused, of garumbott_record on what was read; then 1 or 0, whether garumbott_check fits that. A number is a byte, 255 for every number that is too large for one. */
 #include "garumbott.h"
 #include <stdio.h>
 #include <stdlib.h>
@@ -49,7 +49,7 @@ static const uint8_t *string(uint8_t *to, uint64_t *len)
 static void put(const void *numbers, size_t size)
 {
     const uint64_t *n = numbers;
-    if (sizeof out - out_len < size + ALL) flush();
+    if (sizeof out - out_len < size + ALL + 1) flush();
     for (size_t i = 0; i < size / sizeof *n; i++) out[out_len++] = n[i] < 255 ? (uint8_t)n[i] : 255;
 }
 
@@ -60,6 +60,31 @@ static void call(int alone, const struct garumbott_reference *r, const struct ga
     put(&a, sizeof a);
     memcpy(out + out_len, lent, ALL);
     out_len += ALL;
+}
+
+/* Whether garumbott_check gives the first yes to what garumbott_record answers, the second where the flag isn't set or the parts end otherwise, and writes the
+ * same; or refuses, where that isn't Changed, with its number or 26, although the proposal is wrong too, and writes nothing. */
+static uint8_t check_fits(const struct garumbott_reference *r, const struct garumbott_coding_edit *e, const struct garumbott_buffers *b)
+{
+    uint8_t written[ALL], deleted[REFERENCE], inserted[ALTERED];
+    struct garumbott_checked want = {0};
+    memcpy(lent, before, ALL);
+    struct garumbott_answer a = garumbott_record_of(r, e, b);
+    memcpy(written, lent, ALL);
+    memset(deleted, 'k', sizeof deleted);
+    if (a.answer == GARUMBOTT_CHANGED) {
+        memcpy(deleted, b->reference + a.deleted_at, a.deleted_len);
+        memcpy(inserted, b->altered + a.inserted_at, a.inserted_len);
+        want = (struct garumbott_checked){0, 1, 1, a.transcript_len, a.reference_len, a.altered_len};
+        if (a.frameshift && a.deleted_len != 0 && a.inserted_len != 0) want.shortest = deleted[a.deleted_len - 1] != inserted[a.inserted_len - 1];
+    } else {
+        want.refusal = a.refusal != 0 ? a.refusal : GARUMBOTT_REFUSAL_NOT_CHANGED;
+        memcpy(written, before, ALL);
+        a.deleted_len = 1;
+    }
+    memcpy(lent, before, ALL);
+    struct garumbott_checked got = garumbott_check_of(r, e, a.number, deleted, a.deleted_len, inserted, a.inserted_len, b);
+    return memcmp(&got, &want, sizeof got) == 0 && memcmp(lent, written, ALL) == 0;
 }
 
 int main(void)
@@ -95,6 +120,7 @@ int main(void)
             call(0, &r, &e, &b);
             call(1, &r, &e, &b);
             if (s.refusal == 0) call(0, &found, &e, &b);
+            out[out_len++] = check_fits(&r, &e, &b);
         }
     }
     flush();

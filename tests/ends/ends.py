@@ -1,5 +1,5 @@
 """Small references with every end, through C (calls.c) against the account of the documents (tests/account): every number of each answer and every byte of
-the three buffers, for garumbott_record, garumbott_edit and the stored form. Prints how much was compared; exits 1 at a difference, and tells the first.
+the three buffers, for garumbott_record, garumbott_edit and the stored form; and each record handed to garumbott_check. Prints how much was compared; exits 1 at a difference, and tells the first.
 
     python3 tests/ends/ends.py FOLDER COMMAND..    COMMAND is the compiled calls.c; what it is told is kept in FOLDER
 """
@@ -207,7 +207,7 @@ def block(done, letters, cs, ce, table, exceptions, end, edits):
     for turn, (edit, given) in enumerate(edits, done):
         room, records, alones = answered(ref, edit, turn) if ref else (NONE if turn % 2 else PLENTY, no, no)
         call += [given, bytes(room)]
-        want += [records, alones, records] if read else [records, alones]
+        want += [records, alones, records, b"\1"] if read else [records, alones, b"\1"]
     return b"".join(call), b"".join(want)
 
 
@@ -221,11 +221,14 @@ def differs(number, want, got):
     if want[:9] != got[:9]:
         return f"{said}: garumbott_read_stored {list(got[:9])}, not {list(want[:9])}"
     at = next(i for i, pair in enumerate(itertools.zip_longest(want, got)) if pair[0] != pair[1])
-    call = (at - 9) // size
-    edit = edits[call // calls][0]
-    name = ("garumbott_record", "garumbott_edit", "garumbott_record of the stored form")[call % calls]
-    shown = [f"{list(part[:13])} {part[13:].decode('latin-1')}" for part in (got[9 + call * size:][:size], want[9 + call * size:][:size])]
-    return f"{said}, {edit.kind} {''.join(map(str, edit.start))}_{''.join(map(str, edit.end))} {edit.bases}: {name} {shown[0]}, not {shown[1]}"
+    number, rest = divmod(at - 9, calls * size + 1)
+    edit, call, first = edits[number][0], rest // size, at - rest % size
+    said = f"{said}, {edit.kind} {''.join(map(str, edit.start))}_{''.join(map(str, edit.end))} {edit.bases}"
+    if call == calls:
+        return f"{said}: garumbott_check doesn't fit what garumbott_record answers"
+    name = ("garumbott_record", "garumbott_edit", "garumbott_record of the stored form")[call]
+    shown = [f"{list(part[:13])} {part[13:].decode('latin-1')}" for part in (got[first:first + size], want[first:first + size])]
+    return f"{said}: {name} {shown[0]}, not {shown[1]}"
 
 
 def main(folder, command):
@@ -236,7 +239,7 @@ def main(folder, command):
             out.write(call)
             wants.append(want)
             done += len(reference[-1])
-            calls += 1 + len(reference[-1]) * (3 if want[0] == 0 else 2)
+            calls += 1 + len(reference[-1]) * (4 if want[0] == 0 else 3)
             if want[0] == 0:
                 ends[reference[5]] = ends.get(reference[5], 0) + 1
     with open(f"{folder}/input", "rb") as given:

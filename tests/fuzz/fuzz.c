@@ -1,8 +1,8 @@
 /* fuzz SECONDS SEED: for so long, and on 10,000 inputs at least, calls every entry point on random bytes, on good input and on damaged copies of
  * it, through fenced memory, and holds each answer to what can be told without a second account of the rules: no byte changes that shouldn't,
  * every number is in its range, the answers of different entry points fit together, the altered transcript is what the edit makes of the letters,
- * the record carried out on either protein gives the other, and a stored reference is what its fields, read plainly, and garumbott_record make of it.
- * In the end every answer, class, refusal and end of a CDS must have come up. Prints the call's seed where a check fails, and exits 1. */
+ * the record carried out on either protein gives the other, a proposed record gets its two answers by carrying it out on R, and a stored reference is what
+ * its fields, read plainly, and garumbott_record make of it. In the end every answer, class, refusal and end of a CDS must have come up. Prints the call's seed where a check fails, and exits 1. */
 #define _DEFAULT_SOURCE
 #include "../host/fence.h"
 #include "garumbott.h"
@@ -45,7 +45,7 @@ static uint64_t strange(void)
 
 /* ---- checks ------------------------------------------------------------------------------------------------------------------------- */
 
-static unsigned long checks, faults, found[3], ends[3], begun, answers[5], classes[10], refusals[64];
+static unsigned long checks, faults, found[3], ends[3], begun, answers[5], classes[10], refusals[64], verdicts[3];
 static const char *doing = "";
 
 static void check(int good, const char *what)
@@ -58,7 +58,7 @@ static void check(int good, const char *what)
     }
 }
 
-enum { LETTERS, EXCEPTIONS, BASES, TRANSCRIPT, REFERENCE, ALTERED, STORED, FENCES };
+enum { LETTERS, EXCEPTIONS, BASES, TRANSCRIPT, REFERENCE, ALTERED, STORED, DELETED, INSERTED, FENCES };
 static struct fence small[FENCES], large[FENCES], *fences;
 
 static const uint8_t *lend(int which, enum fence_side side, const uint8_t *from, uint64_t len)
@@ -331,6 +331,136 @@ static void check_proteins(const struct outcome *o)
     }
 }
 
+/* ---- records from elsewhere --------------------------------------------------------------------------------------------------------- */
+
+static struct {
+    uint64_t number, deleted_len, inserted_len;
+    uint8_t deleted[GARUMBOTT_REFERENCE_ROOM + 64], inserted[GARUMBOTT_ALTERED_ROOM + 64];
+} proposal;
+
+static uint64_t some_residues(uint8_t *s, uint64_t most)
+{
+    uint64_t n = below(most + 1);
+    for (uint64_t i = 0; i < n; i++) s[i] = one_in(80) ? (uint8_t)chance() : (uint8_t) "ACDEFGHIKLMNPQRSTVWYX*"[below(22)];
+    return n;
+}
+
+/* A proposal for an edit: mostly its own record, as it is, told with residues that stay, or damaged. */
+static void make_proposal(const struct outcome *o)
+{
+    const struct garumbott_answer *a = &o->a;
+    uint64_t m = a->reference_len, n = a->altered_len, before, behind;
+    if (a->answer != GARUMBOTT_CHANGED || one_in(8)) {
+        proposal.number = one_in(4) ? strange() : below(m + 3);
+        proposal.deleted_len = some_residues(proposal.deleted, 4);
+        proposal.inserted_len = some_residues(proposal.inserted, one_in(20) ? 900 : 4);
+        return;
+    }
+    before = one_in(2) ? 0 : below((a->number < 4 ? a->number : 4));
+    behind = m - a->deleted_at - a->deleted_len;
+    behind = one_in(2) ? 0 : below((behind < 4 ? behind : 4) + 1);
+    if (one_in(10)) before = a->number - 1, behind = m - a->deleted_at - a->deleted_len; /* both proteins whole */
+    proposal.number = a->number - before;
+    proposal.deleted_len = before + a->deleted_len + behind;
+    proposal.inserted_len = before + a->inserted_len + behind;
+    memcpy(proposal.deleted, o->r + a->deleted_at - before, proposal.deleted_len);
+    memcpy(proposal.inserted, o->p + a->inserted_at - before, proposal.inserted_len);
+    check(a->inserted_at + a->inserted_len + behind <= n, "a record behind A's end");
+    if (a->deleted_len == 0 && one_in(4)) { /* begun earlier, where that is the same */
+        uint64_t len = a->inserted_len;
+        proposal.number = a->number;
+        proposal.deleted_len = 0;
+        proposal.inserted_len = len;
+        memcpy(proposal.inserted, o->p + a->inserted_at, len);
+        while (proposal.number > 1 && o->r[proposal.number - 2] == proposal.inserted[len - 1] && !one_in(4)) {
+            uint8_t last = proposal.inserted[len - 1];
+            memmove(proposal.inserted + 1, proposal.inserted, len - 1);
+            proposal.inserted[0] = last;
+            proposal.number--;
+        }
+    }
+    for (uint64_t i = one_in(2) ? 0 : 1 + below(2); i != 0; i--) {
+        switch (below(4)) {
+        case 0: damage_number(&proposal.number); break;
+        case 1: damage(proposal.deleted, &proposal.deleted_len, sizeof proposal.deleted); break;
+        case 2: damage(proposal.inserted, &proposal.inserted_len, sizeof proposal.inserted); break;
+        default: /* one residue for another */
+            if (proposal.inserted_len != 0) proposal.inserted[below(proposal.inserted_len)] = (uint8_t)('A' + below(26));
+            break;
+        }
+    }
+}
+
+static int are_residues(const uint8_t *s, uint64_t n)
+{
+    int good = 1;
+    for (uint64_t i = 0; i < n; i++) good &= s[i] == '*' || (s[i] >= 'A' && s[i] <= 'Z');
+    return good;
+}
+
+/* The answers to the proposal for an accepted and changing edit, in the plainest way. */
+static struct garumbott_checked plain_check(const struct outcome *o)
+{
+    static uint8_t moved[GARUMBOTT_REFERENCE_ROOM + GARUMBOTT_ALTERED_ROOM + 64];
+    const struct garumbott_answer *a = &o->a;
+    struct garumbott_checked w = {.transcript_len = a->transcript_len, .reference_len = a->reference_len, .altered_len = a->altered_len}, no = {.refusal = 27};
+    uint64_t m = a->reference_len, n = a->altered_len, at = proposal.number - 1, d = proposal.deleted_len, i = proposal.inserted_len, s = 0, least = 0;
+    if (proposal.number == 0 || at > m || !are_residues(proposal.deleted, d) || !are_residues(proposal.inserted, i)) return no;
+    if (d > m - at || memcmp(o->r + at, proposal.deleted, d) != 0) return w;
+    memcpy(moved, o->r, at);
+    memcpy(moved + at, proposal.inserted, i);
+    memcpy(moved + at + i, o->r + at + d, m - at - d);
+    w.replays = m - d + i == n && memcmp(moved, o->p, n) == 0;
+    while (s < m && s < n && o->r[s] == o->p[s]) s++;
+    /* the least that can be deleted from there: what is left of R is the end of A, behind what goes in */
+    while (m - s - least > n - s || memcmp(o->r + s + least, o->p + n - (m - s - least), m - s - least) != 0) least++;
+    w.shortest = w.replays && at == s && d == least;
+    return w;
+}
+
+/* The proposal for the edit with so much room: its answer is `want`, and what it writes is what garumbott_record does. */
+static void check_call(enum fence_side side, const size_t size[3], const struct garumbott_checked *want, const struct outcome *o)
+{
+    struct garumbott_reference r = ref;
+    struct garumbott_coding_edit e = edit;
+    r.letters = lend(LETTERS, side, letters, ref.letters_len);
+    r.exceptions = lend(EXCEPTIONS, side, exceptions, ref.exceptions_len);
+    e.bases = lend(BASES, side, bases, edit.bases_len);
+    const uint8_t *deleted = lend(DELETED, side, proposal.deleted, proposal.deleted_len), *inserted = lend(INSERTED, side, proposal.inserted, proposal.inserted_len);
+    struct garumbott_buffers b = {fence_fill(&fences[TRANSCRIPT], side, NULL, size[0]), size[0], fence_fill(&fences[REFERENCE], side, NULL, size[1]), size[1],
+                                  fence_fill(&fences[ALTERED], side, NULL, size[2]), size[2]};
+    doing = "garumbott_check";
+    struct garumbott_checked got = garumbott_check_of(&r, &e, proposal.number, deleted, proposal.deleted_len, inserted, proposal.inserted_len, &b);
+    check(memcmp(&got, want, sizeof got) == 0, "answer");
+    check(unchanged(LETTERS, r.letters) && unchanged(EXCEPTIONS, r.exceptions) && unchanged(BASES, e.bases) && unchanged(DELETED, deleted)
+              && unchanged(INSERTED, inserted), "input changed");
+    check(fence_check(&fences[TRANSCRIPT], o->t, want->transcript_len), "transcript buffer");
+    check(fence_check(&fences[REFERENCE], o->r, want->reference_len), "reference buffer");
+    check(fence_check(&fences[ALTERED], o->p, want->altered_len), "altered buffer");
+    refusals[got.refusal < 64 ? got.refusal : 0]++;
+    if (got.refusal == 0) verdicts[got.replays + got.shortest < 3 ? got.replays + got.shortest : 0]++;
+}
+
+/* Proposals for an edit of which garumbott_record says `o` with ample room; `short_of` is 11, 12 or 0 with the room of the case. */
+static void fuzz_check(const size_t most[3], const struct outcome *o, uint64_t short_of)
+{
+    struct garumbott_checked want = {.refusal = o->a.answer == GARUMBOTT_REFUSED ? o->a.refusal : 26}, less = want;
+    make_proposal(o);
+    if (o->a.answer == GARUMBOTT_CHANGED) want = less = plain_check(o);
+    if (o->a.answer > GARUMBOTT_UNKNOWN && short_of != 0) less = (struct garumbott_checked){.refusal = short_of};
+    check_call(one_in(2) ? FENCE_END : FENCE_START, most, &want, o);
+    check_call(one_in(2) ? FENCE_END : FENCE_START, room, &less, o);
+    if (o->a.answer != GARUMBOTT_CHANGED) return;
+    /* its own record: accepted, and by both answers without the flag */
+    const struct garumbott_answer *a = &o->a;
+    proposal.number = a->number;
+    memcpy(proposal.deleted, o->r + a->deleted_at, proposal.deleted_len = a->deleted_len);
+    memcpy(proposal.inserted, o->p + a->inserted_at, proposal.inserted_len = a->inserted_len);
+    want = plain_check(o);
+    check(want.replays && (want.shortest || a->frameshift), "its own record");
+    check_call(one_in(2) ? FENCE_END : FENCE_START, most, &want, o);
+}
+
 static void fuzz_edit(void)
 {
     static struct outcome o, again, alone, wide;
@@ -363,6 +493,7 @@ static void fuzz_edit(void)
               && memcmp(o.p, again.p, o.a.altered_len) == 0, "two calls differ");
     if (wide.a.answer < 2) {
         check(same(&o.a, &wide.a) && same(&alone.a, &wide.a), "room counts in a refusal or Unknown");
+        fuzz_check(most, &wide, 0);
         return;
     }
     uint64_t refusal = room[0] < wide.a.transcript_len ? 11 : room[1] < garumbott_reference_room(ref.cs, ref.ce) || room[2] < garumbott_altered_room(wide.a.transcript_len, ref.cs) ? 12 : 0;
@@ -374,6 +505,7 @@ static void fuzz_edit(void)
     check(wide.a.transcript_len <= garumbott_transcript_room(ref.letters_len, edit.kind, edit.bases_len), "garumbott_transcript_room");
     check(plain_transcript(plain) == wide.a.transcript_len && memcmp(plain, wide.t, wide.a.transcript_len) == 0, "the altered transcript");
     check_proteins(&wide);
+    fuzz_check(most, &wide, refusal);
 }
 
 /* ---- stored references -------------------------------------------------------------------------------------------------------------- */
@@ -605,7 +737,7 @@ int main(int argc, char **argv)
 {
     double seconds = argc > 1 ? strtod(argv[1], NULL) : 30;
     uint64_t seed = argc > 2 ? strtoull(argv[2], NULL, 10) : 1, calls = 0;
-    static const int wanted[] = {1, 2, 3, 4, 5, 6, 7, 8, 9, 10, 11, 12, 14, 15, 20, 21, 22, 23, 28};
+    static const int wanted[] = {1, 2, 3, 4, 5, 6, 7, 8, 9, 10, 11, 12, 14, 15, 20, 21, 22, 23, 26, 27, 28};
     enum { LEAST = 10000 }; /* a slow machine too must meet every answer, class and refusal */
     time_t until = time(NULL) + (time_t)seconds;
     for (int i = 0; i < FENCES; i++) fence_make(&small[i], 4000), fence_make(&large[i], 40000);
@@ -620,6 +752,7 @@ int main(int argc, char **argv)
     for (int i = 0; i < 5; i++) printf("answer %d: %lu\n", i, answers[i]), check(answers[i] != 0, "an answer never came up");
     for (int i = 0; i < 3; i++)
         printf("end %d: %lu edits, %lu stored references\n", i, ends[i], found[i]), check(ends[i] != 0 && found[i] != 0, "an end never came up");
+    for (int i = 0; i < 3; i++) printf("records %s: %lu\n", (const char *[]){"no no", "yes no", "yes yes"}[i], verdicts[i]), check(verdicts[i] != 0, "an answer to a record never came up");
     printf("R the beginning of A: %lu\n", begun), check(begun != 0, "R was never the beginning of A");
     for (int i = 1; i < 10; i++) printf("%s: %lu\n", garumbott_class_name((uint64_t)i), classes[i]), check(classes[i] != 0, "a class never came up");
     for (size_t i = 0; i < sizeof wanted / sizeof *wanted; i++) printf("refused %d: %lu\n", wanted[i], refusals[wanted[i]]), check(refusals[wanted[i]] != 0, "a refusal never came up");

@@ -28,7 +28,7 @@ static const uint8_t *bytes(const char *s)
 
 /* ---- edits ------------------------------------------------------------------------------------------------------------------------- */
 
-enum { LETTERS, EXCEPTIONS, BASES, TRANSCRIPT, REFERENCE, ALTERED, STORED, FENCES };
+enum { LETTERS, EXCEPTIONS, BASES, TRANSCRIPT, REFERENCE, ALTERED, STORED, DELETED, INSERTED, FENCES };
 static struct fence large[FENCES], small[FENCES], *fences = large;
 
 /* Room that is never too short: for every reference, and, in the small fences, for those of some letters. */
@@ -186,6 +186,83 @@ static void edit_stored(const char *name, const struct garumbott_reference *refe
     }
 }
 
+/* A record that somebody proposes for an edit. */
+struct proposal {
+    uint64_t number;
+    const uint8_t *deleted;
+    uint64_t deleted_len;
+    const uint8_t *inserted;
+    uint64_t inserted_len;
+};
+
+/* Answers to a proposal. */
+enum { NO_NO = 0, YES_NO = 1, YES_YES = 3 };
+
+/* garumbott_check with buffers of the given sizes: a refusal, or 0 and both answers, and `t`, `r` and `a` written. */
+static void check_case(const char *name, const struct garumbott_reference *reference, const struct garumbott_coding_edit *edit, const struct proposal *p,
+                       const size_t room[3], uint64_t refusal, int answers, const struct garumbott_answer *record, const void *t, const void *r, const void *a)
+{
+    struct garumbott_checked want = {.refusal = refusal};
+    if (refusal == 0) {
+        want.replays = answers != NO_NO;
+        want.shortest = answers == YES_YES;
+        want.transcript_len = record->transcript_len;
+        want.reference_len = record->reference_len;
+        want.altered_len = record->altered_len;
+    }
+    for (int side = FENCE_END; side <= FENCE_START; side++) {
+        struct garumbott_reference ref = *reference;
+        struct garumbott_coding_edit e = *edit;
+        struct garumbott_buffers b = {fence_fill(&fences[TRANSCRIPT], side, NULL, room[0]), room[0], fence_fill(&fences[REFERENCE], side, NULL, room[1]),
+                                      room[1], fence_fill(&fences[ALTERED], side, NULL, room[2]), room[2]};
+        ref.letters = lend(LETTERS, side, reference->letters, reference->letters_len);
+        ref.exceptions = lend(EXCEPTIONS, side, reference->exceptions, reference->exceptions_len);
+        e.bases = lend(BASES, side, edit->bases, edit->bases_len);
+        const uint8_t *deleted = lend(DELETED, side, p->deleted, p->deleted_len), *put_in = lend(INSERTED, side, p->inserted, p->inserted_len);
+        struct garumbott_checked got = garumbott_check_of(&ref, &e, p->number, deleted, p->deleted_len, put_in, p->inserted_len, &b);
+        check(memcmp(&got, &want, sizeof got) == 0, name, "check's answer");
+        check(fence_check(&fences[TRANSCRIPT], t, want.transcript_len), name, "transcript of check");
+        check(fence_check(&fences[REFERENCE], r, want.reference_len), name, "reference protein of check");
+        check(fence_check(&fences[ALTERED], a, want.altered_len), name, "altered protein of check");
+        if (reference->letters != NULL) check(fence_check(&fences[LETTERS], NULL, 0), name, "letters changed by check");
+        if (reference->exceptions != NULL) check(fence_check(&fences[EXCEPTIONS], NULL, 0), name, "exceptions changed by check");
+        if (edit->bases != NULL) check(fence_check(&fences[BASES], NULL, 0), name, "bases changed by check");
+        if (deleted != NULL) check(fence_check(&fences[DELETED], NULL, 0), name, "deleted residues changed by check");
+        if (put_in != NULL) check(fence_check(&fences[INSERTED], NULL, 0), name, "inserted residues changed by check");
+    }
+}
+
+static const struct proposal WRONG = {.deleted = (const uint8_t *)"k", .deleted_len = 1, .inserted = (const uint8_t *)"", .inserted_len = 1};
+
+/* An edit's own record, as `w` tells of it: accepted, and not the shortest where it was left whole for its flag and both ends are alike. Where the answer
+ * isn't Changed, its refusal or 26, although the proposal is wrong too. */
+static void own_record(const char *name, const struct garumbott_reference *reference, const struct garumbott_coding_edit *edit, const size_t room[3],
+                       const struct garumbott_answer *w, const char *t, const char *r, const char *a)
+{
+    if (w->answer != GARUMBOTT_CHANGED) {
+        uint64_t refusal = w->answer == GARUMBOTT_REFUSED ? w->refusal : GARUMBOTT_REFUSAL_NOT_CHANGED;
+        check_case(name, reference, edit, &WRONG, room, refusal, NO_NO, w, t, r, a);
+        return;
+    }
+    struct proposal own = {w->number, bytes(r) + w->deleted_at, w->deleted_len, bytes(a) + w->inserted_at, w->inserted_len}, other = own;
+    int ends_alike = own.deleted_len != 0 && own.inserted_len != 0 && own.deleted[own.deleted_len - 1] == own.inserted[own.inserted_len - 1];
+    check(!ends_alike || w->frameshift, name, "an ending is left in without the flag");
+    check_case(name, reference, edit, &own, room, 0, ends_alike ? YES_NO : YES_YES, w, t, r, a);
+    /* the whole of both proteins; one residue too few, and a number that is off */
+    struct proposal whole = {1, bytes(r), w->reference_len, bytes(a), w->altered_len};
+    int shortest = w->number == 1 && own.deleted_len == w->reference_len && own.inserted_len == w->altered_len && !ends_alike;
+    check_case(name, reference, edit, &whole, room, 0, shortest ? YES_YES : YES_NO, w, t, r, a);
+    if (own.inserted_len != 0) {
+        other.inserted_len--;
+        check_case(name, reference, edit, &other, room, 0, NO_NO, w, t, r, a);
+    }
+    other = own;
+    other.number = w->reference_len + 2;
+    check_case(name, reference, edit, &other, room, GARUMBOTT_REFUSAL_PROPOSAL, NO_NO, w, t, r, a);
+    other.number = 0;
+    check_case(name, reference, edit, &other, room, GARUMBOTT_REFUSAL_PROPOSAL, NO_NO, w, t, r, a);
+}
+
 /* What the header says of rooms, of names, and of the base that a substitution replaces, which stands behind the number in the row's name. */
 static void row_says(const struct row *x, const struct garumbott_answer *w, size_t t, size_t n)
 {
@@ -212,9 +289,12 @@ static void row_case(const struct row *x, const char *r)
     edit_case(x->name, x->reference, &x->edit, plenty, &w, &e, x->transcript, r, x->altered);
     edit_case(x->name, x->reference, &x->edit, exact, &w, &e, x->transcript, r, x->altered);
     edit_stored(x->name, x->reference, &x->edit, &w, x->transcript, r, x->altered);
+    own_record(x->name, x->reference, &x->edit, plenty, &w, x->transcript, r, x->altered);
+    own_record(x->name, x->reference, &x->edit, exact, &w, x->transcript, r, x->altered);
     if (w.answer < GARUMBOTT_NO_PROTEIN) {
         size_t none[3] = {0, 0, 0};
         edit_case(x->name, x->reference, &x->edit, none, &w, &e, "", "", "");
+        own_record(x->name, x->reference, &x->edit, none, &w, "", "", "");
         return;
     }
     for (int i = 0; i < 3; i++) {
@@ -225,6 +305,7 @@ static void row_case(const struct row *x, const char *r)
         no.refusal = i == 0 ? GARUMBOTT_REFUSAL_TRANSCRIPT_ROOM : GARUMBOTT_REFUSAL_PROTEIN_ROOM;
         if (i == 0) still = no;
         edit_case(x->name, x->reference, &x->edit, less, &no, &still, x->transcript, r, x->altered);
+        own_record(x->name, x->reference, &x->edit, less, &no, "", "", "");
     }
 }
 
@@ -306,6 +387,8 @@ static void refusal_case(const struct refusal *x)
     edit_case(x->name, &x->reference, &x->edit, none, &w, &w, "", "", "");
     edit_case(x->name, &x->reference, &x->edit, plenty, &w, &w, "", "", "");
     edit_stored(x->name, &x->reference, &x->edit, &w, "", "", "");
+    own_record(x->name, &x->reference, &x->edit, none, &w, "", "", "");
+    own_record(x->name, &x->reference, &x->edit, plenty, &w, "", "", "");
 }
 
 #define POSITIONS(ss, s, es, e) {.kind = GARUMBOTT_DELETION, .start_star = (ss), .start = (s), .end_star = (es), .end = (e)}
@@ -637,6 +720,7 @@ static void cut_limits(void)
     check(garumbott_reference_room(1, GARUMBOTT_LONGEST) == GARUMBOTT_REFERENCE_ROOM, "reference_room", "longest");
     edit_case("16,384 letters and a cut codon, all of them copied", &cut, &copy, plenty, &w, &e, copied, r, a);
     edit_stored("16,384 letters and a cut codon, all of them copied", &cut, &copy, &w, copied, r, a);
+    own_record("16,384 letters and a cut codon, all of them copied", &cut, &copy, plenty, &w, (const char *)copied, (const char *)r, (const char *)a);
     edit_case("16,384 letters and a cut codon", &cut, &nothing, plenty, &same_again, &same_alone, endless, r, r);
     for (int i = 1; i < 3; i++) {
         size_t less[3] = {plenty[0], plenty[1], plenty[2]};
@@ -667,6 +751,7 @@ static void limits(void)
     struct garumbott_coding_edit copy = STAR(DUPLICATION, 1, 1);
     edit_case("16,384 letters, all of them copied", &r, &copy, rooms, &w, &e, doubled, protein, protein);
     edit_stored("16,384 letters, all of them copied", &r, &copy, &w, doubled, protein, protein);
+    own_record("16,384 letters, all of them copied", &r, &copy, rooms, &w, "", "", "");
     check(garumbott_transcript_room(GARUMBOTT_LONGEST, GARUMBOTT_DUPLICATION, 0) == GARUMBOTT_TRANSCRIPT_ROOM, "transcript_room", "longest");
     check(garumbott_reference_room(1, 16383) == LONGEST_CODONS, "reference_room", "longest");
     check(garumbott_altered_room(32768, 1) == GARUMBOTT_ALTERED_ROOM, "altered_room", "longest");
@@ -675,6 +760,7 @@ static void limits(void)
         less[i]--;
         struct garumbott_answer no = {.refusal = i == 0 ? 11 : 12}, still = i == 0 ? no : e;
         edit_case("a byte too little for the longest", &r, &copy, less, &no, &still, doubled, protein, protein);
+        own_record("a byte too little for the longest", &r, &copy, less, &no, "", "", "");
     }
 
     /* one letter more */
@@ -714,7 +800,252 @@ static void limits(void)
                                     .number = 1, .deleted_len = 1, .inserted_len = 1},
                             kept_alone = alone(&kept);
     edit_case("sixteen exceptions", &r, &same_place, rooms, &kept, &kept_alone, longest, excepted, excepted);
+    own_record("sixteen exceptions", &r, &same_place, rooms, &kept, "", "", "");
     edit_stored("sixteen exceptions", &r, &same_place, &kept, longest, excepted, excepted);
+}
+
+/* ---- records from elsewhere --------------------------------------------------------------------------------------------------------- */
+
+/* What garumbott_record makes of an edit, in buffers that are never too short. */
+static struct garumbott_answer made(const struct garumbott_reference *reference, const struct garumbott_coding_edit *edit, uint8_t **t, uint8_t **r, uint8_t **a)
+{
+    static uint8_t all_t[GARUMBOTT_TRANSCRIPT_ROOM], all_r[GARUMBOTT_REFERENCE_ROOM], all_a[GARUMBOTT_ALTERED_ROOM];
+    struct garumbott_buffers b = {*t = all_t, sizeof all_t, *r = all_r, sizeof all_r, *a = all_a, sizeof all_a};
+    return garumbott_record_of(reference, edit, &b);
+}
+
+/* A proposal with plenty of room, with exactly the room that the answer asks for, and with a byte too little in each buffer: 11 and 12 come before 26
+ * and 27, but for an Unknown, which asks for none. */
+static void judged(const char *name, const struct garumbott_reference *reference, const struct garumbott_coding_edit *edit, const struct proposal *p,
+                   uint64_t refusal, int answers)
+{
+    uint8_t *t, *r, *a;
+    static const size_t none[3] = {0, 0, 0};
+    struct garumbott_answer w = made(reference, edit, &t, &r, &a);
+    check_case(name, reference, edit, p, plenty, refusal, answers, &w, t, r, a);
+    if (w.answer < GARUMBOTT_NO_PROTEIN) {
+        check_case(name, reference, edit, p, none, refusal, answers, &w, t, r, a);
+        return;
+    }
+    size_t exact[3] = {w.transcript_len, w.reference_len, garumbott_altered_room(w.transcript_len, reference->cs)};
+    check_case(name, reference, edit, p, exact, refusal, answers, &w, t, r, a);
+    for (int i = 0; i < 3; i++) {
+        size_t less[3] = {exact[0], exact[1], exact[2]};
+        if (less[i]-- == 0) continue;
+        check_case(name, reference, edit, p, less, i == 0 ? 11 : 12, answers, &w, t, r, a);
+    }
+}
+
+struct proposed {
+    const char *name;
+    const struct garumbott_reference *reference;
+    struct garumbott_coding_edit edit;
+    uint64_t number;
+    const char *deleted, *inserted;
+    uint64_t refusal;
+    int answers;
+};
+
+/* The readings of E7, and proposals that are nearly right. */
+static void proposals(void)
+{
+    static const struct proposed all[] = {
+        /* 26 before 27, for Silent and for no protein; an Unknown's needs no room */
+        {"6C>T, 0 - -", &W, ONE_NEW(SUBSTITUTION, 6, "T"), 0, "", "", 26, NO_NO},
+        {"6C>T, 2 A A", &W, ONE_NEW(SUBSTITUTION, 6, "T"), 2, "A", "A", 26, NO_NO},
+        {"6C>T, 1 - -", &W, ONE_NEW(SUBSTITUTION, 6, "T"), 1, "", "", 26, NO_NO},
+        {"4=, 2 a a", &W, ONE(IDENTITY, 4), 2, "a", "a", 26, NO_NO},
+        {"1_*6del, 1 MAKW* -", &W, STAR(DELETION, 1, 6), 1, "MAKW*", "", 26, NO_NO},
+        {"1_*7del, 1 MAKW* -", &W, STAR(DELETION, 1, 7), 1, "MAKW*", "", 26, NO_NO},
+        {"1_*7del, 0 - -", &W, STAR(DELETION, 1, 7), 0, "", "", 26, NO_NO},
+        {"4T>A of M**, 2 * K", &TWO_STOPS, ONE_NEW(SUBSTITUTION, 4, "A"), 2, "*", "K", 26, NO_NO},
+        /* 7 to 10 before them */
+        {"16del, 0 - -", &W, ONE(DELETION, 16), 0, "", "", 7, NO_NO},
+        {"6_4del, 0 - -", &W, TWO(DELETION, 6, 4), 0, "", "", 8, NO_NO},
+        {"-1del, 0 - -", &W, ONE(DELETION, -1), 0, "", "", 9, NO_NO},
+        {"8A>U, 0 - -", &W, ONE_NEW(SUBSTITUTION, 8, "U"), 0, "", "", 10, NO_NO},
+        /* a substitution */
+        {"8A>G, 3 K R", &W, ONE_NEW(SUBSTITUTION, 8, "G"), 3, "K", "R", 0, YES_YES},
+        {"8A>G, 3 A A", &W, ONE_NEW(SUBSTITUTION, 8, "G"), 3, "A", "A", 0, NO_NO},
+        {"8A>G, 3 - R", &W, ONE_NEW(SUBSTITUTION, 8, "G"), 3, "", "R", 0, NO_NO},
+        {"8A>G, 3 K -", &W, ONE_NEW(SUBSTITUTION, 8, "G"), 3, "K", "", 0, NO_NO},
+        {"8A>G, 3 R K", &W, ONE_NEW(SUBSTITUTION, 8, "G"), 3, "R", "K", 0, NO_NO},
+        {"8A>G, 3 A R", &W, ONE_NEW(SUBSTITUTION, 8, "G"), 3, "A", "R", 0, NO_NO},
+        {"8A>G, 3 K X", &W, ONE_NEW(SUBSTITUTION, 8, "G"), 3, "K", "X", 0, NO_NO},
+        {"8A>G, 3 KW RW", &W, ONE_NEW(SUBSTITUTION, 8, "G"), 3, "KW", "RW", 0, YES_NO},
+        {"8A>G, 3 KW* RW*", &W, ONE_NEW(SUBSTITUTION, 8, "G"), 3, "KW*", "RW*", 0, YES_NO},
+        {"8A>G, 2 AK AR", &W, ONE_NEW(SUBSTITUTION, 8, "G"), 2, "AK", "AR", 0, YES_NO},
+        {"8A>G, 1 MAKW* MARW*", &W, ONE_NEW(SUBSTITUTION, 8, "G"), 1, "MAKW*", "MARW*", 0, YES_NO},
+        {"8A>G, 1 MAKW* MARW", &W, ONE_NEW(SUBSTITUTION, 8, "G"), 1, "MAKW*", "MARW", 0, NO_NO},
+        {"8A>G, 1 MAKW MARW", &W, ONE_NEW(SUBSTITUTION, 8, "G"), 1, "MAKW", "MARW", 0, YES_NO},
+        {"8A>G, 1 - MARW*", &W, ONE_NEW(SUBSTITUTION, 8, "G"), 1, "", "MARW*", 0, NO_NO},
+        {"8A>G, 3 KW R", &W, ONE_NEW(SUBSTITUTION, 8, "G"), 3, "KW", "R", 0, NO_NO},
+        {"8A>G, 3 K RW", &W, ONE_NEW(SUBSTITUTION, 8, "G"), 3, "K", "RW", 0, NO_NO},
+        {"8A>G, 4 K R", &W, ONE_NEW(SUBSTITUTION, 8, "G"), 4, "K", "R", 0, NO_NO},
+        {"8A>G, 2 K R", &W, ONE_NEW(SUBSTITUTION, 8, "G"), 2, "K", "R", 0, NO_NO},
+        {"8A>G, 6 K R", &W, ONE_NEW(SUBSTITUTION, 8, "G"), 6, "K", "R", 0, NO_NO},
+        {"8A>G, 6 - -", &W, ONE_NEW(SUBSTITUTION, 8, "G"), 6, "", "", 0, NO_NO},
+        {"8A>G, 7 - -", &W, ONE_NEW(SUBSTITUTION, 8, "G"), 7, "", "", 27, NO_NO},
+        {"8A>G, 3 K r", &W, ONE_NEW(SUBSTITUTION, 8, "G"), 3, "K", "r", 27, NO_NO},
+        {"8A>G, 3 k R", &W, ONE_NEW(SUBSTITUTION, 8, "G"), 3, "k", "R", 27, NO_NO},
+        {"8A>G, 9 K R", &W, ONE_NEW(SUBSTITUTION, 8, "G"), 9, "K", "R", 27, NO_NO},
+        /* a copy: at both places, and within longer ones */
+        {"4_6dup, 3 - A", &W, TWO(DUPLICATION, 4, 6), 3, "", "A", 0, YES_YES},
+        {"4_6dup, 2 - A", &W, TWO(DUPLICATION, 4, 6), 2, "", "A", 0, YES_NO},
+        {"4_6dup, 4 - A", &W, TWO(DUPLICATION, 4, 6), 4, "", "A", 0, NO_NO},
+        {"4_6dup, 1 - A", &W, TWO(DUPLICATION, 4, 6), 1, "", "A", 0, NO_NO},
+        {"4_6dup, 2 A AA", &W, TWO(DUPLICATION, 4, 6), 2, "A", "AA", 0, YES_NO},
+        {"4_6dup, 3 K AK", &W, TWO(DUPLICATION, 4, 6), 3, "K", "AK", 0, YES_NO},
+        {"4_6dup, 3 - AA", &W, TWO(DUPLICATION, 4, 6), 3, "", "AA", 0, NO_NO},
+        {"1_3dup, 2 - M", &W, TWO(DUPLICATION, 1, 3), 2, "", "M", 0, YES_YES},
+        {"1_3dup, 1 - M", &W, TWO(DUPLICATION, 1, 3), 1, "", "M", 0, YES_NO},
+        /* a deletion, which can't begin later */
+        {"4_9del, 2 AK -", &W, TWO(DELETION, 4, 9), 2, "AK", "", 0, YES_YES},
+        {"4_9del, 2 AKW W", &W, TWO(DELETION, 4, 9), 2, "AKW", "W", 0, YES_NO},
+        {"4_9del, 1 MAK M", &W, TWO(DELETION, 4, 9), 1, "MAK", "M", 0, YES_NO},
+        {"4_9del, 2 A -", &W, TWO(DELETION, 4, 9), 2, "A", "", 0, NO_NO},
+        {"4_9del, 3 KW -", &W, TWO(DELETION, 4, 9), 3, "KW", "", 0, NO_NO},
+        /* what is behind the replaced residues counts */
+        {"5del, 3 KW* NGNLX", &W, ONE(DELETION, 5), 3, "KW*", "NGNLX", 0, YES_YES},
+        {"5del, 3 K NGNLX", &W, ONE(DELETION, 5), 3, "K", "NGNLX", 0, NO_NO},
+        {"5del, 3 K N", &W, ONE(DELETION, 5), 3, "K", "N", 0, NO_NO},
+        {"5del, 3 KW* N", &W, ONE(DELETION, 5), 3, "KW*", "N", 0, NO_NO},
+        {"12G>A, 4 W *", &W, ONE_NEW(SUBSTITUTION, 12, "A"), 4, "W", "*", 0, NO_NO},
+        {"12G>A, 4 W* *", &W, ONE_NEW(SUBSTITUTION, 12, "A"), 4, "W*", "*", 0, YES_NO},
+        {"12G>A, 4 W -", &W, ONE_NEW(SUBSTITUTION, 12, "A"), 4, "W", "", 0, YES_YES},
+        {"13T>C, 5 * QPD", &W, ONE_NEW(SUBSTITUTION, 13, "C"), 5, "*", "QPD", 0, YES_YES},
+        {"13T>C, 5 * Q", &W, ONE_NEW(SUBSTITUTION, 13, "C"), 5, "*", "Q", 0, NO_NO},
+        {"13T>C, 5 *A QPD", &W, ONE_NEW(SUBSTITUTION, 13, "C"), 5, "*A", "QPD", 0, NO_NO},
+        {"13T>C, 6 * QPD", &W, ONE_NEW(SUBSTITUTION, 13, "C"), 6, "*", "QPD", 0, NO_NO},
+        {"13T>C, 5 - QPD", &W, ONE_NEW(SUBSTITUTION, 13, "C"), 5, "", "QPD", 0, NO_NO},
+        {"1A>G, 1 M V", &W, ONE_NEW(SUBSTITUTION, 1, "G"), 1, "M", "V", 0, YES_YES},
+        /* the flag: shortest whatever it says */
+        {"10delinsTAG, 4 W -", &W, ONE_NEW(DELINS, 10, "TAG"), 4, "W", "", 0, YES_YES},
+        {"10delinsTAG, 4 W* *", &W, ONE_NEW(DELINS, 10, "TAG"), 4, "W*", "*", 0, YES_NO},
+        {"10delinsTAG, 3 KW K", &W, ONE_NEW(DELINS, 10, "TAG"), 3, "KW", "K", 0, YES_NO},
+        /* A has ended, or is the beginning of R */
+        {"10_*6del, 4 W* -", &W, STAR(DELETION, 10, 6), 4, "W*", "", 0, YES_YES},
+        {"10_*6del, 4 W -", &W, STAR(DELETION, 10, 6), 4, "W", "", 0, NO_NO},
+        /* exceptions */
+        {"6A>G under U, 2 U W", &SELENO, ONE_NEW(SUBSTITUTION, 6, "G"), 2, "U", "W", 0, YES_YES},
+        {"6A>G under U, 2 * W", &SELENO, ONE_NEW(SUBSTITUTION, 6, "G"), 2, "*", "W", 0, NO_NO},
+        {"4_6del, stop by exception, 3 * -", &LAST, TWO(DELETION, 4, 6), 3, "*", "", 0, YES_YES},
+        {"4_6del, stop by exception, 2 K -", &LAST, TWO(DELETION, 4, 6), 2, "K", "", 0, NO_NO},
+        /* R is the beginning of A: a number of length of R plus one */
+        {"5_6insC, 3 - X", &SIX, TWO_NEW(INSERTION, 5, 6, "C"), 3, "", "X", 0, YES_YES},
+        {"5_6insC, 4 - X", &SIX, TWO_NEW(INSERTION, 5, 6, "C"), 4, "", "X", 27, NO_NO},
+        {"5_6insC, 2 - X", &SIX, TWO_NEW(INSERTION, 5, 6, "C"), 2, "", "X", 0, NO_NO},
+        {"5_6insC, 2 A AX", &SIX, TWO_NEW(INSERTION, 5, 6, "C"), 2, "A", "AX", 0, YES_NO},
+        {"5_6insC, 3 X X", &SIX, TWO_NEW(INSERTION, 5, 6, "C"), 3, "X", "X", 0, NO_NO},
+        {"4_6dup of six, 3 - A", &SIX, TWO(DUPLICATION, 4, 6), 3, "", "A", 0, YES_YES},
+        {"4_6dup of six, 2 - A", &SIX, TWO(DUPLICATION, 4, 6), 2, "", "A", 0, YES_NO},
+        {"6_7insAA of seven, 3 X K", &SEVEN, TWO_NEW(INSERTION, 6, 7, "AA"), 3, "X", "K", 0, YES_YES},
+        {"7A>G of seven, 3 X X", &SEVEN, ONE_NEW(SUBSTITUTION, 7, "G"), 3, "X", "X", 26, NO_NO},
+        {"4_*1del of six, 2 A -", &SIX, STAR(DELETION, 4, 1), 2, "A", "", 26, NO_NO},
+    };
+    for (size_t i = 0; i < sizeof all / sizeof *all; i++) {
+        const struct proposed *x = &all[i];
+        struct proposal p = {x->number, bytes(x->deleted), strlen(x->deleted), bytes(x->inserted), strlen(x->inserted)};
+        judged(x->name, x->reference, &x->edit, &p, x->refusal, x->answers);
+        if (p.deleted_len == 0) p.deleted = NULL;
+        if (p.inserted_len == 0) p.inserted = NULL;
+        judged(x->name, x->reference, &x->edit, &p, x->refusal, x->answers);
+    }
+}
+
+/* The room that the readings name. */
+static void proposal_rooms(void)
+{
+    static const struct garumbott_coding_edit lysine = ONE_NEW(SUBSTITUTION, 8, "G"), silent = ONE_NEW(SUBSTITUTION, 6, "T"), beyond = STAR(DELETION, 1, 7);
+    static const size_t none[3] = {0, 0, 0}, four[3] = {23, 4, 7};
+    static const struct proposal nine = {9, (const uint8_t *)"K", 1, (const uint8_t *)"R", 1};
+    static const struct garumbott_answer nobody;
+    check_case("8A>G, 9 K R, room for R 4", &W, &lysine, &nine, four, 12, NO_NO, &nobody, "", "", "");
+    check_case("1_*7del without room", &W, &beyond, &nine, none, 26, NO_NO, &nobody, "", "", "");
+    check_case("6C>T without room", &W, &silent, &nine, none, 11, NO_NO, &nobody, "", "", "");
+    check_case("8A>G without room", &W, &lysine, &nine, none, 11, NO_NO, &nobody, "", "", "");
+}
+
+/* Every byte in each place of a proposal, and numbers at the ends of the widths. */
+static void proposal_bytes(void)
+{
+    static const struct garumbott_coding_edit lysine = ONE_NEW(SUBSTITUTION, 8, "G"), appended = TWO_NEW(INSERTION, 5, 6, "C");
+    static const uint64_t numbers[] = {0, 1, 2, 3, 4, 5, 6, 7, 8, 255, 256, 257, 259, 65535, 65536, 65539, UINT64_C(1) << 31, UINT64_C(1) << 32, (UINT64_C(1) << 32) + 1,
+                                       (UINT64_C(1) << 32) + 3, INT64_MAX, UINT64_C(1) << 63, (UINT64_C(1) << 63) + 3, UINT64_MAX - 1, UINT64_MAX};
+    char name[64];
+    uint8_t *wt, *wr, *wa;
+    struct garumbott_answer w = made(&W, &lysine, &wt, &wr, &wa);
+    for (int byte = 0; byte < 256; byte++) {
+        int residue = byte == '*' || (byte >= 'A' && byte <= 'Z');
+        for (int at = 0; at < 3; at++) {
+            uint8_t r[] = "AKW", a[] = "ARW";
+            struct proposal p = {2, r, 3, a, 3};
+            r[at] = (uint8_t)byte;
+            snprintf(name, sizeof name, "byte %d at %d of the deleted", byte, at);
+            check_case(name, &W, &lysine, &p, plenty, residue ? 0 : 27, byte == "AKW"[at] ? YES_NO : NO_NO, &w, wt, wr, wa);
+            r[at] = (uint8_t) "AKW"[at];
+            a[at] = (uint8_t)byte;
+            snprintf(name, sizeof name, "byte %d at %d of the inserted", byte, at);
+            check_case(name, &W, &lysine, &p, plenty, residue ? 0 : 27, byte == "ARW"[at] ? YES_NO : NO_NO, &w, wt, wr, wa);
+        }
+    }
+    for (size_t i = 0; i < sizeof numbers / sizeof *numbers; i++) {
+        struct proposal p = {numbers[i], bytes("K"), 1, bytes("R"), 1}, none = {.number = numbers[i]}, last = {numbers[i], NULL, 0, bytes("X"), 1};
+        snprintf(name, sizeof name, "number %llu", (unsigned long long)numbers[i]);
+        judged(name, &W, &lysine, &p, numbers[i] == 0 || numbers[i] > 6 ? 27 : 0, numbers[i] == 3 ? YES_YES : NO_NO);
+        judged(name, &W, &lysine, &none, numbers[i] == 0 || numbers[i] > 6 ? 27 : 0, NO_NO);
+        judged(name, &SIX, &appended, &last, numbers[i] == 0 || numbers[i] > 3 ? 27 : 0, numbers[i] == 3 ? YES_YES : NO_NO);
+    }
+}
+
+/* Proposals longer than any protein: a no, but for a byte that is no residue, wherever it stands. Those that begin as the right ones do are wrong too. */
+static void proposal_lengths(void)
+{
+    enum { LONG = (1 << 20) + 3 };
+    static const struct garumbott_coding_edit lysine = ONE_NEW(SUBSTITUTION, 8, "G");
+    static uint8_t many[LONG], others[LONG];
+    static const uint64_t lengths[] = {0, 1, 2, 3, 4, 5, 6, 7, 100, 256, 259, 5461, 5462, 5463, 10923, 10924, 16384, 65535, 65536, 65537, 65539, LONG - 3, LONG};
+    struct fence usual[2] = {fences[DELETED], fences[INSERTED]};
+    uint8_t *t, *r, *a;
+    struct garumbott_answer w = made(&W, &lysine, &t, &r, &a);
+    memset(many, 'W', sizeof many);
+    memcpy(many, "KW*", 3);
+    memset(others, 'W', sizeof others);
+    memcpy(others, "RW*", 3);
+    for (size_t i = 0; i < sizeof lengths / sizeof *lengths; i++) {
+        uint64_t n = lengths[i];
+        if (n == 5461 || n == 65535 || n == LONG - 3) fence_make(&fences[DELETED], n + 10923), fence_make(&fences[INSERTED], n + 10923);
+        struct proposal both = {3, many, n, many, n}, deleted = {3, many, n, NULL, 0}, put_in = {3, NULL, 0, many, n}, last = {6, NULL, 0, many, n};
+        check_case("long, both", &W, &lysine, &both, plenty, 0, NO_NO, &w, t, r, a);
+        check_case("long, deleted", &W, &lysine, &deleted, plenty, 0, NO_NO, &w, t, r, a);
+        check_case("long, inserted", &W, &lysine, &put_in, plenty, 0, NO_NO, &w, t, r, a);
+        check_case("long, at the end", &W, &lysine, &last, plenty, 0, NO_NO, &w, t, r, a);
+        struct proposal more_deleted = {3, many, n, others, 3}, more_put_in = {3, many, 3, others, n}, more = {3, many, n, others, n};
+        check_case("long, begins right, deleted", &W, &lysine, &more_deleted, plenty, 0, n == 3 ? YES_NO : NO_NO, &w, t, r, a);
+        check_case("long, begins right, inserted", &W, &lysine, &more_put_in, plenty, 0, n == 3 ? YES_NO : NO_NO, &w, t, r, a);
+        check_case("long, begins right, both", &W, &lysine, &more, plenty, 0, n == 1 ? YES_YES : n == 2 || n == 3 ? YES_NO : NO_NO, &w, t, r, a);
+        if (n == 0) continue;
+        uint8_t kept = many[n - 1];
+        many[n - 1] = '@';
+        check_case("long, both, no residue", &W, &lysine, &both, plenty, 27, NO_NO, &w, t, r, a);
+        check_case("long, deleted, no residue", &W, &lysine, &deleted, plenty, 27, NO_NO, &w, t, r, a);
+        check_case("long, inserted, no residue", &W, &lysine, &put_in, plenty, 27, NO_NO, &w, t, r, a);
+        many[n - 1] = kept;
+    }
+    fences[DELETED] = usual[0];
+    fences[INSERTED] = usual[1];
+}
+
+static void records(void)
+{
+    fences = small;
+    plenty = small_room;
+    proposals();
+    proposal_rooms();
+    proposal_bytes();
+    proposal_lengths();
+    fences = large;
+    plenty = whole_room;
 }
 
 /* ---- stored references ------------------------------------------------------------------------------------------------------------- */
@@ -1216,9 +1547,12 @@ static void nulls(void)
     check(same(&a, &eleven), "NULL buffers", "record");
     a = garumbott_edit_of(&SHORT, &in, &buffers);
     check(same(&a, &eleven), "NULL buffers", "edit");
+    check(garumbott_check_of(&none, &edit, 0, NULL, 0, NULL, 0, &buffers).refusal == 1, "NULL everywhere", "check");
+    check(garumbott_check_of(&SHORT, &whole, 0, NULL, 0, NULL, 0, &buffers).refusal == 26, "NULL buffers", "check, Unknown");
+    check(garumbott_check_of(&SHORT, &in, 0, NULL, 0, NULL, 0, &buffers).refusal == 11, "NULL buffers", "check");
 }
 
-/* Slices that are only read may overlap: new bases that stand in the letters. */
+/* Slices that are only read may overlap: new bases that stand in the letters, a proposal in one string, or in the letters too. */
 static void overlaps(void)
 {
     struct garumbott_coding_edit in = {.kind = GARUMBOTT_INSERTION, .start = 3, .end = 4, .bases = SELENO.letters + 6, .bases_len = 3};
@@ -1231,6 +1565,15 @@ static void overlaps(void)
     check(same(&got, &want) && same(&got_alone, &want_alone), "bases in the letters", "answer");
     check(memcmp(t, "ATGAAATGAAAATAA", 15) == 0 && memcmp(p, "MUK*", 4) == 0 && memcmp(a, "MKUK*", 5) == 0, "bases in the letters", "what is written");
     check(garumbott_common_suffix(SELENO.letters, 12, SELENO.letters + 6, 6) == 6, "trims", "one slice within the other");
+    const uint8_t *all = bytes("MUKMKUK");
+    struct garumbott_checked yes_no = {.replays = 1, .transcript_len = 15, .reference_len = 4, .altered_len = 5}, no_no = yes_no,
+                             checked = garumbott_check_of(&SELENO, &in, 1, all, 3, all + 3, 4, &b);
+    check(memcmp(&checked, &yes_no, sizeof yes_no) == 0, "a proposal in one string", "answer");
+    checked = garumbott_check_of(&SELENO, &in, 2, all + 1, 2, all + 1, 2, &b);
+    no_no.replays = 0;
+    check(memcmp(&checked, &no_no, sizeof no_no) == 0, "the same residues deleted and inserted", "answer");
+    checked = garumbott_check_of(&SELENO, &in, 2, SELENO.letters, 3, in.bases, 3, &b);
+    check(memcmp(&checked, &no_no, sizeof no_no) == 0, "a proposal in the letters", "answer");
 }
 
 /* ---- threads and stack ------------------------------------------------------------------------------------------------------------- */
@@ -1248,6 +1591,9 @@ static void *many_calls(void *given)
         memset(a, 0, sizeof a);
         struct garumbott_answer got = garumbott_record_of(&W, &edit, &b);
         if (!same(&got, &want) || memcmp(a, "MAAKW*", 6) != 0) ++*wrong;
+        memset(a, 0, sizeof a);
+        struct garumbott_checked first = garumbott_check_of(&W, &edit, 2, NULL, 0, bytes("A"), 1, &b);
+        if (first.replays != 1 || first.shortest != 0 || first.altered_len != 6 || memcmp(a, "MAAKW*", 6) != 0) ++*wrong;
     }
     return NULL;
 }
@@ -1278,6 +1624,21 @@ static void *call_record(void *given)
     struct garumbott_reference r = longest_reference(), cut = endless_reference();
     garumbott_record_of(&r, given, &b);
     garumbott_record_of(&cut, given, &b);
+    return NULL;
+}
+
+/* The longest proposals of the edit's own record, and of all residues. */
+static void *call_check(void *given)
+{
+    static uint8_t residues[GARUMBOTT_ALTERED_ROOM];
+    struct garumbott_buffers b = {on_t, sizeof on_t, on_r, sizeof on_r, on_a, sizeof on_a};
+    struct garumbott_reference r = longest_reference(), cut = endless_reference(), excepted = longest_reference();
+    memset(residues, 'A', sizeof residues);
+    excepted.exceptions = bytes("\0\2U\25\120U");
+    excepted.exceptions_len = 6;
+    garumbott_check_of(&r, given, 2, residues, 5000, residues, sizeof residues, &b);
+    garumbott_check_of(&cut, given, 2, residues, 5000, residues, sizeof residues, &b);
+    garumbott_check_of(&excepted, given, 3, residues, 5000, residues, 5000, &b);
     return NULL;
 }
 
@@ -1352,9 +1713,10 @@ static void stack(void)
     static struct garumbott_coding_edit edits[] = {STAR(DUPLICATION, 1, 1), TWO(INVERSION, 4, 9), TWO_NEW(INSERTION, 3, 4, "ACGTN"), ONE(DELETION, 5), ONE(DELETION, 0)};
     size_t base = touched(call_nothing, NULL), most = 0;
     for (size_t i = 0; i < sizeof edits / sizeof *edits; i++) {
-        size_t r = touched(call_record, &edits[i]) - base, e = touched(call_edit, &edits[i]) - base;
+        size_t r = touched(call_record, &edits[i]) - base, e = touched(call_edit, &edits[i]) - base, c = touched(call_check, &edits[i]) - base;
         most = r > most ? r : most;
         most = e > most ? e : most;
+        most = c > most ? c : most;
     }
     static void *(*const others[])(void *) = {call_stored, call_translate, call_strings};
     for (size_t i = 0; i < sizeof others / sizeof *others; i++) {
@@ -1378,6 +1740,7 @@ int main(int argc, char **argv)
     ends();
     limits();
     cut_limits();
+    records();
     stored();
     text();
     nulls();

@@ -65,7 +65,7 @@ module _ (s : List ℕ) (c : Cds) (e : Exceptions) (a : Asked) where
 
 -- the outcome of a plan that goes is all that document 01 writes
 module _ (r : Reference) (a : Asked) (p : Plan) (is : p ≡ planOf r a) (known : isUnknown r a ≡ false) where
-  protein-is : proteinBy r p (a .new) ≡ alteredProtein r a
+  pub protein-is : proteinBy r p (a .new) ≡ alteredProtein r a
   unfolding proteinBy alteredProtein
   protein-is = rw (is, carried-by-is r a)
 
@@ -106,7 +106,7 @@ module _ (m : Limits) (s : List ℕ) (k : Known) (e : Exceptions) (protein : Lis
     pub plan-front : k .cds .cs - 1 ≤ p .length
     plan-front = omega (arith, length-is, altered-length m (referenceOf s (k .cds) e) a none-refused .front)
 
-    room-is : (room : Room) → roomRefusal (referenceOf s (k .cds) e) a room ≡ roomBy (k .cds) (p .length) room
+    pub room-is : (room : Room) → roomRefusal (referenceOf s (k .cds) e) a room ≡ roomBy (k .cds) (p .length) room
     unfolding roomRefusal cdsSize
     room-is room = rw length-is
 

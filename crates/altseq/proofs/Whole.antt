@@ -35,12 +35,12 @@ use Rattle.altseq.specs.Decided.{roomBy, withRoom, decidedIn, decidedOut
 use Rattle.altseq.proofs.Answering.{none-refused, plan-is, decided-is, room-left}
 
 -- what no refusal of 11 or 12 leaves
-record Room-for (c : Cds) (n : ℕ) (room : Room) : Type 0 where
-  transcript : n ≤ room .transcript
-  reference : residueCount (c .ce + 1 - c .cs) ≤ room .reference
-  altered : residueCount (n + 1 - c .cs) ≤ room .altered
+pub record Room-for (c : Cds) (n : ℕ) (room : Room) : Type 0 where
+  pub transcript : n ≤ room .transcript
+  pub reference : residueCount (c .ce + 1 - c .cs) ≤ room .reference
+  pub altered : residueCount (n + 1 - c .cs) ≤ room .altered
 
-room-for : (c : Cds) (n : ℕ) (room : Room) → roomBy c n room ≡ 0 → Room-for c n room
+pub room-for : (c : Cds) (n : ℕ) (room : Room) → roomBy c n room ≡ 0 → Room-for c n room
 unfolding roomTests
 room-for c n room h =
     let eleven = first-clear (ltb (room .transcript) n) 10 _ h in
@@ -58,7 +58,7 @@ module _ (s : List ℕ) (k : Known) (e : Exceptions) (protein : List ℕ) (known
   abbrev r : Reference
   r = referenceOf s (k .cds) e
 
-  left : (x : Plan) → d ≡ decision.Goes x → (decisionOf (limits .most) (k .several) (bare s (k .cds)) (asked edit new) ≡ decision.Goes x) × (roomBy (k .cds) (x .length) (roomOf t p q) ≡ 0)
+  pub left : (x : Plan) → d ≡ decision.Goes x → (decisionOf (limits .most) (k .several) (bare s (k .cds)) (asked edit new) ≡ decision.Goes x) × (roomBy (k .cds) (x .length) (roomOf t p q) ≡ 0)
   unfolding decidedIn
   left x h = room-left (k .cds) (roomOf t p q) (decisionOf (limits .most) (k .several) (bare s (k .cds)) (asked edit new)) x (sym is ∙ h)
 
@@ -77,7 +77,7 @@ module _ (s : List ℕ) (k : Known) (e : Exceptions) (protein : List ℕ) (known
       }
 
   -- R of the answer
-  protein-length : length (referenceProtein r) ≡ residueCount (cdsSize r)
+  pub protein-length : length (referenceProtein r) ≡ residueCount (cdsSize r)
   protein-length = protein-read (limits .longest) r (known .accepted) .counted
 
   reference-is : (x : Answer) → x ≡ decidedOutcome r d new .answer → referenceIn x protein ≡ decidedOutcome r d new .reference

@@ -86,7 +86,7 @@ fn copy_reference(answer: Answer, protein: &[u8], reference: &mut [u8])
 }
 
 // What is decided of an edit of a checked reference where the three buffers have so much room.
-fn decide_in(
+pub fn decide_in(
     letters: &[u8],
     known: Known,
     edit: Edit,

@@ -8,4 +8,5 @@ mod room;
 pub use alone::Transcribed;
 pub use alone::build_transcript;
 pub use answer::build_altseq;
+pub use answer::decide_in;
 pub use carry::carry_out;

@@ -20,45 +20,64 @@ use Rattle.rules.specs.Exceptions.{suffixBehind, inPrefix, inSuffix, shifted, i
 use Rattle.rules.specs.declared.Limits.{Limits}
 use Rattle.rules.specs.Refusal.{refusal}
 use Rattle.rules.proofs.Over.{tail-is}
-use Rattle.rules.proofs.Trims.{cp-le-l}
 use Rattle.rules.proofs.Translation.{length-exceptions, first-exceptions}
 use Rattle.rules.proofs.Reference.{Excepts, rising-cons, rising-of, rising-at}
 use Rattle.rules.proofs.Refusal.{reference-accepted}
 use Rattle.rules.proofs.Moved.{movedTo, suffix-fits, before-cds-shared, cds-fits}
 use Rattle.rules.proofs.Altered.{altered-length, longestAltered, altered-fits}
-use Rattle.exceptions.specs.Moving.{leftOf, Moves, Given, Shared}
+use Rattle.exceptions.specs.Moving.{leftOf, Moves, Given, Rises, Lengths, Shared}
 use Rattle.exceptions.specs.declared.Moved.{Moved}
 use Rattle.exceptions.specs.declared.Moved.the-variants.{To, Dropped}
 
--- the suffix is within either transcript, behind the prefix
-pub shared-fits : (prefix suffix : ℕ) (old new : List ℕ) → Shared prefix suffix old new → (prefix + suffix ≤ length old) × (prefix + suffix ≤ length new)
-shared-fits prefix suffix old new s = rw (s .back, s .front) (suffix-fits old new)
-
 -- what becomes of one
-module _ (prefix suffix first : ℕ) (old new : List ℕ) (e : Exception) (shared : Shared prefix suffix old new) where
+module _ (prefix suffix first size made : ℕ) (old new : List ℕ) (e : Exception) (shared : Shared prefix suffix size made old new) where
   pub one-stays : first + 3 * (e .codon - 1) + 3 ≤ prefix → e ∷ [] ≡ movedOne prefix first old new e
   unfolding movedOne inPrefix codonIndex
   one-stays h = rw (le-leb _ prefix h)
 
   module _ (past : prefix < first + 3 * (e .codon - 1) + 3) where
-    pub one-cut : first + 3 * (e .codon - 1) < length old - suffix → [] ≡ movedOne prefix first old new e
+    pub one-cut : first + 3 * (e .codon - 1) < size - suffix → [] ≡ movedOne prefix first old new e
     unfolding movedOne inPrefix inSuffix codonIndex
-    one-cut h = rw (lt-leb _ prefix past, ← shared .back, lt-leb (length old - suffix) _ h)
+    one-cut h = rw (lt-leb _ prefix past, ← shared .back, shared .old-size, lt-leb (size - suffix) _ h)
 
-    module _ (behind : length old - suffix ≤ first + 3 * (e .codon - 1)) where
-      pub one-shifted : ((first + 3 * (e .codon - 1) + length new - length old) % 3 ≡ first % 3 → ⊥) → [] ≡ movedOne prefix first old new e
+    module _ (behind : size - suffix ≤ first + 3 * (e .codon - 1)) where
+      pub one-shifted : ((first + 3 * (e .codon - 1) + made - size) % 3 ≡ first % 3 → ⊥) → [] ≡ movedOne prefix first old new e
       unfolding movedOne inPrefix inSuffix shifted inFrame codonIndex
-      one-shifted h = rw (lt-leb _ prefix past, ← shared .back, le-leb (length old - suffix) _ behind, ne-eqb _ (first % 3) h)
+      one-shifted h = rw (lt-leb _ prefix past, ← shared .back, shared .old-size, shared .new-size, le-leb (size - suffix) _ behind, ne-eqb _ (first % 3) h)
 
-      pub one-moves : (first + 3 * (e .codon - 1) + length new - length old) % 3 ≡ first % 3 → movedTo first old new e ∷ [] ≡ movedOne prefix first old new e
+      -- with the lengths for the transcripts
+      lands : (first + 3 * (e .codon - 1) + made - size) % 3 ≡ first % 3 → movedTo first old new e ∷ [] ≡ movedOne prefix first old new e
       unfolding movedOne inPrefix inSuffix shifted inFrame codonIndex codonNumber
-      one-moves h = rw (lt-leb _ prefix past, ← shared .back, le-leb (length old - suffix) _ behind, eq-eqb _ (first % 3) h)
+      lands h = rw (lt-leb _ prefix past, ← shared .back, shared .old-size, shared .new-size, le-leb (size - suffix) _ behind, eq-eqb _ (first % 3) h)
+
+      pub one-moves : (first + 3 * (e .codon - 1) + made - size) % 3 ≡ first % 3
+          → record { codon = (first + 3 * (e .codon - 1) + made - size - first) / 3 + 1; residue = e .residue } ∷ [] ≡ movedOne prefix first old new e
+      unfolding shifted codonIndex codonNumber
+      one-moves h = rw (← shared .old-size, ← shared .new-size) (lands h)
+
+-- a codon's number fits
+pub number-fits : (first codon size made : ℕ) → 1 ≤ codon → first + 3 * codon ≤ size → size < 4294967296 → made < 4294967296
+    → (first + 3 * (codon - 1) + made - size - first) / 3 + 1 < 18446744073709551616
+number-fits first codon size made g h k l = omega arith
 
 -- what the two trims find
 pub shared-of : (prefix suffix : ℕ) (old new : List ℕ) → prefix ≡ commonPrefix old new
-    → suffix ≡ commonSuffix (take (length old - prefix) (drop prefix old)) (take (length new - prefix) (drop prefix new)) → Shared prefix suffix old new
+    → suffix ≡ commonSuffix (take (length old - prefix) (drop prefix old)) (take (length new - prefix) (drop prefix new))
+    → Shared prefix suffix (length old) (length new) old new
 unfolding suffixBehind
-shared-of prefix suffix old new p s = record { front = p; back = s ∙ rw (tail-is prefix old, tail-is prefix new) }
+shared-of prefix suffix old new p s = record { front = p; back = s ∙ rw (tail-is prefix old, tail-is prefix new); old-size = refl; new-size = refl }
+
+-- the suffix is within either transcript, behind the prefix
+pub lengths-of : (first prefix suffix size made : ℕ) (old new : List ℕ) → Moves first old new → Shared prefix suffix size made old new → Lengths first prefix suffix size made
+lengths-of first prefix suffix size made old new m s =
+    let fits : (prefix + suffix ≤ length old) × (prefix + suffix ≤ length new) = rw (s .back, s .front) (suffix-fits old new) in
+    record {
+      front = omega (arith, m .front, s .front);
+      old-holds = omega (arith, fits .0, s .old-size);
+      new-holds = omega (arith, fits .1, s .new-size);
+      old-short = omega (arith, m .old-short, s .old-size);
+      new-short = omega (arith, m .new-short, s .new-size);
+    }
 
 -- a turn of the loop
 module _ (prefix first : ℕ) (old new : List ℕ) where
@@ -88,14 +107,14 @@ unfolding exceptionList
 none-given prefix first old new e h = rw h (none-moved prefix first old new)
 
 -- any of those given
-pub given-at : (first : ℕ) (old new : List ℕ) (e : Exceptions) (i : ℕ) → length (e .all) ≡ 16 → Moves first old new → Given first old e → i < e .count
-    → (1 ≤ getD (e .all) i noException .codon) × (first + 3 * getD (e .all) i noException .codon ≤ length old)
-given-at first old new e i long m g h =
+pub given-at : (first size : ℕ) (e : Exceptions) (i : ℕ) → length (e .all) ≡ 16 → first ≤ size → Rises first size e → i < e .count
+    → (1 ≤ getD (e .all) i noException .codon) × (first + 3 * getD (e .all) i noException .codon ≤ size)
+given-at first size e i long within g h =
     let list = first-exceptions e long (g .few) in
     let counted : length (take (e .count) (e .all)) ≡ e .count = length-take-le (e .count) (e .all) (omega (arith, g .few)) in
-    let x = rising-at 0 ((length old - first) / 3) (take (e .count) (e .all)) i (rw list at (g .rising)) (omega arith) in
-    let y : Excepts 0 ((length old - first) / 3) (getD (e .all) i noException) = rw (getD-take (e .count) (e .all) i noException h) at x in
-    (y .above, omega (arith, y .inside, m .front, cp-le-l old new))
+    let x = rising-at 0 ((size - first) / 3) (take (e .count) (e .all)) i (rw list at (g .rising)) (omega arith) in
+    let y : Excepts 0 ((size - first) / 3) (getD (e .all) i noException) = rw (getD-take (e .count) (e .all) i noException h) at x in
+    (y .above, omega (arith, y .inside))
 
 -- room for more codons
 rising-within : (last most more : ℕ) (es : List Exception) → most ≤ more → areRising last most es ≡ true → areRising last more es ≡ true

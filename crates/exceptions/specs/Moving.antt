@@ -24,12 +24,26 @@ pub record Moves (first : ℕ) (old new : List ℕ) : Type 0 where
   pub old-short : length old < 4294967296
   pub new-short : length new < 4294967296
 
--- at most sixteen, strictly rising within the codons that the old transcript has behind `first`
-pub record Given (first : ℕ) (old : List ℕ) (e : Exceptions) : Type 0 where
+-- at most sixteen, strictly rising within the codons that so many bases have behind `first`
+pub record Rises (first size : ℕ) (e : Exceptions) : Type 0 where
   pub few : e .count ≤ 16
-  pub rising : areRising 0 ((length old - first) / 3) (exceptionList e) ≡ true
+  pub rising : areRising 0 ((size - first) / 3) (exceptionList e) ≡ true
 
--- the lengths of the common prefix and of the common suffix behind it
-pub record Shared (prefix suffix : ℕ) (old new : List ℕ) : Type 0 where
+-- those of the old transcript
+abbrev pub Given : ℕ → List ℕ → Exceptions → Type 0
+Given first old e = Rises first (length old) e
+
+-- the letters before the CDS are in the prefix, and the suffix is behind it in transcripts of two lengths, whose sums fit
+pub record Lengths (first prefix suffix size made : ℕ) : Type 0 where
+  pub front : first ≤ prefix
+  pub old-holds : prefix + suffix ≤ size
+  pub new-holds : prefix + suffix ≤ made
+  pub old-short : size < 4294967296
+  pub new-short : made < 4294967296
+
+-- transcripts of two lengths share so long a prefix, and so long a suffix behind it
+pub record Shared (prefix suffix size made : ℕ) (old new : List ℕ) : Type 0 where
   pub front : prefix ≡ commonPrefix old new
   pub back : suffix ≡ suffixBehind prefix old new
+  pub old-size : length old ≡ size
+  pub new-size : length new ≡ made

@@ -4,12 +4,13 @@ use rules::Exceptions;
 use sequences::common_prefix_len;
 use sequences::common_suffix_len;
 ghost use mathlib.Core.Path.{_≡_};
-ghost use Prim.Native.Nat.{_+_, _*_, _≤_};
+ghost use mathlib.Core.List.{List};
+ghost use Prim.Native.Nat.{ℕ, _+_, _*_, _≤_};
 ghost use lib.ListN.{length};
 ghost use Rattle.rules.specs.Translation.{exceptionList};
 ghost use Rattle.rules.specs.Trims.{commonPrefix};
 ghost use Rattle.rules.specs.Exceptions.{movedOne, movedAll};
-ghost use Rattle.exceptions.specs.Moving.{leftOf, Moves, Given, Shared};
+ghost use Rattle.exceptions.specs.Moving.{leftOf, Moves, Given, Rises, Lengths, Shared};
 
 // What becomes of an exception.
 enum Moved {
@@ -23,22 +24,21 @@ fn moved_one(
     first: usize,
     prefix: usize,
     suffix: usize,
-    old: &[u8],
-    new: &[u8],
+    size: usize,
+    made: usize,
 ) -> Moved
-    requires { ⌜ Moves first (now old) (now new) ⌝ }
-    requires { ⌜ Shared prefix suffix (now old) (now new) ⌝ }
-    requires { ⌜ (1 ≤ x .codon) × (first + 3 * x .codon ≤ length (now old)) ⌝ }
-    ensures { λ r. ⌜ leftOf r ≡ movedOne prefix first (now (old .entry)) (now (new .entry)) x ⌝ }
+    requires { ⌜ Lengths first prefix suffix size made ⌝ }
+    requires { ⌜ (1 ≤ x .codon) × (first + 3 * x .codon ≤ size) ⌝ }
+    ensures { λ r. ⌜ ((old new : List ℕ) → Shared prefix suffix size made old new → leftOf r ≡ movedOne prefix first old new x) ⌝ }
 {
     let at = first + 3 * (x.codon - 1);
     if at + 3 <= prefix {
         return Moved::To(x);
     }
-    if at < old.len() - suffix {
+    if at < size - suffix {
         return Moved::Dropped;
     }
-    let to = at + new.len() - old.len();
+    let to = at + made - size;
     if to % 3 != first % 3 {
         return Moved::Dropped;
     }
@@ -48,19 +48,18 @@ fn moved_one(
     })
 }
 
-// All of them, in their order.
-fn moved_all(
+// All of them, in their order, where a transcript of `size` bases becomes one of `made`: a promise of whatever letters share the prefix and the suffix.
+pub fn moved_all(
     e: Exceptions,
     first: usize,
     prefix: usize,
     suffix: usize,
-    old: &[u8],
-    new: &[u8],
+    size: usize,
+    made: usize,
 ) -> Exceptions
-    requires { ⌜ Moves first (now old) (now new) ⌝ }
-    requires { ⌜ Shared prefix suffix (now old) (now new) ⌝ }
-    requires { ⌜ Given first (now old) e ⌝ }
-    ensures { λ r. ⌜ exceptionList r ≡ movedAll prefix first (now (old .entry)) (now (new .entry)) (exceptionList e) ⌝ }
+    requires { ⌜ Lengths first prefix suffix size made ⌝ }
+    requires { ⌜ Rises first size e ⌝ }
+    ensures { λ r. ⌜ ((old new : List ℕ) → Shared prefix suffix size made old new → exceptionList r ≡ movedAll prefix first old new (exceptionList e)) ⌝ }
     ensures few { λ r. ⌜ r .count ≤ 16 ⌝ }
 {
     let given = e.all;
@@ -70,7 +69,7 @@ fn moved_all(
     let mut i = 0;
     while i < count {
         let x = given[i];
-        match moved_one(x, first, prefix, suffix, old, new) {
+        match moved_one(x, first, prefix, suffix, size, made) {
             Moved::To(y) => {
                 all[n] = y;
                 n += 1;
@@ -94,5 +93,5 @@ pub fn alt_translation_exceptions(old: &[u8], new: &[u8], first: usize, e: Excep
     }
     let prefix = common_prefix_len(old, new);
     let suffix = common_suffix_len(&old[prefix..], &new[prefix..]);
-    moved_all(e, first, prefix, suffix, old, new)
+    moved_all(e, first, prefix, suffix, old.len(), new.len())
 }

@@ -19,6 +19,7 @@ use Rattle.rules.specs.Translation.{noException, exceptionList, isResidue, areE
 use Rattle.rules.specs.Reference.{Reference, size, isSize, cdsSize, areBounds, codons, areRising, fitExceptions, referenceTests}
 use Rattle.rules.specs.Edit.{Asked}
 use Rattle.rules.specs.Refusal.{Room, refusal}
+use Rattle.rules.specs.Check.{Proposal, checksNothing, checkBy, checkOutcome}
 use Rattle.rules.specs.Answer.{outcome}
 use Rattle.rules.specs.Stored.{exceptionsIn}
 use Rattle.rules.proofs.Answers.{refused-by}
@@ -74,6 +75,11 @@ translation-given table full s room x =
     as-given (λ es. translation table es full s room)
     (λ es fs u v. translation-unfit table es full s room u ∙ sym (translation-unfit table fs full s room v)) x
 
+-- a proposed record
+check-refused : (m : Limits) (r : Reference) (a : Asked) (q : Proposal) (room : Room) (n : ℕ) → refusal m r a ≡ suc n → checkOutcome m r a q room ≡ checksNothing (suc n)
+unfolding checkOutcome checkBy
+check-refused m r a q room n h = rw h
+
 -- an edit of a reference
 module _ (m : Limits) (s : List ℕ) (c : Cds) where
   abbrev with : List Exception → Reference
@@ -120,6 +126,16 @@ module _ (m : Limits) (s : List ℕ) (c : Cds) where
       alike es fs u v =
           edited-refused m (with es) a room lowest (refusal-unfit es a u) lowest-some
           ∙ sym (edited-refused m (with fs) a room lowest (refusal-unfit fs a v) lowest-some)
+
+  pub check-given : (a : Asked) (q : Proposal) (room : Room) (x : List ℕ) → checkOutcome m (with (exceptionList (exceptionsOf x))) a q room ≡ checkOutcome m (with (exceptionsAt x)) a q room
+  check-given a q room x = as-given (λ es. checkOutcome m (with es) a q room) alike x
+    where
+      by : (es fs : List Exception) (n : ℕ) → refusal m (with es) a ≡ n → refusal m (with fs) a ≡ n → (n ≡ 0 → ⊥) → checkOutcome m (with es) a q room ≡ checkOutcome m (with fs) a q room
+      by es fs zero h k some = absurd (some refl)
+      by es fs (suc n) h k some = check-refused m (with es) a q room n h ∙ sym (check-refused m (with fs) a q room n k)
+
+      alike : (es fs : List Exception) → Unfit es → Unfit fs → checkOutcome m (with es) a q room ≡ checkOutcome m (with fs) a q room
+      alike es fs u v = by es fs lowest (refusal-unfit es a u) (refusal-unfit fs a v) lowest-some
 
 -- no bytes are no exceptions
 pub none-given : (x : List ℕ) → length x ≡ 0 → exceptionsAt x ≡ []

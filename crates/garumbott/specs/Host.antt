@@ -13,17 +13,21 @@ use Rattle.rules.specs.declared.Exception.{Exception}
 use Rattle.rules.specs.declared.Written.{Written}
 use Rattle.rules.specs.declared.Written.the-variants as written
 use Rattle.rules.specs.declared.Answer.{Answer}
+use Rattle.rules.specs.declared.Check.{Check}
+use Rattle.rules.specs.declared.Check.the-variants as check
 use Rattle.rules.specs.Bytes.{if_then_else_, over}
 use Rattle.rules.specs.Translation.{noException}
 use Rattle.rules.specs.Reference.{Reference}
 use Rattle.rules.specs.Edit.{Asked}
 use Rattle.rules.specs.Stored.{exceptionsIn}
 use Rattle.rules.specs.Answer.{Outcome}
+use Rattle.rules.specs.Check.{CheckOutcome}
 use Rattle.rules.specs.Values.{kindAt, flagNumber, Told, Values, valuesOf}
 use Rattle.altseq.specs.declared.alone.Transcribed.{Transcribed}
 use Rattle.altseq.specs.declared.alone.Transcribed.the-variants as transcribed
 use Rattle.garumbott.specs.declared.numbers.GarumbottLength.{GarumbottLength}
 use Rattle.garumbott.specs.declared.numbers.GarumbottAnswer.{GarumbottAnswer}
+use Rattle.garumbott.specs.declared.numbers.GarumbottChecked.{GarumbottChecked}
 
 -- a position: a signed number p, or a star number q where `star` is 1. A negative q and every other `star` is no position; it stands as star 0,
 -- which is refused with 7
@@ -123,9 +127,30 @@ transcribedOf (transcribed.Written n flag) =
       first = 0;
     }
 
+-- what a proposed record is answered
+abbrev pub checkedOf : Check → GarumbottChecked
+checkedOf (check.Refused n) =
+    record { refusal = n; replays = 0; shortest = 0; «transcript_len» = 0; «reference_len» = 0; «altered_len» = 0 }
+checkedOf (check.Judged v) =
+    record {
+      refusal = 0;
+      replays = flagNumber (v .replays);
+      shortest = flagNumber (v .shortest);
+      «transcript_len» = v .transcript;
+      «reference_len» = v .reference;
+      «altered_len» = v .altered;
+    }
+
 -- the answer is the outcome's, and each buffer is what it was under what the outcome writes
 pub record Tells (o : Outcome) (r : GarumbottAnswer) (transcript transcript′ reference reference′ altered altered′ : List ℕ) : Type 0 where
   pub says : r ≡ answerOf (o .answer)
+  pub holds-transcript : transcript′ ≡ over (o .transcript) transcript
+  pub holds-reference : reference′ ≡ over (o .reference) reference
+  pub holds-altered : altered′ ≡ over (o .altered) altered
+
+-- the same of a proposed record
+pub record Judges (o : CheckOutcome) (r : GarumbottChecked) (transcript transcript′ reference reference′ altered altered′ : List ℕ) : Type 0 where
+  pub says : r ≡ checkedOf (o .answer)
   pub holds-transcript : transcript′ ≡ over (o .transcript) transcript
   pub holds-reference : reference′ ≡ over (o .reference) reference
   pub holds-altered : altered′ ≡ over (o .altered) altered

@@ -2,20 +2,23 @@
 use altseq::Transcribed;
 use rules::Answer;
 use rules::Cds;
+use rules::Check;
 use rules::Class;
 use rules::Edit;
 use rules::Kind;
 use rules::Position;
 use rules::Record;
 use rules::Report;
+use rules::Verdict;
 use rules::Written;
 ghost use mathlib.Core.Path.{_≡_};
 ghost use Prim.Native.Nat.{_-_};
 ghost use lib.IntN.{natAbs};
 ghost use Rattle.rules.specs.declared.Answer.the-variants as answer;
+ghost use Rattle.rules.specs.declared.Check.the-variants as check;
 ghost use Rattle.rules.specs.Views.{cdsOf};
 ghost use Rattle.rules.specs.Values.{kindAt, classNumber, flagNumber, toldBy};
-ghost use Rattle.garumbott.specs.Host.{positionAt, editAt, lengthOf, aloneOf, toldOf, answerOf, transcribedOf};
+ghost use Rattle.garumbott.specs.Host.{positionAt, editAt, lengthOf, aloneOf, toldOf, answerOf, checkedOf, transcribedOf};
 
 // A refusal's number and 0, or 0 and the bytes written from the buffer's start.
 #[repr(C)]
@@ -40,6 +43,17 @@ pub struct GarumbottAnswer {
     pub inserted_at: u64,
     pub inserted_len: u64,
     pub first: u64,
+}
+
+// Document 02's values for each case of a checked record.
+#[repr(C)]
+pub struct GarumbottChecked {
+    pub refusal: u64,
+    pub replays: u64,
+    pub shortest: u64,
+    pub transcript_len: u64,
+    pub reference_len: u64,
+    pub altered_len: u64,
 }
 
 pub fn wide(n: usize) -> u64
@@ -248,5 +262,35 @@ pub fn transcribed_of(t: Transcribed) -> GarumbottAnswer
             r.transcript_len = wide(length);
             r
         }
+    }
+}
+
+// A verdict's two answers and lengths.
+fn judged(v: Verdict) -> GarumbottChecked
+    ensures { λ r. ⌜ r ≡ checkedOf (check.Judged v) ⌝ }
+{
+    GarumbottChecked {
+        refusal: 0,
+        replays: flag_number(v.replays),
+        shortest: flag_number(v.shortest),
+        transcript_len: wide(v.transcript),
+        reference_len: wide(v.reference),
+        altered_len: wide(v.altered),
+    }
+}
+
+pub fn checked_of(c: Check) -> GarumbottChecked
+    ensures { λ r. ⌜ r ≡ checkedOf c ⌝ }
+{
+    match c {
+        Check::Refused(n) => GarumbottChecked {
+            refusal: wide(n),
+            replays: 0,
+            shortest: 0,
+            transcript_len: 0,
+            reference_len: 0,
+            altered_len: 0,
+        },
+        Check::Judged(v) => judged(v),
     }
 }

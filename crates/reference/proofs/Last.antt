@@ -15,25 +15,12 @@ use Rattle.rules.specs.Codons.{codonRule, codon}
 use Rattle.rules.specs.Translation.{exceptionList, excepted, residuesFrom, translated, residueCount}
 use Rattle.rules.specs.Reference.{atStop, size, cdsSize, cds, codons, referenceProtein, endsInStop}
 use Rattle.rules.proofs.Lists.{all-at}
-use Rattle.rules.proofs.Translation.{length-translated}
-use Rattle.rules.proofs.Reading.{residues-more, translated-append}
+use Rattle.rules.proofs.Reading.{residue-at}
 use Rattle.rules.proofs.Reference.{length-cds, whole-codons}
 use Rattle.codons.proofs.Sets.{letter-some}
 use Rattle.rules.specs.declared.Cds.{Cds}
 use Rattle.rules.specs.Views.{referenceOf}
 use Rattle.reference.specs.Known.{Readable}
-
--- a residue of a translation, by its codon
-residue-at : (t : ℕ) (es : List Exception) (u : List ℕ) (i : ℕ) → i < length u / 3
-    → getD (translated t es u) i 0 ≡ excepted es (i + 1) (codon t (getD u (i * 3) 0) (getD u (i * 3 + 1) 0) (getD u (i * 3 + 2) 0))
-unfolding residueCount
-residue-at t es u i h =
-    let long : length (take (i * 3) u) ≡ i * 3 = length-take-le (i * 3) u (omega arith) in
-    let count : length (translated t es (take (i * 3) u)) ≡ i = length-translated t es (take (i * 3) u) ∙ omega (arith, long) in
-    let number : length (take (i * 3) u) / 3 + 1 ≡ i + 1 = omega (arith, long) in
-    let split : translated t es u ≡ translated t es (take (i * 3) u) ++ residuesFrom t es (i + 1) (drop (i * 3) u) =
-    ap (translated t es) (sym (take-append-drop (i * 3) u)) ∙ translated-append t es (take (i * 3) u) (drop (i * 3) u) (omega (arith, long)) ∙ rw number in
-    rw (split, residues-more t es u i h) (getD-at (translated t es (take (i * 3) u)) _ _ 0 i count)
 
 module _ (s : List ℕ) (c : Cds) (e : Exceptions) (x : Readable s c e) (end : c .end ≡ atStop) where
   -- a letter's set

@@ -108,7 +108,7 @@ behind k a p =
     sym (take-append-drop (length a) (drop k (a ++ p))) ∙ rw rest
 
 -- any beginning and ending that R and A share are no longer together than these
-covers : (R A P D I S : List ℕ) → Splits R A P D I S → length P + length S ≤ commonPrefix R A + ending false (commonPrefix R A) R A
+pub covers : (R A P D I S : List ℕ) → Splits R A P D I S → length P + length S ≤ commonPrefix R A + ending false (commonPrefix R A) R A
 unfolding ending
 covers R A P D I S h =
     let k = commonPrefix (D ++ S) (I ++ S) in
@@ -127,7 +127,7 @@ length-three : (p d t : List ℕ) → length (p ++ (d ++ t)) ≡ length p + (len
 length-three p d t = simp length-append
 
 -- of any two proteins, with the flag or without
-tells-of : (flag : Bool) (R A : List ℕ) → Tells R A (changeOf flag R A)
+pub tells-of : (flag : Bool) (R A : List ℕ) → Tells R A (changeOf flag R A)
 unfolding changeOf changeAt partOf middle last-n
 tells-of flag R A =
     let s = commonPrefix R A in
@@ -166,7 +166,7 @@ rest-of R A =
     record { deleted = rw (one, none (length R)) (tail-is s R); inserted = rw (one, none (length A)) (tail-is s A) }
 
 -- without the flag
-least-of : (R A : List ℕ) → Least R A (changeOf false R A)
+pub least-of : (R A : List ℕ) → Least R A (changeOf false R A)
 unfolding changeOf changeAt partOf middle
 least-of R A =
     let s = commonPrefix R A in

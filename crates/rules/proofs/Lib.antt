@@ -15,7 +15,9 @@ pub mod Moved
 pub mod Altered
 pub mod Records
 pub mod Demand
+pub mod Checks
 pub mod Protein
+pub mod Silent
 pub mod Answers
 pub mod KindNumbers
 pub mod Thirteen

@@ -7,7 +7,7 @@ use Prim.Native.Nat.{ℕ, zero, suc, _+_, _-_, _*_, _/_, _%_, _≤_, _<_}
 use native.Mathlib.Omega.{arith}
 use lib.Dec.{eqb}
 use lib.ListN.{length, getD, take, drop, length-append, length-drop, take-append-drop}
-use lib.Seq.{drop-cons, length-take-le}
+use lib.Seq.{drop-cons, length-take-le, getD-at}
 use borrow.Author.Tests.{eq-eqb, ne-eqb}
 use Rattle.rules.specs.declared.Exception.{Exception}
 use Rattle.rules.specs.Bytes.{byte, if_then_else_}
@@ -85,6 +85,18 @@ module _ (t : ℕ) (es : List Exception) where
       ap (translated t es) (sym (take-append-drop k s))
       ∙ translated-append (take k s) (drop k s) (rw long (omega arith))
       ∙ ap (λ (l : List ℕ). translated t es (take k s) ++ l) (rest-of (length (take k s) / 3 + 1) (drop k s) (omega arith) ∙ ap restOf left)
+
+-- a residue of a translation, by its codon
+pub residue-at : (t : ℕ) (es : List Exception) (u : List ℕ) (i : ℕ) → i < length u / 3
+    → getD (translated t es u) i 0 ≡ excepted es (i + 1) (codon t (getD u (i * 3) 0) (getD u (i * 3 + 1) 0) (getD u (i * 3 + 2) 0))
+unfolding residueCount
+residue-at t es u i h =
+    let long : length (take (i * 3) u) ≡ i * 3 = length-take-le (i * 3) u (omega arith) in
+    let count : length (translated t es (take (i * 3) u)) ≡ i = length-translated t es (take (i * 3) u) ∙ omega (arith, long) in
+    let number : length (take (i * 3) u) / 3 + 1 ≡ i + 1 = omega (arith, long) in
+    let split : translated t es u ≡ translated t es (take (i * 3) u) ++ residuesFrom t es (i + 1) (drop (i * 3) u) =
+    ap (translated t es) (sym (take-append-drop (i * 3) u)) ∙ translated-append t es (take (i * 3) u) (drop (i * 3) u) (omega (arith, long)) ∙ rw number in
+    rw (split, residues-more t es u i h) (getD-at (translated t es (take (i * 3) u)) _ _ 0 i count)
 
 -- a part of the whole codons
 pub length-whole : (s : List ℕ) → length (wholeCodons s) ≡ length s / 3 * 3

@@ -1,16 +1,23 @@
 -- Inputs that decide clauses of document 02 which can be read two ways, in a single statement over the list of them, request by request.
 use mathlib.Core.Path.{_≡_, refl}
 use mathlib.Core.List.{List, [], _∷_, _++_, map}
+use mathlib.Core.Option.{Option, none, some}
 use Prim.Native.Nat.{ℕ}
 use Prim.Native.String.{String}
 use lib.ListN.{length}
 use Rattle.rules.specs.declared.Exception.{Exception}
-use Rattle.rules.specs.Bytes.{bytes}
+use Rattle.rules.specs.declared.Check.{Check}
+use Rattle.rules.specs.declared.Check.the-variants as check
+use Rattle.rules.specs.Bytes.{bytes, if_then_else_}
 use Rattle.rules.specs.Reference.{Reference}
-use Rattle.rules.specs.Refusal.{limits}
+use Rattle.rules.specs.Edit.{Asked}
+use Rattle.rules.specs.Refusal.{limits, Room}
+use Rattle.rules.specs.Check.{Proposal, checkOutcome}
 use Rattle.rules.specs.Stored.{storedReference}
+use Rattle.rules.specs.Line.{editLine}
+use Rattle.rules.specs.Run.{refusedLine}
 use Rattle.rules.specs.Opened.{opened}
-use Rattle.rules.proofs.Doubtful.{Decided, _⇒_, exc, edited, proteinIn}
+use Rattle.rules.proofs.Doubtful.{Decided, _⇒_, worked, exc, edited, proteinIn}
 
 -- letters that are a CDS from first to last, by their end
 abbrev pub ending : ℕ → String → List Exception → Reference
@@ -58,3 +65,51 @@ cutShort =
 pub cut-short : map (λ (d : Decided). d .computed) cutShort ≡ map (λ (d : Decided). bytes (d .answer)) cutShort
 unfolding opened
 cut-short = refl
+
+-- what a proposal of an edit line is answered, with so much room for the altered transcript, R and A
+abbrev pub answeredBy : Check → List ℕ
+answeredBy (check.Refused n) = refusedLine n
+answeredBy (check.Judged v) = (if v .replays then bytes "yes " else bytes "no ") ++ (if v .shortest then bytes "yes" else bytes "no")
+
+abbrev pub checkedOf : Room → Reference → Option Asked → Proposal → List ℕ
+checkedOf room r none p = refusedLine 30
+checkedOf room r (some e) p = answeredBy (checkOutcome limits r e p room .answer)
+
+abbrev pub checkedIn : Room → Reference → String → ℕ → String → String → List ℕ
+checkedIn room r edit number deleted inserted =
+    checkedOf room r (editLine (bytes edit)) (record { number = number; deleted = bytes deleted; inserted = bytes inserted })
+
+abbrev pub ample : Room
+ample = record { transcript = 40; reference = 10; altered = 20 }
+
+abbrev pub noRoom : Room
+noRoom = record { transcript = 0; reference = 0; altered = 0 }
+
+-- E7: records from older annotators
+abbrev pub proposed : List Decided
+proposed =
+    -- 26 before 27, and also for Silent and NoProtein
+    checkedIn ample worked "6C>T" 0 "" "" ⇒ "refused 26"
+    ∷ checkedIn ample worked "1_*6del" 1 "MAKW*" "" ⇒ "refused 26"
+    -- behind 12, but an Unknown before 11
+    ∷ checkedIn (record { transcript = 40; reference = 4; altered = 20 }) worked "8A>G" 9 "K" "R" ⇒ "refused 12"
+    ∷ checkedIn noRoom worked "1_*7del" 3 "K" "R" ⇒ "refused 26"
+    ∷ checkedIn noRoom worked "6C>T" 3 "K" "R" ⇒ "refused 11"
+    -- the number may be length of R plus one; what isn't there is a no
+    ∷ checkedIn ample worked "8A>G" 6 "K" "R" ⇒ "no no"
+    ∷ checkedIn ample worked "8A>G" 7 "" "" ⇒ "refused 27"
+    ∷ checkedIn ample worked "8A>G" 3 "K" "r" ⇒ "refused 27"
+    -- where the proteins part, and the longest ending left out, whatever the flag
+    ∷ checkedIn ample worked "4_6dup" 2 "" "A" ⇒ "yes no"
+    ∷ checkedIn ample worked "4_6dup" 3 "" "A" ⇒ "yes yes"
+    ∷ checkedIn ample worked "8A>G" 3 "KW" "RW" ⇒ "yes no"
+    ∷ checkedIn ample worked "10delinsTAG" 4 "W" "" ⇒ "yes yes"
+    ∷ checkedIn ample worked "10delinsTAG" 4 "W*" "*" ⇒ "yes no"
+    -- R the beginning of A
+    ∷ checkedIn ample (ending 1 "ATGGCC" []) "5_6insC" 3 "" "X" ⇒ "yes yes"
+    ∷ checkedIn ample (ending 1 "ATGGCC" []) "5_6insC" 4 "" "X" ⇒ "refused 27"
+    ∷ []
+
+pub all-proposed : map (λ (d : Decided). d .computed) proposed ≡ map (λ (d : Decided). bytes (d .answer)) proposed
+unfolding opened
+all-proposed = refl

@@ -17,6 +17,7 @@ pub mod Record
 pub mod Refusal
 pub mod Views
 pub mod Answer
+pub mod Check
 pub mod Values
 pub mod Stored
 pub mod Number

@@ -115,3 +115,18 @@ pub enum Answer {
     Refused(usize),
     Reported(Report),
 }
+
+// Whether a proposed record replays, whether it is the shortest, and the number of bytes written to each of the three buffers.
+pub struct Verdict {
+    pub replays: bool,
+    pub shortest: bool,
+    pub transcript: usize,
+    pub reference: usize,
+    pub altered: usize,
+}
+
+// What a proposed record is answered: a refusal's number, or a verdict.
+pub enum Check {
+    Refused(usize),
+    Judged(Verdict),
+}

@@ -1,0 +1,3 @@
+-- What only this crate's contracts, and those above it, want said.
+pub mod Changing
+pub mod Checking

@@ -1,0 +1,63 @@
+// A proposed record held to an edit of a reference.
+use crate::numbers::GarumbottChecked;
+use crate::numbers::cds_at;
+use crate::numbers::checked_of;
+use crate::numbers::edit_at;
+use checks::Question;
+use checks::check_altseq;
+use rules::Cds;
+use rules::Edit;
+use rules::Exceptions;
+use stored::exceptions_in;
+ghost use mathlib.Core.Path.{_≡_};
+ghost use Rattle.rules.specs.Refusal.{limits};
+ghost use Rattle.rules.specs.Check.{checkOutcome};
+ghost use Rattle.rules.specs.Views.{roomOf};
+ghost use Rattle.proposals.specs.Proposed.{proposed};
+ghost use Rattle.garumbott.specs.Host.{hostReference, hostAsked, Judges};
+
+#[no_mangle]
+pub extern "C" fn garumbott_check(
+    letters: &[u8],
+    cs: u64,
+    ce: u64,
+    table: u64,
+    exceptions: &[u8],
+    cds_end: u64,
+    kind: u64,
+    start_star: u64,
+    start: i64,
+    end_star: u64,
+    end: i64,
+    bases: &[u8],
+    number: u64,
+    deleted: &[u8],
+    inserted: &[u8],
+    transcript: &mut [u8],
+    reference: &mut [u8],
+    altered: &mut [u8],
+) -> GarumbottChecked
+    ensures { λ r. ⌜ Judges
+        (checkOutcome limits (hostReference (now (letters .entry)) cs ce table (now (exceptions .entry)) «cds_end») (hostAsked kind «start_star» start «end_star» end (now (bases .entry))) (proposed number (now (deleted .entry)) (now (inserted .entry))) (roomOf (now (transcript .entry)) (now (reference .entry)) (now (altered .entry))))
+        r (now (transcript .entry)) (now (transcript .exit)) (now (reference .entry)) (now (reference .exit)) (now (altered .entry)) (now (altered .exit)) ⌝ }
+{
+    let cds = cds_at(cs, ce, table, cds_end);
+    let e = exceptions_in(exceptions);
+    let edit = edit_at(kind, start_star, start, end_star, end);
+    let asks = Question {
+        cds,
+        e,
+        edit,
+        number: number as usize,
+    };
+    checked_of(check_altseq(
+        letters,
+        asks,
+        bases,
+        deleted,
+        inserted,
+        transcript,
+        reference,
+        altered,
+    ))
+}

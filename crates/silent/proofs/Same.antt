@@ -1,0 +1,211 @@
+-- Laws of R beside the protein that a plan makes: where the comparison starts, how it goes on, and where it ends.
+-- Assumes nothing.
+use mathlib.Core.Path.{_≡_, refl, sym, ap, _∙_}
+use mathlib.Core.Bool.{Bool, true, false, _&&_}
+use mathlib.Core.List.{List, [], _∷_, _++_}
+use Prim.Native.Nat.{ℕ, zero, suc, _+_, _-_, _*_, _/_, _%_, _≤_, _<_}
+use native.Mathlib.Omega.{arith}
+use lib.Dec.{eqb, leb, leb·suc-suc}
+use lib.ListN.{length, take, drop, getD, length-drop, length-append, drop-of-length-le, List·getD-append}
+use lib.Seq.{length-take-le, getD-take, getD-drop, drop-cons, drop-drop, drop-append-add}
+use borrow.Author.Tests.{eqb-true, eqb-false, leb-true, leb-false, eq-eqb, ne-eqb, lt-leb, le-leb}
+use Rattle.rules.specs.declared.Cds.{Cds}
+use Rattle.rules.specs.declared.Exceptions.{Exceptions}
+use Rattle.rules.specs.Bytes.{byte, same, count}
+use Rattle.rules.specs.Codons.{codon}
+use Rattle.rules.specs.Translation.{exceptionList, excepted, residueCount}
+use Rattle.rules.specs.Trims.{commonPrefix}
+use Rattle.rules.specs.Reference.{Reference, cdsSize, cds, referenceProtein}
+use Rattle.rules.specs.Altered.{carried}
+use Rattle.rules.specs.Views.{referenceOf}
+use Rattle.rules.proofs.Tests.{and-left, and-right}
+use Rattle.rules.proofs.Reading.{restOf, residue-at}
+use Rattle.rules.proofs.Reference.{accepted, length-cds, protein-read}
+use Rattle.rules.proofs.Silent.{residueAt, sameFrom, same-all, same-on, same-stop, same-parts, same-past, same-rest, same-before, stopless, same-own}
+use Rattle.exceptions.proofs.Moving.{none-given}
+use Rattle.edits.specs.declared.plans.Plan.{Plan}
+use Rattle.edits.specs.Plans.{goesIn}
+use Rattle.transcript.specs.Carrying.{carriedBy}
+use Rattle.transcript.proofs.Transcripts.{length-goes-in}
+use Rattle.altered.proofs.Letters.{length-made, before-at}
+use Rattle.altered.proofs.Shares.{front-starts}
+use Rattle.altered.specs.Over.{Makes}
+use Rattle.silent.proofs.Kept.{all-before}
+use Rattle.silent.specs.Comparing.{codingBy, proteinWith, Compares}
+
+-- the transcript that a plan makes
+module _ (p : Plan) (s new : List ℕ) (m : Makes p s new) where
+  -- behind an edit that keeps the length
+  as-before : (i : ℕ) → p .to ≡ p .from + p .kept → p .to ≤ i → drop i (carriedBy p s new) ≡ drop i s
+  unfolding carriedBy carried
+  as-before i level h =
+      let n : ℕ = i - p .to in
+      let put = length-goes-in p s new (m .source) in
+      let long = length-take-le (p .from) s (omega (arith, m .rising, m .ends)) in
+      let place : i ≡ length (take (p .from) s) + (length (goesIn p s new) + n) = omega arith in
+      let old : p .to + n ≡ i = omega arith in
+      ap (λ (k : ℕ). drop k (take (p .from) s ++ (goesIn p s new ++ drop (p .to) s))) place
+      ∙ drop-append-add (take (p .from) s) (goesIn p s new ++ drop (p .to) s) (length (goesIn p s new) + n)
+      ∙ drop-append-add (goesIn p s new) (drop (p .to) s) n
+      ∙ drop-drop n (p .to) s
+      ∙ ap (λ (k : ℕ). drop k s) old
+
+module _ (s : List ℕ) (c : Cds) (e moved : Exceptions) (R : List ℕ) (p : Plan) (new : List ℕ) (x : Compares s c e moved R p new) where
+  abbrev first : ℕ
+  first = c .cs - 1
+
+  abbrev u : List ℕ
+  u = drop first (carriedBy p s new)
+
+  -- what is left of the two from codon k on is the same
+  abbrev pub left : ℕ → Bool
+  left k = sameFrom (c .table) (exceptionList moved) u R k
+
+  abbrev pub kept : Bool
+  kept = same R (proteinWith c moved p s new)
+
+  pub length-coding : length u ≡ p .length - first
+  length-coding = length-drop first (carriedBy p s new) ∙ omega (arith, x .long)
+
+  pub in-transcript : first ≤ p .length
+  in-transcript = omega (arith, x .long, length-made p s new (x .makes), x .front)
+
+  pub some-residues : 1 ≤ length R
+  some-residues = omega (arith, ap length (x .read), protein-read (x .longest) (referenceOf s c e) (x .accepted) .two)
+
+  pub first-some : 1 ≤ c .cs
+  first-some = accepted (x .longest) (referenceOf s c e) (x .accepted) .bounds .first
+
+  pub codes : c .table < 3
+  codes = omega (arith, accepted (x .longest) (referenceOf s c e) (x .accepted) .table)
+
+  pub in-made : (k : ℕ) → k < (p .length - first) / 3 → first + k * 3 + 3 ≤ length (carriedBy p s new)
+  in-made k h = omega (arith, x .long, in-transcript)
+
+  pub starts-within : (k : ℕ) → first + k * 3 ≤ p .from → k ≤ (p .length - first) / 3
+  starts-within k h = omega (arith, x .long, length-made p s new (x .makes))
+
+  from-start : left 0 ≡ kept
+  unfolding proteinWith codingBy
+  from-start = sym (same-all (c .table) (exceptionList moved) u R)
+
+  letter-of : (i : ℕ) → getD u i 0 ≡ getD (carriedBy p s new) (first + i) 0
+  letter-of i = getD-drop first (carriedBy p s new) i 0
+
+  abbrev r : Reference
+  r = referenceOf s c e
+
+  once : count (byte "*") (referenceProtein r) ≤ 1
+  once = rw (← x .read) (x .once)
+
+  -- the letters before the edit are shared
+  shared : p .from ≤ commonPrefix s (carriedBy p s new)
+  shared = omega (arith, front-starts p s new (x .makes))
+
+  -- a residue of R before the last, by its codon
+  reference-at : (j : ℕ) → j + 1 < length R → getD R j 0 ≡ residueAt (c .table) (exceptionList e) (drop first s) R j
+  unfolding referenceProtein cds residueCount
+  reference-at j h =
+      let b = accepted (x .longest) r (x .accepted) .bounds in
+      let own = drop first s in
+      let long : length (take (cdsSize r) own) ≡ cdsSize r = length-cds r b in
+      let in-cds : j * 3 + 3 ≤ cdsSize r = omega (arith, ap length (x .read), protein-read (x .longest) r (x .accepted) .counted) in
+      let letter : (i : ℕ) → i < cdsSize r → getD (take (cdsSize r) own) i 0 ≡ getD own i 0 = λ i l. getD-take (cdsSize r) own i 0 l in
+      ap (λ (l : List ℕ). getD l j 0) (x .read)
+      ∙ residue-at (c .table) (exceptionList e) (take (cdsSize r) own) j (omega arith)
+      ∙ rw (letter (j * 3) (omega arith), letter (j * 3 + 1) (omega arith), letter (j * 3 + 2) (omega arith))
+
+  -- A's residue there is the same: its letters and its exception stay
+  altered-at : (k j : ℕ) → first + k * 3 ≤ p .from → j < k → residueAt (c .table) (exceptionList moved) u R j ≡ residueAt (c .table) (exceptionList e) (drop first s) R j
+  altered-at k j h l =
+      let alike : (i : ℕ) → i < k * 3 → getD u i 0 ≡ getD (drop first s) i 0 = λ i m.
+      letter-of i ∙ sym (before-at p s new (x .makes) (first + i) (omega arith)) ∙ sym (getD-drop first s i 0) in
+      let rises = accepted (x .longest) r (x .accepted) .exceptions in
+      rw (alike (j * 3) (omega arith), alike (j * 3 + 1) (omega arith), alike (j * 3 + 2) (omega arith), x .moves)
+      (all-before s (carriedBy p s new) first k (omega (arith, shared)) (j + 1) (omega arith) (omega arith) 0 _ (exceptionList e) _ rises)
+
+  -- where the comparison starts
+  pub starts : (k : ℕ) → k + 1 ≤ length R → first + k * 3 ≤ p .from → left k ≡ kept
+  starts k few h =
+      let many : k ≤ length u / 3 = omega (arith, length-coding, x .long, length-made p s new (x .makes)) in
+      sym (same-before (c .table) (exceptionList moved) u R k many (λ j l.
+      let is = reference-at j (omega arith) ∙ sym (altered-at k j h l) in
+      (omega arith, is, λ z. stopless (x .longest) r (x .accepted) once j (omega (arith, ap length (x .read))) (sym (ap (λ (m : List ℕ). getD m j 0) (x .read)) ∙ is ∙ z))))
+      ∙ from-start
+
+  module _ (none : e .count ≡ 0) where
+    both-none : exceptionList moved ≡ exceptionList e
+    both-none = x .moves ∙ sym (none-given (commonPrefix s (carriedBy p s new)) first s (carriedBy p s new) e none)
+
+    pub ends-level : (k : ℕ) → p .to - p .from ≡ p .kept → p .to ≤ first + k * 3 → k < length R → k < (p .length - first) / 3 → left k ≡ true
+    ends-level k level h few more =
+        let to : p .to ≡ p .from + p .kept = omega (arith, x .makes .rising) in
+        let is : drop (k * 3) u ≡ drop (k * 3) (drop first s) =
+        drop-drop (k * 3) first (carriedBy p s new) ∙ as-before p s new (x .makes) (first + k * 3) to h ∙ sym (drop-drop (k * 3) first s) in
+        let many : k ≤ length (drop first s) / 3 = omega (arith, length-drop first s, x .long, length-made p s new (x .makes), x .makes .ends) in
+        rw (both-none, x .read) (same-own (x .longest) r (x .accepted) once u k many (omega (arith, ap length (x .read))) is)
+
+  -- by the code's test
+  pub ends-here : (k : ℕ) → (eqb (e .count) 0 && eqb (p .to - p .from) (p .kept) && leb (p .to) (first + k * 3)) ≡ true → k < length R → k < (p .length - first) / 3 → left k ≡ true
+  ends-here k h few more =
+      let none = eqb (e .count) 0 in
+      let level = eqb (p .to - p .from) (p .kept) in
+      let behind = leb (p .to) (first + k * 3) in
+      let both = and-left (none && level) behind h in
+      ends-level (eqb-true (e .count) 0 (and-left none level both)) k (eqb-true (p .to - p .from) (p .kept) (and-right none level both)) (leb-true (p .to) (first + k * 3) (and-right (none && level) behind h)) few more
+
+  -- a turn
+  module _ (k v : ℕ) (more : k < (p .length - first) / 3)
+      (is : v ≡ excepted (exceptionList moved) (k + 1) (codon (c .table) (getD (carriedBy p s new) (first + k * 3) 0) (getD (carriedBy p s new) (first + k * 3 + 1) 0) (getD (carriedBy p s new) (first + k * 3 + 2) 0))) where
+    read : v ≡ residueAt (c .table) (exceptionList moved) u R k
+    read =
+        let two : first + k * 3 + 1 ≡ first + (k * 3 + 1) = omega arith in
+        let three : first + k * 3 + 2 ≡ first + (k * 3 + 2) = omega arith in
+        is ∙ rw (letter-of (k * 3), letter-of (k * 3 + 1), letter-of (k * 3 + 2), two, three)
+
+    in-coding : k < length u / 3
+    in-coding = omega (arith, length-coding)
+
+    pub parts : k < length R → (v ≡ getD R k 0 → ⊥) → left k ≡ false
+    parts h differ = same-parts (c .table) (exceptionList moved) u R k in-coding h (λ z. differ (read ∙ sym z))
+
+    pub stops : k < length R → v ≡ getD R k 0 → v ≡ byte "*" → left k ≡ eqb (k + 1) (length R)
+    stops h same z = same-stop (c .table) (exceptionList moved) u R k in-coding h (sym same ∙ read) (sym read ∙ z)
+
+    pub goes-on : k < length R → v ≡ getD R k 0 → (v ≡ byte "*" → ⊥) → left k ≡ left (k + 1)
+    goes-on h same later = same-on (c .table) (exceptionList moved) u R k in-coding h (sym same ∙ read) (λ z. later (read ∙ z))
+
+  pub past : (k : ℕ) → k < (p .length - first) / 3 → length R ≤ k → left k ≡ false
+  past k more h = same-past (c .table) (exceptionList moved) u R k (omega (arith, length-coding)) h
+
+  pub ends : (k : ℕ) → k ≡ (p .length - first) / 3 → left k ≡ same (drop k R) (restOf ((p .length - first) % 3))
+  ends k h = same-rest (c .table) (exceptionList moved) u R k (omega (arith, length-coding)) ∙ ap (λ (n : ℕ). same (drop k R) (restOf (n % 3))) length-coding
+
+-- what is left of R against a rest: an X, or nothing
+same-nothing : (R : List ℕ) (k : ℕ) → leb (length R) k ≡ same (drop k R) []
+unfolding same
+same-nothing [] zero = refl
+same-nothing [] (suc k) = le-leb 0 (suc k) (omega arith)
+same-nothing (x ∷ R) zero = lt-leb (suc (length R)) 0 (omega arith)
+same-nothing (x ∷ R) (suc k) = leb·suc-suc (length R) k ∙ same-nothing R k
+
+pub no-rest : (R : List ℕ) (k rest : ℕ) → rest ≡ 0 → leb (length R) k ≡ same (drop k R) (restOf rest)
+no-rest R k rest h = rw h (same-nothing R k)
+
+pub rest-past : (R : List ℕ) (k rest : ℕ) → (rest ≡ 0 → ⊥) → length R ≤ k → false ≡ same (drop k R) (restOf rest)
+unfolding same
+rest-past R k zero n h = absurd (n refl)
+rest-past R k (suc rest) n h = rw (drop-of-length-le R {i = k} h)
+
+pub one-rest : (R : List ℕ) (k rest : ℕ) → (rest ≡ 0 → ⊥) → k < length R → (eqb (getD R k 0) (byte "X") && eqb (length R - k) 1) ≡ same (drop k R) (restOf rest)
+unfolding same
+one-rest R k zero n h = absurd (n refl)
+one-rest R k (suc rest) n h =
+    rw (drop-cons R k 0 h) (ap (λ (b : Bool). eqb (getD R k 0) (byte "X") && b) (left-one ∙ same-nothing R (suc k)))
+  where
+    left-one : eqb (length R - k) 1 ≡ leb (length R) (suc k)
+    left-one = by (leb (length R) (suc k)) refl
+      where
+        by : (b : Bool) → leb (length R) (suc k) ≡ b → eqb (length R - k) 1 ≡ b
+        by true q = eq-eqb (length R - k) 1 (omega (arith, leb-true (length R) (suc k) q))
+        by false q = ne-eqb (length R - k) 1 (λ z. omega (arith, leb-false (length R) (suc k) q))

@@ -1,0 +1,75 @@
+// Whether the protein that a plan makes is R, told before a byte of it is written.
+use altered::residue_at;
+use edits::plans::Plan;
+use numbers::least;
+use rules::Cds;
+use rules::Exceptions;
+ghost use mathlib.Core.Path.{_≡_};
+ghost use Prim.Native.Nat.{_+_, _*_, _≤_};
+ghost use lib.ListN.{drop};
+ghost use Rattle.rules.specs.Bytes.{same};
+ghost use Rattle.rules.proofs.Reading.{restOf};
+ghost use Rattle.silent.specs.Comparing.{proteinWith, Compares};
+
+// Whether R has as many residues left behind its first k as a rest of bases makes: an X, or none.
+fn rest_alike(protein: &[u8], k: usize, rest: usize) -> bool
+    ensures { λ r. ⌜ r ≡ same (drop k (now (protein .entry))) (restOf rest) ⌝ }
+{
+    if rest == 0 {
+        return protein.len() <= k;
+    }
+    if protein.len() <= k {
+        return false;
+    }
+    (protein[k] == b'X') & (protein.len() - k == 1)
+}
+
+// The first codon that the edit may change: the first that isn't wholly before it, and at most the last of R.
+fn first_changed(plan: Plan, first: usize, residues: usize) -> usize
+    requires { ⌜ (first ≤ plan .from) × (1 ≤ residues) ⌝ }
+    ensures { λ r. ⌜ r + 1 ≤ residues ⌝ }
+    ensures before { λ r. ⌜ first + r * 3 ≤ plan .from ⌝ }
+{
+    least((plan.from - first) / 3, residues - 1)
+}
+
+// Whether the protein that a plan makes, with the moved exceptions, is R: read codon by codon from the first that the edit may change, to where
+// the two part or end, or to where the transcript is as it was.
+pub fn keeps_protein(
+    letters: &[u8],
+    c: Cds,
+    e: Exceptions,
+    moved: Exceptions,
+    protein: &[u8],
+    plan: Plan,
+    new: &[u8],
+) -> bool
+    requires { ⌜ Compares (now letters) c e moved (now protein) plan (now new) ⌝ }
+    ensures { λ r. ⌜ r ≡ same (now (protein .entry)) (proteinWith c moved plan (now (letters .entry)) (now (new .entry))) ⌝ }
+{
+    let first = c.cs - 1;
+    let whole = (plan.length - first) / 3;
+    let rest = (plan.length - first) % 3;
+    let level = (e.count == 0) & (plan.to - plan.from == plan.kept);
+    let tail = plan.to;
+    let mut k = first_changed(plan, first, protein.len());
+    loop {
+        if whole <= k {
+            return rest_alike(protein, k, rest);
+        }
+        if protein.len() <= k {
+            return false;
+        }
+        if level & (tail <= first + k * 3) {
+            return true;
+        }
+        let r = residue_at(letters, c.table, plan, new, moved, first, k);
+        if r != protein[k] {
+            return false;
+        }
+        if r == b'*' {
+            return k + 1 == protein.len();
+        }
+        k += 1;
+    }
+}
