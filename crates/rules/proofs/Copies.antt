@@ -3,16 +3,18 @@
 use mathlib.Core.Path.{_≡_, refl}
 use mathlib.Core.Bool.{Bool, true, false, _&&_}
 use mathlib.Core.List.{List}
-use Prim.Native.Nat.{ℕ, _+_, _-_, _≤_, _<_}
+use Prim.Native.Nat.{ℕ, _+_, _-_}
 use native.Mathlib.Omega.{arith}
 use lib.Dec.{eqb, ltb}
 use lib.ListN.{length, take, drop, getD}
+use borrow.Author.Tests.{lt-ltb, ltb-true, ltb-false}
 use Rattle.rules.specs.declared.Class.{Class}
-use Rattle.rules.specs.declared.Class.the-variants.{Duplication, Insertion}
+use Rattle.rules.specs.declared.Class.the-variants.{StartLost, Extension, StopGained, Frameshift, Substitution, Deletion, Duplication, Insertion, Delins}
+use Rattle.rules.specs.declared.Part.{Part}
 use Rattle.rules.specs.declared.Change.{Change}
 use Rattle.rules.specs.declared.Record.{Record}
 use Rattle.rules.specs.declared.Record.the-variants.{Unknown, NoProtein, Silent, Changed}
-use Rattle.rules.specs.Bytes.{if_then_else_, same, isNone}
+use Rattle.rules.specs.Bytes.{byte, if_then_else_, same, isNone}
 use Rattle.rules.specs.Trims.{commonPrefix}
 use Rattle.rules.specs.Record.{ending, isCopy, classBy, classByCounts, classOf, firstCopied, changeAt, changeOf, recordFrom}
 
@@ -76,3 +78,65 @@ module _ (flag : Bool) (number : ℕ) (R A : List ℕ) where
   -- document 01's test and E5's
   pub before-and-after : withoutClass (recordBy isLaterCopy flag number R A) ≡ withoutClass (recordFrom flag number R A)
   before-and-after = rw (record-by flag number R A, same-but-class isLaterCopy isCopy)
+
+-- Where the two tests give another change, it was an insertion and is a duplication with 1 as its first residue.
+pub record FromOne (c d : Change) : Type 0 where
+  pub was : c .class ≡ Insertion
+  pub is : d .class ≡ Duplication
+  pub first : d .first ≡ 1
+
+abbrev ofClass : Part → Part → ℕ → ℕ → Class → Change
+ofClass deleted inserted number n k =
+    record { class = k; number = number; deleted = deleted; inserted = inserted; first = firstCopied k number n }
+
+abbrev classIf : Bool → Bool → Bool → Bool → Bool → Bool → Bool → Bool → Class
+classIf t₁ t₂ t₃ t₄ t₅ t₆ t₇ copy =
+    if t₁ then StartLost
+    else if t₂ then Extension
+    else if t₃ then StopGained
+    else if t₄ then Frameshift
+    else if t₅ then Substitution
+    else if t₆ then Deletion
+    else if t₇ && copy then Duplication
+    else if t₇ then Insertion
+    else Delins
+
+module _ (p q : Part) (number n : ℕ) where
+  by-tests : (t₁ t₂ t₃ t₄ t₅ t₆ t₇ later room alike : Bool) → (later ≡ true → room ≡ true) → (later ≡ false → room ≡ true → number ≡ n + 1)
+      → (ofClass p q number n (classIf t₁ t₂ t₃ t₄ t₅ t₆ t₇ (later && alike)) ≡ ofClass p q number n (classIf t₁ t₂ t₃ t₄ t₅ t₆ t₇ (room && alike)) → ⊥)
+      → FromOne (ofClass p q number n (classIf t₁ t₂ t₃ t₄ t₅ t₆ t₇ (later && alike))) (ofClass p q number n (classIf t₁ t₂ t₃ t₄ t₅ t₆ t₇ (room && alike)))
+  unfolding firstCopied
+  by-tests true t₂ t₃ t₄ t₅ t₆ t₇ later room alike f g h = absurd (h refl)
+  by-tests false true t₃ t₄ t₅ t₆ t₇ later room alike f g h = absurd (h refl)
+  by-tests false false true t₄ t₅ t₆ t₇ later room alike f g h = absurd (h refl)
+  by-tests false false false true t₅ t₆ t₇ later room alike f g h = absurd (h refl)
+  by-tests false false false false true t₆ t₇ later room alike f g h = absurd (h refl)
+  by-tests false false false false false true t₇ later room alike f g h = absurd (h refl)
+  by-tests false false false false false false false later room alike f g h = absurd (h refl)
+  by-tests false false false false false false true true true alike f g h = absurd (h refl)
+  by-tests false false false false false false true true false alike f g h = let t = f refl in let z : _≡_ {A = ℕ} 0 1 = cc in absurd (omega arith)
+  by-tests false false false false false false true false false alike f g h = absurd (h refl)
+  by-tests false false false false false false true false true false f g h = absurd (h refl)
+  by-tests false false false false false false true false true true f g h =
+      let last : number ≡ n + 1 = g refl refl in
+      record { was = refl; is = refl; first = omega arith }
+
+module _ (flag : Bool) (s n : ℕ) (R A : List ℕ) where
+  pub from-one : (changeBy isLaterCopy flag s n R A ≡ changeBy isCopy flag s n R A → ⊥) → FromOne (changeBy isLaterCopy flag s n R A) (changeBy isCopy flag s n R A)
+  unfolding isCopy classBy classByCounts
+  from-one =
+      let d = length R - s - n in
+      let i = length A - s - n in
+      by-tests (record { at = s; len = d }) (record { at = s; len = i }) (s + 1) i
+      (eqb (s + 1) 1)
+      (ltb 0 d && eqb (getD R s 0) (byte "*"))
+      (eqb (getD A s 0) (byte "*"))
+      flag
+      (eqb i 1 && eqb d 1)
+      (eqb i 0)
+      (eqb d 0)
+      (ltb (i + 1) (s + 1))
+      (ltb i (s + 1))
+      (same (take i (drop (s + 1 - 1 - i) R)) (take i (drop (s + 1 - 1) A)))
+      (λ later. lt-ltb i (s + 1) (omega (arith, ltb-true (i + 1) (s + 1) later)))
+      (λ later room. omega (arith, ltb-false (i + 1) (s + 1) later, ltb-true i (s + 1) room))

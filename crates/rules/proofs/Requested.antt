@@ -124,6 +124,7 @@ copiedFromOne =
     ∷ edited worked "3_4insATG" ⇒ "duplication 2 - M 1"
     -- more residues inserted than stand before: no copy
     ∷ edited worked "3_4insATGATG" ⇒ "insertion 2 - MM"
+    ∷ edited worked "3_4insATGGCC" ⇒ "insertion 2 - MA"
     -- the shared beginning is as long as it can be
     ∷ edited (ending 0 "ATGATGTAA" []) "1_3dup" ⇒ "duplication 3 - M 2"
     -- behind R too, where R is the beginning of A
