@@ -45,8 +45,9 @@
  *   Numbers from the caller that are too large for their meaning are refused like any other wrong number; none is cut down to fewer bits.
  *   Letters are IUPAC's for bases and sets of bases, ACGTRYSWKMBDHVN, in upper case but for garumbott_translate. Letters and residues are bytes of
  *     ASCII. A stop is '*', a residue that isn't known 'X'.
- *   Versions. Later versions add members at the ends of the structs; 0 in a new member means what is done today. The archive can't tell which
- *     header its caller was compiled with: compile all of a host with the header that came with the archive, and anew whenever they change.
+ *   Versions. Later versions add members at the ends of the structs; 0 in a new member means what is done today. The functions over slices and numbers
+ *     gain parameters; those over structs keep theirs. 2.0.0 has cds_end in garumbott_record and garumbott_edit, behind exceptions_len. The archive can't
+ *     tell which header its caller was compiled with: compile all of a host with the header that came with the archive, and anew whenever they change.
  *
  * The archive is compiled for Linux on x86-64 (System V calling convention). It wants memcpy and memset of the C library and nothing else,
  * and links into programs and shared objects alike. The header is C11, and C++ as well.
@@ -95,8 +96,8 @@ extern "C" {
 
 /* How a CDS ends. Every other number is an unknown end and refused with 28, or with 3 where the CDS's length isn't divisible by 3. */
 #define GARUMBOTT_END_STOP 0      /* at a stop: its last codon, exceptions applied, reads '*' (6) */
-#define GARUMBOTT_END_NO_STOP 1   /* with a whole codon and without a stop: the transcript is cut short */
-#define GARUMBOTT_END_CUT_CODON 2 /* the same, in one or two bases of a codon */
+#define GARUMBOTT_END_NO_STOP 1   /* without a stop, behind a whole codon: the transcript is cut short */
+#define GARUMBOTT_END_CUT_CODON 2 /* without a stop, in one or two bases of a codon: likewise */
 
 /* Kinds of edit. Every other number is an unknown kind and refused with 10. */
 #define GARUMBOTT_SUBSTITUTION 1 /* one base gives way to one new base */
@@ -132,7 +133,7 @@ extern "C" {
 #define GARUMBOTT_REFUSAL_BOUNDS 3           /* not 1 <= cs <= ce <= letters_len, or ce-cs+1 not divisible by 3 (a cut codon: divisible), or below 6 */
 #define GARUMBOTT_REFUSAL_TABLE 4            /* the table isn't 0, 1 or 2 */
 #define GARUMBOTT_REFUSAL_EXCEPTIONS 5       /* too many exceptions, a codon number or a residue that is none, or codon numbers out of order */
-#define GARUMBOTT_REFUSAL_LAST_CODON 6       /* the CDS ends at a stop, and its last codon, exceptions applied, doesn't read '*' */
+#define GARUMBOTT_REFUSAL_LAST_CODON 6       /* the CDS is said to end at a stop, and its last codon, exceptions applied, doesn't read '*' */
 #define GARUMBOTT_REFUSAL_POSITION 7         /* a position is none, past the CDS or before the transcript; a duplication ends behind it */
 #define GARUMBOTT_REFUSAL_ORDER 8            /* start behind end, anchors no neighbours, or a substitution at two places */
 #define GARUMBOTT_REFUSAL_OUT_OF_CDS 9       /* both ends before the CDS, both behind it, or an insertion that begins before it */
@@ -147,7 +148,7 @@ extern "C" {
 #define GARUMBOTT_REFUSAL_FIELD 23           /* stored: a field's length is wrong for its tag, or tag 8 isn't 1 or 2 */
 #define GARUMBOTT_REFUSAL_NOT_CHANGED 26     /* a record to be checked: the edit's answer isn't GARUMBOTT_CHANGED */
 #define GARUMBOTT_REFUSAL_PROPOSAL 27        /* a record to be checked: its number is 0 or above R's length plus one, or a byte of it is no residue */
-#define GARUMBOTT_REFUSAL_END 28             /* the end is unknown; or it isn't at a stop, and ce isn't the last base or R has a '*' */
+#define GARUMBOTT_REFUSAL_END 28             /* the end is unknown; or it isn't at a stop, and then ce isn't the last base, or R has a '*' */
 #define GARUMBOTT_REFUSAL_LINE 30            /* a text line isn't in the form */
 
 /* ---- Answers ------------------------------------------------------------------------------------------------------------------------ */
@@ -228,8 +229,9 @@ struct garumbott_stored {
  *   table                        GARUMBOTT_TABLE_..; not NCBI's number (4)
  *   exceptions, exceptions_len   at most 16, three bytes each as above, codon numbers strictly rising and within the CDS; none: length 0.
  *                                A length that isn't divisible by three is refused like any other fault of theirs. A cut codon has none (5)
- *   cds_end                      GARUMBOTT_END_..: at a stop, so that the last codon reads '*' (6); or cut short, with or without a whole last codon:
- *                                then the transcript ends with the CDS, and no codon reads '*', exceptions applied (28)
+ *   cds_end                      GARUMBOTT_END_.., the member `end` of struct garumbott_reference: at a stop, so that the last codon reads '*' (6); or cut
+ *                                short, behind a whole codon or in a cut one: then the transcript ends with the CDS, so that nothing can be put
+ *                                behind it (a star end is Unknown, and 7 in a duplication), and no codon reads '*', exceptions applied (28)
  * The edit, by the positions of an HGVS name ("c.8", "c.-2", "c.*3"; those in introns, as "c.88+2", have no place here):
  *   kind                         GARUMBOTT_SUBSTITUTION .. GARUMBOTT_IDENTITY (10)
  *   start_star, start            the first position: start_star 0 and start = p, or start_star 1 and start = q.
@@ -254,7 +256,8 @@ struct garumbott_stored {
  *   The frameshift flag is set where the change of length, before that, isn't divisible by 3, and where a deletion or delins goes on from the CDS
  *     to behind it; never where the bases are put back as they were, nor in an inversion or an identity.
  *   R has a residue for each codon of the CDS, and 'X' for a cut one. In a CDS that is cut short R may be the beginning of A: number is then R's
- *     length plus one, nothing is deleted, and the class isn't extension.
+ *     length plus one, deleted_at lies behind R's last residue, nothing is deleted, and the class isn't extension. A change in a cut codon is silent: X stays
+ *     X, though a base changed, and the flag may be set.
  *   A is read from base 1 of the CDS through the first '*', to the transcript's end where there is none, with 'X' for one or two bases that are
  *     left. An exception stays with its codon where the edit leaves that codon as it was and in frame, and is dropped otherwise.
  *
@@ -266,7 +269,7 @@ struct garumbott_answer garumbott_record(const uint8_t *letters, uint64_t letter
                                          uint64_t bases_len, uint8_t *transcript, uint64_t transcript_len, uint8_t *reference,
                                          uint64_t reference_len, uint8_t *altered, uint64_t altered_len);
 
-/* The altered transcript alone. Parameters, refusals 1 to 11, 28 among them, and Unknown are those of garumbott_record. Where it writes, the answer is
+/* The altered transcript alone. Parameters, refusals 1 to 11, 28 in 6's place, and Unknown are those of garumbott_record. Where it writes, the answer is
  * GARUMBOTT_CHANGED, with transcript_len and frameshift, and every other number is 0: no protein was compared. */
 struct garumbott_answer garumbott_edit(const uint8_t *letters, uint64_t letters_len, uint64_t cs, uint64_t ce, uint64_t table,
                                        const uint8_t *exceptions, uint64_t exceptions_len, uint64_t cds_end, uint64_t kind,
@@ -316,7 +319,8 @@ struct garumbott_checked garumbott_check(const uint8_t *letters, uint64_t letter
  *   3   table        one byte
  *   4   exceptions   three bytes each, as above; the field may be empty, or absent
  *   8   end          one byte, GARUMBOTT_END_NO_STOP or GARUMBOTT_END_CUT_CODON; absent where the CDS ends at a stop
- * The reference of the example above is "\1\0\27GGATGGCCAAATGGTAACCTGAC" "\2\0\4\0\3\0\21" "\3\0\1\0".
+ * The reference of the example above is "\1\0\27GGATGGCCAAATGGTAACCTGAC" "\2\0\4\0\3\0\21" "\3\0\1\0". ATGGCC without a stop is
+ * "\1\0\6ATGGCC" "\2\0\4\0\1\0\6" "\3\0\1\0" "\10\0\1\1".
  *
  * Refusals, the first that applies:
  *   20, 21, 23   met in the order of the fields; in one field 21 before 20 before 23.
@@ -335,7 +339,7 @@ struct garumbott_stored garumbott_read_stored(const uint8_t *data, uint64_t data
 
 /* The text program over memory: the first line of the input is "ref CS CE TABLE LETTERS", each line behind it an edit ("8A>G", "5del", "4_6dup",
  * "9_10insTAG", "4_6delinsTT", "4_6inv", "4="; positions "7", "-2", "*3"), and each is answered by a line: "reference MAKW*",
- * "substitution 3 K R", "refused 7". TABLE is 0, 1 or 2 as above, and the base that a substitution names isn't looked at here either. A line ends
+ * "substitution 3 K R", "refused 7". TABLE is 0, 1 or 2 as above, the CDS ends at a stop, and the base that a substitution names isn't looked at here either. A line ends
  * at a line feed, the last perhaps without; a carriage return before it is a byte of the line. Lines that aren't in the form, empty ones and those
  * above 20,480 bytes are answered "refused 30". A refused first line ends the run. An answer has at most 16,415 bytes, its line feed included.
  * Refusal 15: the answers don't fit; then no byte of out has changed. Nothing else is refused. */
@@ -370,7 +374,7 @@ uint64_t garumbott_common_suffix(const uint8_t *a, uint64_t a_len, const uint8_t
 
 /* ---- The same over structs ---------------------------------------------------------------------------------------------------------- */
 
-/* Twenty arguments in a row are easy to mix up: these hold them by name. Members that an initializer leaves out are 0: no exceptions, no stars, no
+/* More than twenty arguments in a row are easy to mix up: these hold them by name. Members that an initializer leaves out are 0: no exceptions, no stars, no
  * bases, GARUMBOTT_TABLE_STANDARD and GARUMBOTT_END_STOP. */
 struct garumbott_reference {
     const uint8_t *letters;
@@ -380,7 +384,7 @@ struct garumbott_reference {
     uint64_t table;
     const uint8_t *exceptions;
     uint64_t exceptions_len;
-    uint64_t end;
+    uint64_t end; /* cds_end: how the CDS ends, GARUMBOTT_END_.. */
 };
 
 struct garumbott_coding_edit {
@@ -509,7 +513,7 @@ static inline const char *garumbott_refusal_words(uint64_t number)
     case GARUMBOTT_REFUSAL_EXCEPTIONS:
         return "the exceptions break a rule: at most 16, codon numbers strictly rising from 1 to the number of whole CDS codons "
                "(in plain translation from 1 in any order), residues A to Z or *";
-    case GARUMBOTT_REFUSAL_LAST_CODON: return "the CDS ends at a stop, and its last codon, exceptions applied, doesn't read *";
+    case GARUMBOTT_REFUSAL_LAST_CODON: return "the CDS is said to end at a stop, and its last codon, exceptions applied, doesn't read *";
     case GARUMBOTT_REFUSAL_POSITION:
         return "a position is 0, star 0 or above 65,535, past the CDS or before base 1 of the transcript, "
                "or a duplication's end is behind the transcript";
@@ -533,7 +537,7 @@ static inline const char *garumbott_refusal_words(uint64_t number)
     case GARUMBOTT_REFUSAL_PROPOSAL:
         return "the proposed record's number is 0 or above the length of R plus one, or a residue byte of it is not A to Z or *";
     case GARUMBOTT_REFUSAL_END:
-        return "the CDS's stated end is unknown, or it is cut short and ce is not the last base or a codon reads *";
+        return "the CDS's stated end is unknown; or it is not at a stop, and then ce is not the last base, or a codon reads *, exceptions applied";
     case GARUMBOTT_REFUSAL_LINE: return "the text line is not in the form";
     default: return "a refusal that this header doesn't know";
     }

@@ -38,13 +38,12 @@ use Rattle.edits.specs.Plans.{planOf}
 use Rattle.edits.specs.Decisions.{decisionOf}
 use Rattle.edits.proofs.Planning.{planned}
 use Rattle.exceptions.specs.Moving.{Given}
-use Rattle.exceptions.proofs.Moving.{given-of, moved-is, none-given}
+use Rattle.exceptions.proofs.Moving.{given-of, moved-is}
 use Rattle.transcript.specs.Carrying.{carriedBy}
 use Rattle.transcript.proofs.Transcripts.{carried-by-is}
 use Rattle.altered.specs.Over.{Makes}
 use Rattle.altered.proofs.Letters.{makes-of}
 use Rattle.silent.specs.Comparing.{codingBy, proteinWith, Compares}
-use Rattle.silent.proofs.Same.{no-exceptions}
 use Rattle.altseq.specs.Carried.{proteinBy}
 use Rattle.altseq.proofs.Answering.{allowed-is}
 use Rattle.checks.specs.Changing.{Changes}
@@ -119,7 +118,7 @@ module _ (s : List ℕ) (k : Known) (e : Exceptions) (protein : List ℕ) (p : P
           front = front;
           long = long;
           few = few;
-          none = λ none. is ∙ sym (none-given (commonPrefix s (carriedBy p s new)) first s (carriedBy p s new) e none) ∙ no-exceptions e none;
+          moves = is;
         }
 
     protein-is : proteinBy r p new ≡ proteinWith (k .cds) moved p s new

@@ -1,2 +1,3 @@
 -- Laws that this crate's proofs cite.
+mod Kept
 pub mod Same

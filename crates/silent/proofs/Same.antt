@@ -13,30 +13,25 @@ use Rattle.rules.specs.declared.Cds.{Cds}
 use Rattle.rules.specs.declared.Exceptions.{Exceptions}
 use Rattle.rules.specs.Bytes.{byte, same, count}
 use Rattle.rules.specs.Codons.{codon}
-use Rattle.rules.specs.Translation.{exceptionList, excepted}
-use Rattle.rules.specs.Reference.{referenceProtein, size}
+use Rattle.rules.specs.Translation.{exceptionList, excepted, residueCount}
+use Rattle.rules.specs.Trims.{commonPrefix}
+use Rattle.rules.specs.Reference.{Reference, cdsSize, cds, referenceProtein}
 use Rattle.rules.specs.Altered.{carried}
 use Rattle.rules.specs.Views.{referenceOf}
 use Rattle.rules.proofs.Tests.{and-left, and-right}
-use Rattle.rules.proofs.Translation.{length-exceptions}
-use Rattle.rules.proofs.Reading.{restOf}
-use Rattle.rules.proofs.Reference.{accepted, protein-read}
-use Rattle.rules.proofs.Silent.{residueAt, sameFrom, same-all, same-on, same-stop, same-parts, same-past, same-rest, same-codons, same-own}
+use Rattle.rules.proofs.Reading.{restOf, residue-at}
+use Rattle.rules.proofs.Reference.{accepted, length-cds, protein-read}
+use Rattle.rules.proofs.Silent.{residueAt, sameFrom, same-all, same-on, same-stop, same-parts, same-past, same-rest, same-before, stopless, same-own}
+use Rattle.exceptions.proofs.Moving.{none-given}
 use Rattle.edits.specs.declared.plans.Plan.{Plan}
 use Rattle.edits.specs.Plans.{goesIn}
 use Rattle.transcript.specs.Carrying.{carriedBy}
 use Rattle.transcript.proofs.Transcripts.{length-goes-in}
 use Rattle.altered.proofs.Letters.{length-made, before-at}
+use Rattle.altered.proofs.Shares.{front-starts}
 use Rattle.altered.specs.Over.{Makes}
+use Rattle.silent.proofs.Kept.{all-before}
 use Rattle.silent.specs.Comparing.{codingBy, proteinWith, Compares}
-
--- none are counted, none are there
-pub no-exceptions : (e : Exceptions) → e .count ≡ 0 → exceptionList e ≡ []
-no-exceptions e h = by (exceptionList e) (length-exceptions e ∙ h)
-  where
-    by : {A : Type 0} (xs : List A) → length xs ≡ 0 → xs ≡ []
-    by [] k = refl
-    by (x ∷ xs) k = absurd (omega arith)
 
 -- the transcript that a plan makes
 module _ (p : Plan) (s new : List ℕ) (m : Makes p s new) where
@@ -97,24 +92,53 @@ module _ (s : List ℕ) (c : Cds) (e moved : Exceptions) (R : List ℕ) (p : Pla
   letter-of : (i : ℕ) → getD u i 0 ≡ getD (carriedBy p s new) (first + i) 0
   letter-of i = getD-drop first (carriedBy p s new) i 0
 
+  abbrev r : Reference
+  r = referenceOf s c e
+
+  once : count (byte "*") (referenceProtein r) ≤ 1
+  once = rw (← x .read) (x .once)
+
+  -- the letters before the edit are shared
+  shared : p .from ≤ commonPrefix s (carriedBy p s new)
+  shared = omega (arith, front-starts p s new (x .makes))
+
+  -- a residue of R before the last, by its codon
+  reference-at : (j : ℕ) → j + 1 < length R → getD R j 0 ≡ residueAt (c .table) (exceptionList e) (drop first s) R j
+  unfolding referenceProtein cds residueCount
+  reference-at j h =
+      let b = accepted (x .longest) r (x .accepted) .bounds in
+      let own = drop first s in
+      let long : length (take (cdsSize r) own) ≡ cdsSize r = length-cds r b in
+      let in-cds : j * 3 + 3 ≤ cdsSize r = omega (arith, ap length (x .read), protein-read (x .longest) r (x .accepted) .counted) in
+      let letter : (i : ℕ) → i < cdsSize r → getD (take (cdsSize r) own) i 0 ≡ getD own i 0 = λ i l. getD-take (cdsSize r) own i 0 l in
+      ap (λ (l : List ℕ). getD l j 0) (x .read)
+      ∙ residue-at (c .table) (exceptionList e) (take (cdsSize r) own) j (omega arith)
+      ∙ rw (letter (j * 3) (omega arith), letter (j * 3 + 1) (omega arith), letter (j * 3 + 2) (omega arith))
+
+  -- A's residue there is the same: its letters and its exception stay
+  altered-at : (k j : ℕ) → first + k * 3 ≤ p .from → j < k → residueAt (c .table) (exceptionList moved) u R j ≡ residueAt (c .table) (exceptionList e) (drop first s) R j
+  altered-at k j h l =
+      let alike : (i : ℕ) → i < k * 3 → getD u i 0 ≡ getD (drop first s) i 0 = λ i m.
+      letter-of i ∙ sym (before-at p s new (x .makes) (first + i) (omega arith)) ∙ sym (getD-drop first s i 0) in
+      let rises = accepted (x .longest) r (x .accepted) .exceptions in
+      rw (alike (j * 3) (omega arith), alike (j * 3 + 1) (omega arith), alike (j * 3 + 2) (omega arith), x .moves)
+      (all-before s (carriedBy p s new) first k (omega (arith, shared)) (j + 1) (omega arith) (omega arith) 0 _ (exceptionList e) _ rises)
+
+  -- where the comparison starts
+  pub starts : (k : ℕ) → k + 1 ≤ length R → first + k * 3 ≤ p .from → left k ≡ kept
+  starts k few h =
+      let many : k ≤ length u / 3 = omega (arith, length-coding, x .long, length-made p s new (x .makes)) in
+      sym (same-before (c .table) (exceptionList moved) u R k many (λ j l.
+      let is = reference-at j (omega arith) ∙ sym (altered-at k j h l) in
+      (omega arith, is, λ z. stopless (x .longest) r (x .accepted) once j (omega (arith, ap length (x .read))) (sym (ap (λ (m : List ℕ). getD m j 0) (x .read)) ∙ is ∙ z))))
+      ∙ from-start
+
   module _ (none : e .count ≡ 0) where
     both-none : exceptionList moved ≡ exceptionList e
-    both-none = x .none none ∙ sym (no-exceptions e none)
-
-    pub starts-before : (k : ℕ) → k + 1 ≤ length R → first + k * 3 ≤ p .from → left k ≡ kept
-    starts-before k few h =
-        let r = referenceOf s c e in
-        let once : count (byte "*") (referenceProtein r) ≤ 1 = rw (← x .read) (x .once) in
-        let many : k ≤ length u / 3 = omega (arith, length-coding, x .long, length-made p s new (x .makes)) in
-        let alike : (i : ℕ) → i < k * 3 → getD u i 0 ≡ getD (drop first s) i 0 = λ i l.
-        letter-of i ∙ sym (before-at p s new (x .makes) (first + i) (omega arith)) ∙ sym (getD-drop first s i 0) in
-        let on : left 0 ≡ left k = rw (both-none, x .read) (same-codons (x .longest) r (x .accepted) once u k many (omega (arith, ap length (x .read))) alike) in
-        sym on ∙ from-start
+    both-none = x .moves ∙ sym (none-given (commonPrefix s (carriedBy p s new)) first s (carriedBy p s new) e none)
 
     pub ends-level : (k : ℕ) → p .to - p .from ≡ p .kept → p .to ≤ first + k * 3 → k < length R → k < (p .length - first) / 3 → left k ≡ true
     ends-level k level h few more =
-        let r = referenceOf s c e in
-        let once : count (byte "*") (referenceProtein r) ≤ 1 = rw (← x .read) (x .once) in
         let to : p .to ≡ p .from + p .kept = omega (arith, x .makes .rising) in
         let is : drop (k * 3) u ≡ drop (k * 3) (drop first s) =
         drop-drop (k * 3) first (carriedBy p s new) ∙ as-before p s new (x .makes) (first + k * 3) to h ∙ sym (drop-drop (k * 3) first s) in
@@ -129,14 +153,6 @@ module _ (s : List ℕ) (c : Cds) (e moved : Exceptions) (R : List ℕ) (p : Pla
       let behind = leb (p .to) (first + k * 3) in
       let both = and-left (none && level) behind h in
       ends-level (eqb-true (e .count) 0 (and-left none level both)) k (eqb-true (p .to - p .from) (p .kept) (and-right none level both)) (leb-true (p .to) (first + k * 3) (and-right (none && level) behind h)) few more
-
-  -- where the comparison starts
-  pub starts : (k : ℕ) → k + 1 ≤ length R → first + k * 3 ≤ p .from → ((e .count ≡ 0 → ⊥) → k ≡ 0) → left k ≡ kept
-  starts k few h only = by (eqb (e .count) 0) refl
-    where
-      by : (b : Bool) → eqb (e .count) 0 ≡ b → left k ≡ kept
-      by true q = starts-before (eqb-true (e .count) 0 q) k few h
-      by false q = ap left (only (eqb-false (e .count) 0 q)) ∙ from-start
 
   -- a turn
   module _ (k v : ℕ) (more : k < (p .length - first) / 3)

@@ -1,13 +1,15 @@
 -- What is known where R is compared with the protein that a plan makes.
 use Prim.Native.Nat.{ℕ, _-_, _≤_}
 use mathlib.Core.Path.{_≡_}
-use mathlib.Core.List.{List, []}
+use mathlib.Core.List.{List}
 use lib.ListN.{length, drop}
 use Rattle.rules.specs.declared.Cds.{Cds}
 use Rattle.rules.specs.declared.Exceptions.{Exceptions}
 use Rattle.rules.specs.Bytes.{byte, count}
 use Rattle.rules.specs.Translation.{exceptionList, translated, throughStop}
+use Rattle.rules.specs.Trims.{commonPrefix}
 use Rattle.rules.specs.Reference.{referenceProtein}
+use Rattle.rules.specs.Exceptions.{movedAll}
 use Rattle.rules.specs.Refusal.{referenceRefusal}
 use Rattle.rules.specs.Views.{referenceOf}
 use Rattle.edits.specs.declared.plans.Plan.{Plan}
@@ -22,8 +24,7 @@ codingBy c p letters new = drop (c .cs - 1) (carriedBy p letters new)
 unfoldable pub proteinWith : Cds → Exceptions → Plan → List ℕ → List ℕ → List ℕ
 proteinWith c moved p letters new = throughStop (translated (c .table) (exceptionList moved) (codingBy c p letters new))
 
--- an accepted reference whose R has at most one stop, R itself, and a plan that leaves the letters before the CDS; where the reference has no
--- exceptions, neither has what the plan makes
+-- an accepted reference whose R has at most one stop, R itself, a plan that leaves the letters before the CDS, and the exceptions of what it makes
 pub record Compares (s : List ℕ) (c : Cds) (e moved : Exceptions) (protein : List ℕ) (p : Plan) (new : List ℕ) : Type 0 where
   pub makes : Makes p s new
   pub longest : ℕ
@@ -33,4 +34,4 @@ pub record Compares (s : List ℕ) (c : Cds) (e moved : Exceptions) (protein : L
   pub front : c .cs - 1 ≤ p .from
   pub long : p .length ≡ length (carriedBy p s new)
   pub few : moved .count ≤ 16
-  pub none : e .count ≡ 0 → exceptionList moved ≡ []
+  pub moves : exceptionList moved ≡ movedAll (commonPrefix s (carriedBy p s new)) (c .cs - 1) s (carriedBy p s new) (exceptionList e)

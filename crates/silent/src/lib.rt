@@ -24,16 +24,12 @@ fn rest_alike(protein: &[u8], k: usize, rest: usize) -> bool
     (protein[k] == b'X') & (protein.len() - k == 1)
 }
 
-// The first codon that the edit may change: without exceptions, the first that isn't wholly before it, and at most the last of R.
-fn first_changed(plan: Plan, first: usize, residues: usize, count: usize) -> usize
+// The first codon that the edit may change: the first that isn't wholly before it, and at most the last of R.
+fn first_changed(plan: Plan, first: usize, residues: usize) -> usize
     requires { ⌜ (first ≤ plan .from) × (1 ≤ residues) ⌝ }
     ensures { λ r. ⌜ r + 1 ≤ residues ⌝ }
     ensures before { λ r. ⌜ first + r * 3 ≤ plan .from ⌝ }
-    ensures none { λ r. ⌜ ((count ≡ 0 → ⊥) → r ≡ 0) ⌝ }
 {
-    if count != 0 {
-        return 0;
-    }
     least((plan.from - first) / 3, residues - 1)
 }
 
@@ -56,7 +52,7 @@ pub fn keeps_protein(
     let rest = (plan.length - first) % 3;
     let level = (e.count == 0) & (plan.to - plan.from == plan.kept);
     let tail = plan.to;
-    let mut k = first_changed(plan, first, protein.len(), e.count);
+    let mut k = first_changed(plan, first, protein.len());
     loop {
         if whole <= k {
             return rest_alike(protein, k, rest);

@@ -54,8 +54,8 @@ loop-holds c =
     let a = c .before .before .before .before .before .before .before .before .before .before .args in
     let x = c .before .before .before .before .before .before .before .before .before .before .pre in
     let from = c .first-changed in (
-      starts (a .letters .now) (a .c) (a .e) (a .moved) (a .protein .now) (a .plan) (a .new .now) x (from .result) (from .ensures .0) (from .ensures .1 .0) (from .ensures .1 .1),
-      starts-within (a .letters .now) (a .c) (a .e) (a .moved) (a .protein .now) (a .plan) (a .new .now) x (from .result) (from .ensures .1 .0),
+      starts (a .letters .now) (a .c) (a .e) (a .moved) (a .protein .now) (a .plan) (a .new .now) x (from .result) (from .ensures .0) (from .ensures .1),
+      starts-within (a .letters .now) (a .c) (a .e) (a .moved) (a .protein .now) (a .plan) (a .new .now) x (from .result) (from .ensures .1),
     )
 
 returns : tie.Need-returns Inv-loop μ-loop
