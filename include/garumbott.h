@@ -513,7 +513,7 @@ static inline const char *garumbott_refusal_words(uint64_t number)
     case GARUMBOTT_REFUSAL_EXCEPTIONS:
         return "the exceptions break a rule: at most 16, codon numbers strictly rising from 1 to the number of whole CDS codons "
                "(in plain translation from 1 in any order), residues A to Z or *";
-    case GARUMBOTT_REFUSAL_LAST_CODON: return "the CDS is said to end at a stop, and its last codon, exceptions applied, doesn't read *";
+    case GARUMBOTT_REFUSAL_LAST_CODON: return "the CDS ends at a stop, as stated, but its last codon, exceptions applied, doesn't read *";
     case GARUMBOTT_REFUSAL_POSITION:
         return "a position is 0, star 0 or above 65,535, past the CDS or before base 1 of the transcript, "
                "or a duplication's end is behind the transcript";
@@ -537,7 +537,7 @@ static inline const char *garumbott_refusal_words(uint64_t number)
     case GARUMBOTT_REFUSAL_PROPOSAL:
         return "the proposed record's number is 0 or above the length of R plus one, or a residue byte of it is not A to Z or *";
     case GARUMBOTT_REFUSAL_END:
-        return "the CDS's stated end is unknown; or it is not at a stop, and then ce is not the last base, or a codon reads *, exceptions applied";
+        return "the CDS's stated end is unknown; or the CDS is cut short, and then ce is not the last base, or a codon reads *, exceptions applied";
     case GARUMBOTT_REFUSAL_LINE: return "the text line is not in the form";
     default: return "a refusal that this header doesn't know";
     }
