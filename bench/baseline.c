@@ -410,7 +410,7 @@ static void set_change(struct base_answer *a, const uint8_t *old, uint64_t old_l
         a->change = BASE_SUBSTITUTED;
     else if (inserted == 0)
         a->change = BASE_DELETED;
-    else if (deleted == 0 && inserted < s && memcmp(old + s - inserted, new + s, inserted) == 0) {
+    else if (deleted == 0 && inserted <= s && memcmp(old + s - inserted, new + s, inserted) == 0) {
         a->change = BASE_DUPLICATED;
         a->first = s + 1 - inserted;
     } else

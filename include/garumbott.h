@@ -123,7 +123,7 @@ extern "C" {
 #define GARUMBOTT_CHANGE_FRAMESHIFT 4   /* the frameshift flag is set */
 #define GARUMBOTT_CHANGE_SUBSTITUTION 5 /* one residue for one */
 #define GARUMBOTT_CHANGE_DELETION 6     /* nothing inserted */
-#define GARUMBOTT_CHANGE_DUPLICATION 7  /* nothing deleted, and the inserted residues repeat those just before; not a copy from residue 1 */
+#define GARUMBOTT_CHANGE_DUPLICATION 7  /* nothing deleted, and the inserted residues repeat those just before, from residue 1 too */
 #define GARUMBOTT_CHANGE_INSERTION 8    /* nothing deleted */
 #define GARUMBOTT_CHANGE_DELINS 9
 

@@ -205,7 +205,7 @@ def record_of(ref, edit, altered):
     ending = 0 if altered.flag else shared_last(r[s:], a[s:])
     deleted, inserted = r[s:len(r) - ending], a[s:len(a) - ending]
     number, n = s + 1, len(inserted)
-    copies = not deleted and n + 1 < number and r[s - n:s] == inserted
+    copies = not deleted and n < number and r[s - n:s] == inserted
     if number == 1:
         word = "start-lost"
     elif deleted and r[s] == "*":

@@ -282,7 +282,7 @@ static uint64_t plain_class(const struct outcome *o, uint64_t s)
     if (a->frameshift) return 4;
     if (d == 1 && i == 1) return 5;
     if (i == 0) return 6;
-    if (d == 0 && i + 1 < s + 1 && memcmp(o->r + s - i, o->p + s, i) == 0) return 7;
+    if (d == 0 && i < s + 1 && memcmp(o->r + s - i, o->p + s, i) == 0) return 7;
     return d == 0 ? 8 : 9;
 }
 

@@ -51,7 +51,7 @@ static uint64_t edits, equal, unexplained, refusals[64], unknowns, ends, plain_c
 
 enum row {
     SILENT_NUMBER, DELETION_TO_THE_END, INSERTION_BEHIND,
-    CUT_BEHIND, CUT_PAST, CUT_NO_CODON, CUT_NO_PROTEIN, CUT_PARTS, CUT_X_ALONE, CUT_SILENT_AT_1, CUT_COMPLETED, ROWS
+    CUT_BEHIND, CUT_PAST, CUT_NO_CODON, CUT_NO_PROTEIN, CUT_PARTS, CUT_X_ALONE, CUT_SILENT_AT_1, CUT_COPY, CUT_COMPLETED, ROWS
 };
 static const char *const rows[ROWS] = {
     "silent number",
@@ -64,6 +64,7 @@ static const char *const rows[ROWS] = {
     "cut short: parts without the X for a rest",
     "cut short: start-lost, since that X alone changes",
     "cut short: silent at residue 1",
+    "cut short: a copy that begins at residue 1",
     "cut short: a stop that the poly(A) tail completes",
 };
 static uint64_t counted[ROWS];

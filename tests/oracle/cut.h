@@ -1,8 +1,9 @@
 /* References cut short, a part of beside.c: what the Rust answers to them follows by rule from the module's R and A.
  *
- * R and A have no X for a rest of one or two bases in the Rust, and its record is document 01's of such an R and A. It says unknown where the edit
- * could also lie behind the CDS, where the change begins behind R, and where a frameshift brings no whole codon. A mitochondrial CDS that is cut in
- * T or TA has its stop completed by the poly(A) tail. docs/DIFFERENCES.md, "References cut short", says the same with the smallest inputs. */
+ * R and A have no X for a rest of one or two bases in the Rust, and its record is document 01's of such an R and A: no copy begins at residue 1. It says
+ * unknown where the edit could also lie behind the CDS, where the change begins behind R, and where a frameshift brings no whole codon. A mitochondrial
+ * CDS that is cut in T or TA has its stop completed by the poly(A) tail. docs/DIFFERENCES.md, "References cut short", says the same with the smallest
+ * inputs. */
 
 /* The Rust's kinds of protein variant behind the module's classes, as oracle.h numbers them. */
 enum { FORM_SAME = 10, FORM_NO_PROTEIN, FORM_UNKNOWN };
@@ -45,8 +46,9 @@ static int64_t codon_of_edit(void)
     return edit.kind == GARUMBOTT_DUPLICATION ? edit.end / 3 + 1 : edit.start > 0 ? (edit.start + 2) / 3 : 1;
 }
 
-/* Document 01's record of the first residues of R and A; a silent one has the number that it is handed. */
-static struct answer record_by_rule(uint64_t r_len, uint64_t a_len, int flag, int64_t silent_number)
+/* The documents' record of the first residues of R and A; a silent one has the number that it is handed. `first` is the lowest residue that a copy begins
+ * at: 1 by request E5, 2 in the Rust. */
+static struct answer record_by_rule(uint64_t r_len, uint64_t a_len, int flag, int64_t silent_number, uint64_t first)
 {
     uint64_t s = garumbott_common_prefix(own_r, r_len, ap, a_len);
     if (!a_len)
@@ -69,7 +71,7 @@ static struct answer record_by_rule(uint64_t r_len, uint64_t a_len, int flag, in
         a.form = GARUMBOTT_CHANGE_DELETION;
     } else if (deleted) {
         a.form = GARUMBOTT_CHANGE_DELINS;
-    } else if (inserted < s && !memcmp(own_r + s - inserted, ap + s, inserted)) {
+    } else if (inserted + first <= s + 1 && !memcmp(own_r + s - inserted, ap + s, inserted)) {
         a.form = GARUMBOTT_CHANGE_DUPLICATION;
         a.first = a.number - (int64_t)inserted;
     } else {
@@ -81,7 +83,7 @@ static struct answer record_by_rule(uint64_t r_len, uint64_t a_len, int flag, in
 static struct answer ours_by_rule(const struct garumbott_answer *ours)
 {
     int64_t number = codon_of_edit();
-    return record_by_rule(own_r_len, ours->altered_len, (int)ours->frameshift, number < (int64_t)own_r_len ? number : (int64_t)own_r_len);
+    return record_by_rule(own_r_len, ours->altered_len, (int)ours->frameshift, number < (int64_t)own_r_len ? number : (int64_t)own_r_len, 1);
 }
 
 static struct answer rust_by_rule(uint64_t r_len, uint64_t a_len, uint64_t tx_len, int flag)
@@ -89,7 +91,7 @@ static struct answer rust_by_rule(uint64_t r_len, uint64_t a_len, uint64_t tx_le
     /* the codon of the first base that differs, or of the edit's position where none does */
     uint64_t same = garumbott_common_prefix(ref.letters, ref.len, tx, tx_len);
     int64_t number = same < ref.len || same < tx_len ? (int64_t)((same - (ref.cs - 1)) / 3 + 1) : codon_of_edit();
-    struct answer a = record_by_rule(r_len, a_len, flag, number);
+    struct answer a = record_by_rule(r_len, a_len, flag, number, 2);
     if (a.form == FORM_NO_PROTEIN)
         return a;
     if (a.number > (int64_t)r_len)
@@ -106,6 +108,13 @@ static struct answer rust_by_rule(uint64_t r_len, uint64_t a_len, uint64_t tx_le
 static int same_record(const struct answer *a, const struct answer *b)
 {
     return a->number == b->number && a->deleted_len == b->deleted_len && a->inserted_len == b->inserted_len && a->form == b->form && a->first == b->first;
+}
+
+/* One record but for the class: a copy that begins at residue 1, which is an insertion in the Rust. */
+static int copy_from_one(const struct answer *ours, const struct answer *theirs)
+{
+    return ours->number == theirs->number && ours->deleted_len == theirs->deleted_len && ours->inserted_len == theirs->inserted_len
+           && ours->form == GARUMBOTT_CHANGE_DUPLICATION && ours->first == 1 && theirs->form == GARUMBOTT_CHANGE_INSERTION;
 }
 
 static struct answer record_of(const struct garumbott_answer *ours)
@@ -194,6 +203,8 @@ static void judge_cut(const struct garumbott_answer *ours)
         note(CUT_PAST, ours);
     else if (e.form == FORM_UNKNOWN)
         note(CUT_NO_CODON, ours);
+    else if (copy_from_one(&record, &e))
+        note(CUT_COPY, ours);
     else if (r_len != a_len || memcmp(own_r, ap, r_len))
         note(e.form == record.form && (r_len != own_r_len || a_len != ours->altered_len) ? CUT_PARTS : ROWS, ours);
     else if (record.form != FORM_SAME)

@@ -19,18 +19,18 @@ use Rattle.rules.proofs.Over.{tail-is}
 use Rattle.rules.proofs.Trims.{cp-le-l, cp-le-r, cs-le-l, cs-le-r, same-whole}
 
 -- the parts that `check_if_ins_is_dup` compares
-pub is-copy : (r a : List ℕ) (number n : ℕ) → n + 1 < number → same (take (number - 1 - (number - 1 - n)) (drop (number - 1 - n) r)) (take (number - 1 + n - (number - 1)) (drop (number - 1) a)) ≡ isCopy number n r a
+pub is-copy : (r a : List ℕ) (number n : ℕ) → n < number → same (take (number - 1 - (number - 1 - n)) (drop (number - 1 - n) r)) (take (number - 1 + n - (number - 1)) (drop (number - 1) a)) ≡ isCopy number n r a
 unfolding isCopy
 is-copy r a number n h =
     let before : number - 1 - (number - 1 - n) ≡ n = omega arith in
     let there : number - 1 + n - (number - 1) ≡ n = omega arith in
-    rw (lt-ltb (n + 1) number h, before, there)
+    rw (lt-ltb n number h, before, there)
 
-pub no-copy : (r a : List ℕ) (number n : ℕ) → number ≤ n + 1 → false ≡ isCopy number n r a
+pub no-copy : (r a : List ℕ) (number n : ℕ) → number ≤ n → false ≡ isCopy number n r a
 unfolding isCopy
-no-copy r a number n h = rw (le-ltb (n + 1) number h)
+no-copy r a number n h = rw (le-ltb n number h)
 
--- the class by its tests, those of a copy apart: a duplication has passed its first, n + 1 < number
+-- the class by its tests, those of a copy apart: a duplication has passed its first, n < number
 by-tests : (t₁ t₂ t₃ t₄ t₅ t₆ t₇ room alike : Bool) → (if t₁ then StartLost else if t₂ then Extension else if t₃ then StopGained else if t₄ then Frameshift else if t₅ then Substitution else if t₆ then Deletion else if t₇ && (room && alike) then Duplication else if t₇ then Insertion else Delins) ≡ Duplication → room ≡ true
 by-tests true t₂ t₃ t₄ t₅ t₆ t₇ room alike h = cc
 by-tests false true t₃ t₄ t₅ t₆ t₇ room alike h = cc
@@ -43,10 +43,10 @@ by-tests false false false false false false true false alike h = cc
 by-tests false false false false false false false room alike h = cc
 
 -- the n residues that a duplication copies stand before its number
-pub copied-before : (number d n x y : ℕ) (flag copy : Bool) (k : Class) (r a : List ℕ) → copy ≡ isCopy number n r a → k ≡ classBy number d n x y flag copy → k ≡ Duplication → n + 1 < number
+pub copied-before : (number d n x y : ℕ) (flag copy : Bool) (k : Class) (r a : List ℕ) → copy ≡ isCopy number n r a → k ≡ classBy number d n x y flag copy → k ≡ Duplication → n < number
 unfolding isCopy classBy classByCounts
 copied-before number d n x y flag copy k r a e f g =
-    ltb-true (n + 1) number
+    ltb-true n number
     (by-tests
     (eqb number 1)
     (ltb 0 d && eqb x (byte "*"))
@@ -55,7 +55,7 @@ copied-before number d n x y flag copy k r a e f g =
     (eqb n 1 && eqb d 1)
     (eqb n 0)
     (eqb d 0)
-    (ltb (n + 1) number)
+    (ltb n number)
     (same (take n (drop (number - 1 - n) r)) (take n (drop (number - 1) a)))
     (sym (rw e at f) ∙ g))
 

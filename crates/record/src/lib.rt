@@ -91,7 +91,7 @@ fn check_if_ins_is_dup(r: &[u8], a: &[u8], number: usize, n: usize) -> bool
     requires { ⌜ (number ≤ length (now r) + 1) × (number + n ≤ length (now a) + 1) ⌝ }
     ensures { λ t. ⌜ t ≡ isCopy number n (now (r .entry)) (now (a .entry)) ⌝ }
 {
-    if n + 1 < number {
+    if n < number {
         let s = number - 1;
         equals(&r[s - n..s], &a[s..s + n])
     } else {

@@ -15,6 +15,7 @@ pub mod Moved
 pub mod Altered
 pub mod Records
 pub mod Demand
+pub mod Copies
 pub mod Checks
 pub mod Protein
 pub mod Silent

@@ -113,3 +113,26 @@ proposed =
 pub all-proposed : map (λ (d : Decided). d .computed) proposed ≡ map (λ (d : Decided). bytes (d .answer)) proposed
 unfolding opened
 all-proposed = refl
+
+-- E5: copies that begin at residue 1
+abbrev pub copiedFromOne : List Decided
+copiedFromOne =
+    -- of one residue, and of the first two
+    edited (ending 0 "ATGAAATAA" []) "1_3dup" ⇒ "duplication 2 - M 1"
+    ∷ edited (ending 0 "ATGAAATAA" []) "1_6dup" ⇒ "duplication 3 - MK 1"
+    -- by residues: an insertion of bases that copies is one too
+    ∷ edited worked "3_4insATG" ⇒ "duplication 2 - M 1"
+    -- more residues inserted than stand before: no copy
+    ∷ edited worked "3_4insATGATG" ⇒ "insertion 2 - MM"
+    ∷ edited worked "3_4insATGGCC" ⇒ "insertion 2 - MA"
+    -- the shared beginning is as long as it can be
+    ∷ edited (ending 0 "ATGATGTAA" []) "1_3dup" ⇒ "duplication 3 - M 2"
+    -- behind R too, where R is the beginning of A
+    ∷ edited (ending 1 "ATGGCC" []) "1_6dup" ⇒ "duplication 3 - MA 1"
+    -- a proposal's class isn't looked at
+    ∷ checkedIn ample worked "1_3dup" 2 "" "M" ⇒ "yes yes"
+    ∷ []
+
+pub copied-from-one : map (λ (d : Decided). d .computed) copiedFromOne ≡ map (λ (d : Decided). bytes (d .answer)) copiedFromOne
+unfolding opened
+copied-from-one = refl

@@ -45,10 +45,10 @@ ending false s R A = commonSuffix (drop s R) (drop s A)
 unfoldable pub partOf : Part → List ℕ → List ℕ
 partOf p s = take (p .len) (drop (p .at) s)
 
--- n inserted, n+1 < number, and the n residues of R just before are the same
+-- n inserted, n < number, and the n residues of R just before are the same: a copy may begin at residue 1
 unfoldable pub isCopy : ℕ → ℕ → List ℕ → List ℕ → Bool
 isCopy number n R A =
-    ltb (n + 1) number && same (take n (drop (number - 1 - n) R)) (take n (drop (number - 1) A))
+    ltb n number && same (take n (drop (number - 1 - n) R)) (take n (drop (number - 1) A))
 
 -- substitution (one and one); deletion (none inserted); duplication; insertion (none deleted); delins
 unfoldable pub classByCounts : ℕ → ℕ → Bool → Class

@@ -29,7 +29,6 @@ check-if-ins-is-dup-spec =
     (λ c. search needs)
     (λ c. search needs)
     (λ c. search needs)
-    (λ c. search needs)
     (λ c κs. search needs)
     returns
     returns-2)
