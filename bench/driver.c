@@ -123,14 +123,18 @@ void check_through(struct garumbott_checked *checked, const uint8_t *letters, ui
                    uint64_t reference_len, uint8_t *altered, uint64_t altered_len) __asm__("garumbott_check");
 #endif
 
+/* None but where a row says so. */
+static const uint8_t *excepted;
+static uint64_t excepted_len;
+
 static struct garumbott_answer ours_record(uint64_t table, int64_t start)
 {
 #ifdef __x86_64__
-    return garumbott_record(letters, ref.len, ref.cs, ref.ce, table, NULL, 0, 0, edit.kind, 0, start, 0, edit.end, edit.bases, edit.bases_len, tx, sizeof tx, rp,
+    return garumbott_record(letters, ref.len, ref.cs, ref.ce, table, excepted, excepted_len, 0, edit.kind, 0, start, 0, edit.end, edit.bases, edit.bases_len, tx, sizeof tx, rp,
                             sizeof rp, ap, sizeof ap);
 #else
     struct garumbott_answer answer;
-    record_through(&answer, letters, ref.len, ref.cs, ref.ce, table, NULL, 0, 0, edit.kind, 0, start, 0, edit.end, edit.bases, edit.bases_len, tx, sizeof tx, rp,
+    record_through(&answer, letters, ref.len, ref.cs, ref.ce, table, excepted, excepted_len, 0, edit.kind, 0, start, 0, edit.end, edit.bases, edit.bases_len, tx, sizeof tx, rp,
                    sizeof rp, ap, sizeof ap);
     return answer;
 #endif
@@ -148,11 +152,11 @@ static struct garumbott_answer own;
 static struct garumbott_checked ours_judged(void)
 {
 #ifdef __x86_64__
-    return garumbott_check(letters, ref.len, ref.cs, ref.ce, 0, NULL, 0, 0, edit.kind, 0, edit.start, 0, edit.end, edit.bases, edit.bases_len, own.number, own_deleted,
+    return garumbott_check(letters, ref.len, ref.cs, ref.ce, 0, excepted, excepted_len, 0, edit.kind, 0, edit.start, 0, edit.end, edit.bases, edit.bases_len, own.number, own_deleted,
                            own.deleted_len, own_inserted, own.inserted_len, tx, sizeof tx, rp, sizeof rp, ap, sizeof ap);
 #else
     struct garumbott_checked checked;
-    check_through(&checked, letters, ref.len, ref.cs, ref.ce, 0, NULL, 0, 0, edit.kind, 0, edit.start, 0, edit.end, edit.bases, edit.bases_len, own.number, own_deleted,
+    check_through(&checked, letters, ref.len, ref.cs, ref.ce, 0, excepted, excepted_len, 0, edit.kind, 0, edit.start, 0, edit.end, edit.bases, edit.bases_len, own.number, own_deleted,
                   own.deleted_len, own_inserted, own.inserted_len, tx, sizeof tx, rp, sizeof rp, ap, sizeof ap);
     return checked;
 #endif
@@ -340,6 +344,26 @@ static void check_translation(void)
 #endif
 }
 
+#ifdef OURS
+/* The edit's own record is accepted, and the check of it writes the same. */
+static void check_own(void)
+{
+    static uint8_t tx4[2 * MOST], ap4[MOST];
+    memset(tx, 0, sizeof tx);
+    memset(ap, 0, sizeof ap);
+    own = ours_record(0, edit.start);
+    memcpy(own_deleted, rp + own.deleted_at, own.deleted_len);
+    memcpy(own_inserted, ap + own.inserted_at, own.inserted_len);
+    memcpy(tx4, tx, sizeof tx);
+    memcpy(ap4, ap, sizeof ap);
+    memset(tx, 0, sizeof tx);
+    memset(ap, 0, sizeof ap);
+    struct garumbott_checked checked = ours_judged();
+    if (own.answer != GARUMBOTT_CHANGED || checked.refusal || !checked.replays || checked.altered_len != own.altered_len || memcmp(tx, tx4, sizeof tx) || memcmp(ap, ap4, sizeof ap))
+        fail("its own record, checked");
+}
+#endif
+
 static void check_edit(void)
 {
     static uint8_t tx2[2 * MOST], ap2[MOST], moved[64];
@@ -365,13 +389,7 @@ static void check_edit(void)
     if (ours_record(0, edit.start).number != mine.number || memcmp(tx, tx3, mine.transcript_len) || tx[mine.transcript_len] || memcmp(rp, rp3, mine.reference_len)
         || rp[mine.reference_len] || memcmp(ap, ap3, mine.altered_len) || ap[mine.altered_len])
         fail("edit, ours");
-    own = ours_record(0, edit.start);
-    memcpy(own_deleted, rp + own.deleted_at, own.deleted_len);
-    memcpy(own_inserted, ap + own.inserted_at, own.inserted_len);
-    memset(ap, 0, sizeof ap);
-    struct garumbott_checked checked = ours_judged();
-    if (checked.refusal || !checked.replays || checked.altered_len != mine.altered_len || memcmp(ap, ap3, mine.altered_len) || ap[mine.altered_len])
-        fail("its own record, checked");
+    check_own();
 #endif
 }
 
@@ -431,16 +449,46 @@ static void make_middle(unsigned k, uint64_t len, char what[64])
     snprintf(what, 64, "%lu %s", (unsigned long)len, kinds[k].name);
 }
 
+static void row_own(const char *what)
+{
+    const double *best = best_of((call[]){ours_record_checked, ours_anew}, 2);
+    row_checked(what, best[0], best[1]);
+}
+
 static void checks(uint64_t len)
 {
+    char what[64];
     for (unsigned k = 0; k < 3; k++) {
-        char what[64];
         make_middle(k, len, what);
-        const double *best = best_of((call[]){ours_record_checked, ours_anew}, 2);
-        row_checked(what, best[0], best[1]);
+        row_own(what);
         oracle_edit_free(rust_edit);
         oracle_reference_free(rust_ref);
     }
+    /* an exception before the edit */
+    make_middle(2, len, what);
+#ifdef OURS
+    excepted = (const uint8_t *)"\0\2U";
+    excepted_len = 3;
+    check_own();
+#endif
+    snprintf(what, sizeof what, "%lu the same, with an exception", (unsigned long)len);
+    row_own(what);
+#ifdef OURS
+    excepted_len = 0;
+#endif
+    oracle_edit_free(rust_edit);
+    oracle_reference_free(rust_ref);
+    /* the proteins part at their end: all of A is read before a byte is written */
+    make_reference(len);
+    for (uint64_t i = ref.cs - 1; i < ref.ce - 3; i++)
+        letters[i] = "GCC"[(i + 1 - ref.cs) % 3];
+    edit = (struct base_edit){BASE_DUPLICATION, 0, 0, 4, 6, NULL, 0};
+    oracle_reference_free(rust_ref);
+#ifdef OURS
+    check_own();
+#endif
+    snprintf(what, sizeof what, "%lu duplication in a run", (unsigned long)len);
+    row_own(what);
 }
 
 static void edits(uint64_t len)

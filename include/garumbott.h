@@ -46,8 +46,9 @@
  *   Letters are IUPAC's for bases and sets of bases, ACGTRYSWKMBDHVN, in upper case but for garumbott_translate. Letters and residues are bytes of
  *     ASCII. A stop is '*', a residue that isn't known 'X'.
  *   Versions. Later versions add members at the ends of the structs; 0 in a new member means what is done today. The functions over slices and numbers
- *     gain parameters; those over structs keep theirs. 2.0.0 has cds_end in garumbott_record and garumbott_edit, behind exceptions_len. The archive can't
- *     tell which header its caller was compiled with: compile all of a host with the header that came with the archive, and anew whenever they change.
+ *     gain parameters; those over structs keep theirs. New in 2.0.0: cds_end in garumbott_record and garumbott_edit, behind exceptions_len, and
+ *     garumbott_check. The archive can't tell which header its caller was compiled with: compile all of a host with the header that came with the
+ *     archive, and anew whenever they change.
  *
  * The archive is compiled for Linux on x86-64 (System V calling convention). It wants memcpy and memset of the C library and nothing else,
  * and links into programs and shared objects alike. The header is C11, and C++ as well.

@@ -10,15 +10,17 @@ use lib.ListN.{length, take, drop, getD, length-drop, length-append, drop-of-len
 use lib.Seq.{length-take-le, getD-take, getD-drop, drop-cons, drop-drop, drop-append-add}
 use borrow.Author.Tests.{eqb-true, eqb-false, leb-true, leb-false, eq-eqb, ne-eqb, lt-leb, le-leb}
 use Rattle.rules.specs.declared.Cds.{Cds}
+use Rattle.rules.specs.declared.Exception.{Exception}
 use Rattle.rules.specs.declared.Exceptions.{Exceptions}
 use Rattle.rules.specs.Bytes.{byte, same, count}
 use Rattle.rules.specs.Codons.{codon}
-use Rattle.rules.specs.Translation.{exceptionList, excepted, residueCount}
+use Rattle.rules.specs.Translation.{exceptionList, excepted, residuesFrom, throughStop, residueCount}
 use Rattle.rules.specs.Trims.{commonPrefix}
-use Rattle.rules.specs.Reference.{Reference, cdsSize, cds, referenceProtein}
+use Rattle.rules.specs.Reference.{Reference, size, cdsSize, cds, referenceProtein}
 use Rattle.rules.specs.Altered.{carried}
 use Rattle.rules.specs.Views.{referenceOf}
-use Rattle.rules.proofs.Tests.{and-left, and-right}
+use Rattle.rules.proofs.Trims.{same-self, same-is, same-lengths}
+use Rattle.rules.proofs.Translation.{length-exceptions}
 use Rattle.rules.proofs.Reading.{restOf, residue-at}
 use Rattle.rules.proofs.Reference.{accepted, length-cds, protein-read}
 use Rattle.rules.proofs.Silent.{residueAt, sameFrom, same-all, same-on, same-stop, same-parts, same-past, same-rest, same-before, stopless, same-own}
@@ -31,24 +33,49 @@ use Rattle.altered.proofs.Letters.{length-made, before-at}
 use Rattle.altered.proofs.Shares.{front-starts}
 use Rattle.altered.specs.Over.{Makes}
 use Rattle.silent.proofs.Kept.{all-before}
-use Rattle.silent.specs.Comparing.{codingBy, proteinWith, Compares}
+use Rattle.silent.specs.Comparing.{codingBy, proteinWith, Compares, Placed}
+
+-- none are counted, none are there
+no-exceptions : (e : Exceptions) → e .count ≡ 0 → exceptionList e ≡ []
+no-exceptions e h = by (exceptionList e) (length-exceptions e ∙ h)
+  where
+    by : {A : Type 0} (xs : List A) → length xs ≡ 0 → xs ≡ []
+    by [] k = refl
+    by (x ∷ xs) k = absurd (omega arith)
 
 -- the transcript that a plan makes
 module _ (p : Plan) (s new : List ℕ) (m : Makes p s new) where
-  -- behind an edit that keeps the length
-  as-before : (i : ℕ) → p .to ≡ p .from + p .kept → p .to ≤ i → drop i (carriedBy p s new) ≡ drop i s
+  -- behind the edit the letters are the transcript's, at another place
+  moved-on : (i j : ℕ) → p .from + p .kept ≤ i → i + p .to ≡ j + (p .from + p .kept) → drop i (carriedBy p s new) ≡ drop j s
   unfolding carriedBy carried
-  as-before i level h =
-      let n : ℕ = i - p .to in
+  moved-on i j h at =
+      let n : ℕ = i - (p .from + p .kept) in
       let put = length-goes-in p s new (m .source) in
       let long = length-take-le (p .from) s (omega (arith, m .rising, m .ends)) in
       let place : i ≡ length (take (p .from) s) + (length (goesIn p s new) + n) = omega arith in
-      let old : p .to + n ≡ i = omega arith in
+      let old : p .to + n ≡ j = omega arith in
       ap (λ (k : ℕ). drop k (take (p .from) s ++ (goesIn p s new ++ drop (p .to) s))) place
       ∙ drop-append-add (take (p .from) s) (goesIn p s new ++ drop (p .to) s) (length (goesIn p s new) + n)
       ∙ drop-append-add (goesIn p s new) (drop (p .to) s) n
       ∙ drop-drop n (p .to) s
       ∙ ap (λ (k : ℕ). drop k s) old
+
+-- without exceptions it doesn't matter at which number codons begin
+any-number : (t n m : ℕ) (u : List ℕ) → residuesFrom t [] n u ≡ residuesFrom t [] m u
+unfolding residuesFrom excepted
+any-number t n m [] = refl
+any-number t n m (a ∷ []) = refl
+any-number t n m (a ∷ b ∷ []) = refl
+any-number t n m (a ∷ b ∷ d ∷ u) = ap (λ (l : List ℕ). codon t a b d ∷ l) (any-number t (suc n) (suc m) u)
+
+-- two ends of a list are the same exactly if they are one
+same-drops : (R : List ℕ) (k j : ℕ) → k < length R → j < length R → same (drop k R) (drop j R) ≡ eqb j k
+same-drops R k j h l = by (eqb j k) refl
+  where
+    by : (b : Bool) → eqb j k ≡ b → same (drop k R) (drop j R) ≡ b
+    by true q = rw (eqb-true j k q) (same-self (drop k R))
+    by false q =
+        same-lengths (drop k R) (drop j R) (λ z. eqb-false j k q (omega (arith, length-drop k R, length-drop j R)))
 
 module _ (s : List ℕ) (c : Cds) (e moved : Exceptions) (R : List ℕ) (p : Plan) (new : List ℕ) (x : Compares s c e moved R p new) where
   abbrev first : ℕ
@@ -81,6 +108,16 @@ module _ (s : List ℕ) (c : Cds) (e moved : Exceptions) (R : List ℕ) (p : Pla
 
   pub in-made : (k : ℕ) → k < (p .length - first) / 3 → first + k * 3 + 3 ≤ length (carriedBy p s new)
   in-made k h = omega (arith, x .long, in-transcript)
+
+  pub placed : (k : ℕ) → k < (p .length - first) / 3 → Placed p first k
+  placed k h =
+      let made = length-made p s new (x .makes) in
+      record {
+        front = omega (arith, x .front, x .makes .rising);
+        small = omega (arith, in-made k h, x .makes .new-short);
+        to-small = omega (arith, x .makes .ends, x .makes .old-short);
+        put-small = omega (arith, made, x .makes .new-short);
+      }
 
   pub starts-within : (k : ℕ) → first + k * 3 ≤ p .from → k ≤ (p .length - first) / 3
   starts-within k h = omega (arith, x .long, length-made p s new (x .makes))
@@ -133,36 +170,44 @@ module _ (s : List ℕ) (c : Cds) (e moved : Exceptions) (R : List ℕ) (p : Pla
       (omega arith, is, λ z. stopless (x .longest) r (x .accepted) once j (omega (arith, ap length (x .read))) (sym (ap (λ (m : List ℕ). getD m j 0) (x .read)) ∙ is ∙ z))))
       ∙ from-start
 
+  -- a codon of R lies in the transcript
+  own-codons : (j : ℕ) → j < length R → j ≤ length (drop first s) / 3
+  unfolding cdsSize size residueCount
+  own-codons j h =
+      let b = accepted (x .longest) r (x .accepted) .bounds in
+      omega (arith, ap length (x .read), protein-read (x .longest) r (x .accepted) .counted, length-drop first s, b .first, b .inside)
+
   module _ (none : e .count ≡ 0) where
     both-none : exceptionList moved ≡ exceptionList e
     both-none = x .moves ∙ sym (none-given (commonPrefix s (carriedBy p s new)) first s (carriedBy p s new) e none)
 
-    pub ends-level : (k : ℕ) → p .to - p .from ≡ p .kept → p .to ≤ first + k * 3 → k < length R → k < (p .length - first) / 3 → left k ≡ true
-    ends-level k level h few more =
-        let to : p .to ≡ p .from + p .kept = omega (arith, x .makes .rising) in
-        let is : drop (k * 3) u ≡ drop (k * 3) (drop first s) =
-        drop-drop (k * 3) first (carriedBy p s new) ∙ as-before p s new (x .makes) (first + k * 3) to h ∙ sym (drop-drop (k * 3) first s) in
-        let many : k ≤ length (drop first s) / 3 = omega (arith, length-drop first s, x .long, length-made p s new (x .makes), x .makes .ends) in
-        rw (both-none, x .read) (same-own (x .longest) r (x .accepted) once u k many (omega (arith, ap length (x .read))) is)
+    -- where the codons are the reference's again
+    pub ends-here : (k j : ℕ) → p .from + p .kept ≤ first + k * 3 → first + k * 3 + p .to ≡ first + j * 3 + (p .from + p .kept) → k < length R → j < length R → left k ≡ eqb j k
+    ends-here k j behind place some few =
+        let t = c .table in
+        let own = drop first s in
+        let is : drop (k * 3) u ≡ drop (j * 3) own =
+        drop-drop (k * 3) first (carriedBy p s new) ∙ moved-on p s new (x .makes) (first + k * 3) (first + j * 3) behind place ∙ sym (drop-drop (j * 3) first s) in
+        let empty : exceptionList moved ≡ [] = both-none ∙ no-exceptions e none in
+        let b = accepted (x .longest) r (x .accepted) .bounds in
+        let many : j ≤ length own / 3 = own-codons j few in
+        let mine : sameFrom t (exceptionList e) own (referenceProtein r) j ≡ true = same-own (x .longest) r (x .accepted) once own j many (omega (arith, ap length (x .read))) refl in
+        let left-own : drop j R ≡ throughStop (residuesFrom t [] (j + 1) (drop (j * 3) own)) =
+        ap (drop j) (x .read) ∙ same-is (drop j (referenceProtein r)) (throughStop (residuesFrom t (exceptionList e) (j + 1) (drop (j * 3) own))) mine
+        ∙ ap (λ (es : List Exception). throughStop (residuesFrom t es (j + 1) (drop (j * 3) own))) (no-exceptions e none) in
+        rw (empty, is, any-number t (k + 1) (j + 1) (drop (j * 3) own), ← left-own) (same-drops R k j some few)
 
-  -- by the code's test
-  pub ends-here : (k : ℕ) → (eqb (e .count) 0 && eqb (p .to - p .from) (p .kept) && leb (p .to) (first + k * 3)) ≡ true → k < length R → k < (p .length - first) / 3 → left k ≡ true
-  ends-here k h few more =
-      let none = eqb (e .count) 0 in
-      let level = eqb (p .to - p .from) (p .kept) in
-      let behind = leb (p .to) (first + k * 3) in
-      let both = and-left (none && level) behind h in
-      ends-level (eqb-true (e .count) 0 (and-left none level both)) k (eqb-true (p .to - p .from) (p .kept) (and-right none level both)) (leb-true (p .to) (first + k * 3) (and-right (none && level) behind h)) few more
+  -- a residue that is read
+  pub read-is : (k v : ℕ)
+      → v ≡ excepted (exceptionList moved) (k + 1) (codon (c .table) (getD (carriedBy p s new) (first + k * 3) 0) (getD (carriedBy p s new) (first + k * 3 + 1) 0) (getD (carriedBy p s new) (first + k * 3 + 2) 0))
+      → v ≡ residueAt (c .table) (exceptionList moved) u R k
+  read-is k v is =
+      let two : first + k * 3 + 1 ≡ first + (k * 3 + 1) = omega arith in
+      let three : first + k * 3 + 2 ≡ first + (k * 3 + 2) = omega arith in
+      is ∙ rw (letter-of (k * 3), letter-of (k * 3 + 1), letter-of (k * 3 + 2), two, three)
 
   -- a turn
-  module _ (k v : ℕ) (more : k < (p .length - first) / 3)
-      (is : v ≡ excepted (exceptionList moved) (k + 1) (codon (c .table) (getD (carriedBy p s new) (first + k * 3) 0) (getD (carriedBy p s new) (first + k * 3 + 1) 0) (getD (carriedBy p s new) (first + k * 3 + 2) 0))) where
-    read : v ≡ residueAt (c .table) (exceptionList moved) u R k
-    read =
-        let two : first + k * 3 + 1 ≡ first + (k * 3 + 1) = omega arith in
-        let three : first + k * 3 + 2 ≡ first + (k * 3 + 2) = omega arith in
-        is ∙ rw (letter-of (k * 3), letter-of (k * 3 + 1), letter-of (k * 3 + 2), two, three)
-
+  module _ (k v : ℕ) (more : k < (p .length - first) / 3) (read : v ≡ residueAt (c .table) (exceptionList moved) u R k) where
     in-coding : k < length u / 3
     in-coding = omega (arith, length-coding)
 

@@ -1,5 +1,5 @@
 -- What is known where R is compared with the protein that a plan makes.
-use Prim.Native.Nat.{ℕ, _-_, _≤_}
+use Prim.Native.Nat.{ℕ, _+_, _-_, _*_, _≤_, _<_}
 use mathlib.Core.Path.{_≡_}
 use mathlib.Core.List.{List}
 use lib.ListN.{length, drop}
@@ -35,3 +35,16 @@ pub record Compares (s : List ℕ) (c : Cds) (e moved : Exceptions) (protein : L
   pub long : p .length ≡ length (carriedBy p s new)
   pub few : moved .count ≤ 16
   pub moves : exceptionList moved ≡ movedAll (commonPrefix s (carriedBy p s new)) (c .cs - 1) s (carriedBy p s new) (exceptionList e)
+
+-- the place of a codon, and of what stands behind an edit, fits
+pub record Placed (p : Plan) (first k : ℕ) : Type 0 where
+  pub front : first ≤ p .to
+  pub small : first + k * 3 < 4294967296
+  pub to-small : p .to < 4294967296
+  pub put-small : p .from + p .kept < 8589934592
+
+-- codon k lies behind what goes in, where codon r of R came to lie, and there are no exceptions
+pub record Reused (p : Plan) (first count residues k r : ℕ) : Type 0 where
+  pub none : r < residues → count ≡ 0
+  pub behind : r < residues → p .from + p .kept ≤ first + k * 3
+  pub place : r < residues → first + k * 3 + p .to ≡ first + r * 3 + (p .from + p .kept)

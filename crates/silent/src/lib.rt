@@ -9,7 +9,7 @@ ghost use Prim.Native.Nat.{_+_, _*_, _≤_};
 ghost use lib.ListN.{drop};
 ghost use Rattle.rules.specs.Bytes.{same};
 ghost use Rattle.rules.proofs.Reading.{restOf};
-ghost use Rattle.silent.specs.Comparing.{proteinWith, Compares};
+ghost use Rattle.silent.specs.Comparing.{proteinWith, Compares, Placed, Reused};
 
 // Whether R has as many residues left behind its first k as a rest of bases makes: an X, or none.
 fn rest_alike(protein: &[u8], k: usize, rest: usize) -> bool
@@ -33,8 +33,25 @@ fn first_changed(plan: Plan, first: usize, residues: usize) -> usize
     least((plan.from - first) / 3, residues - 1)
 }
 
+// Which codon of R codon k is, counted from 0: behind the edit, in the reference's frame, and without exceptions; else `residues`, R's length.
+fn source_of(plan: Plan, first: usize, count: usize, residues: usize, k: usize) -> usize
+    requires { ⌜ Placed plan first k ⌝ }
+    ensures { λ r. ⌜ Reused plan first count residues k r ⌝ }
+{
+    let at = first + k * 3;
+    let back = plan.from + plan.kept;
+    if (count != 0) | (at < back) {
+        return residues;
+    }
+    let old = at - back + (plan.to - first);
+    if old % 3 != 0 {
+        return residues;
+    }
+    least(old / 3, residues)
+}
+
 // Whether the protein that a plan makes, with the moved exceptions, is R: read codon by codon from the first that the edit may change, to where
-// the two part or end, or to where the transcript is as it was.
+// the two part or end, or to where the codons are the reference's again: then A is R exactly if they stand where they stood.
 pub fn keeps_protein(
     letters: &[u8],
     c: Cds,
@@ -50,8 +67,7 @@ pub fn keeps_protein(
     let first = c.cs - 1;
     let whole = (plan.length - first) / 3;
     let rest = (plan.length - first) % 3;
-    let level = (e.count == 0) & (plan.to - plan.from == plan.kept);
-    let tail = plan.to;
+    let count = e.count;
     let mut k = first_changed(plan, first, protein.len());
     loop {
         if whole <= k {
@@ -60,8 +76,9 @@ pub fn keeps_protein(
         if protein.len() <= k {
             return false;
         }
-        if level & (tail <= first + k * 3) {
-            return true;
+        let source = source_of(plan, first, count, protein.len(), k);
+        if source < protein.len() {
+            return source == k;
         }
         let r = residue_at(letters, c.table, plan, new, moved, first, k);
         if r != protein[k] {

@@ -10,17 +10,17 @@ use Rattle.rules.specs.Translation.{exceptionList}
 use Rattle.rules.proofs.Silent.{sameFrom}
 use Rattle.transcript.specs.Carrying.{carriedBy}
 use Rattle.silent.specs.Comparing.{proteinWith}
-use Rattle.silent.proofs.Same.{first-some, in-transcript, some-residues, codes, starts, starts-within, past, ends, ends-here, parts, stops, goes-on, in-made}
+use Rattle.silent.proofs.Same.{first-some, in-transcript, some-residues, codes, in-made, placed, starts, starts-within, past, ends, ends-here, read-is, parts, stops, goes-on}
 use Rattle.silent.proofs.keeps_protein.Statement.{statement}
 use Rattle.silent.proofs.keeps_protein.Tie as tie
 
 abbrev Inv-loop : tie.InvT-loop
-Inv-loop letters c moved protein plan new first whole rest level tail k₀ k =
+Inv-loop letters c moved protein plan new first whole rest count k₀ k =
     (sameFrom (c .table) (exceptionList moved) (drop (c .cs - 1) (carriedBy plan letters new)) protein k ≡ same protein (proteinWith c moved plan letters new))
     × (k ≤ (plan .length - (c .cs - 1)) / 3)
 
 abbrev μ-loop : tie.MeasureT-loop
-μ-loop letters c moved protein plan new first whole rest level tail k₀ k = (plan .length - (c .cs - 1)) / 3 - k
+μ-loop letters c moved protein plan new first whole rest count k₀ k = (plan .length - (c .cs - 1)) / 3 - k
 
 sub-first : tie.Need-sub-first Inv-loop μ-loop
 sub-first c =
@@ -40,90 +40,82 @@ sub-rest c =
     let x = c .before .before .before .before .before .before .pre in
     in-transcript (a .letters .now) (a .c) (a .e) (a .moved) (a .protein .now) (a .plan) (a .new .now) x
 
-sub-level : tie.Need-sub-level Inv-loop μ-loop
-sub-level c = c .before .before .before .before .before .before .before .before .pre .makes .rising
-
 first-changed-requires : tie.Need-first-changed-requires Inv-loop μ-loop
 first-changed-requires c κs =
-    let a = c .before .before .before .before .before .before .before .before .before .args in
-    let x = c .before .before .before .before .before .before .before .before .before .pre in
+    let a = c .before .before .before .before .before .before .args in
+    let x = c .before .before .before .before .before .before .pre in
     (x .front, some-residues (a .letters .now) (a .c) (a .e) (a .moved) (a .protein .now) (a .plan) (a .new .now) x)
 
 loop-holds : tie.Need-loop-holds Inv-loop μ-loop
 loop-holds c =
-    let a = c .before .before .before .before .before .before .before .before .before .before .args in
-    let x = c .before .before .before .before .before .before .before .before .before .before .pre in
-    let from = c .first-changed in (
-      starts (a .letters .now) (a .c) (a .e) (a .moved) (a .protein .now) (a .plan) (a .new .now) x (from .result) (from .ensures .0) (from .ensures .1),
-      starts-within (a .letters .now) (a .c) (a .e) (a .moved) (a .protein .now) (a .plan) (a .new .now) x (from .result) (from .ensures .1),
-    )
+    let a = c .before .before .before .before .before .before .before .args in
+    let x = c .before .before .before .before .before .before .before .pre in
+    let from = c .first-changed in
+    (starts (a .letters .now) (a .c) (a .e) (a .moved) (a .protein .now) (a .plan) (a .new .now) x (from .result) (from .ensures .0) (from .ensures .1), starts-within (a .letters .now) (a .c) (a .e) (a .moved) (a .protein .now) (a .plan) (a .new .now) x (from .result) (from .ensures .1))
 
 returns : tie.Need-returns Inv-loop μ-loop
 returns c =
-    let a = c .before .before .before .before .before .before .before .before .before .before .before .before .before .args in
-    let x = c .before .before .before .before .before .before .before .before .before .before .before .before .before .pre in
+    let a = c .before .before .before .before .before .before .before .before .before .before .args in
+    let x = c .before .before .before .before .before .before .before .before .before .before .pre in
     let turn = c .before .before .loop in
     c .rest-alike .ensures ∙ sym (ends (a .letters .now) (a .c) (a .e) (a .moved) (a .protein .now) (a .plan) (a .new .now) x (turn .k) (omega (arith, turn .inv .1, c .before .if1 .taken))) ∙ turn .inv .0
 
 returns-2 : tie.Need-returns-2 Inv-loop μ-loop
 returns-2 c =
-    let a = c .before .before .before .before .before .before .before .before .before .before .before .before .before .args in
-    let x = c .before .before .before .before .before .before .before .before .before .before .before .before .before .pre in
+    let a = c .before .before .before .before .before .before .before .before .before .before .args in
+    let x = c .before .before .before .before .before .before .before .before .before .before .pre in
     let turn = c .before .before .loop in
     sym (past (a .letters .now) (a .c) (a .e) (a .moved) (a .protein .now) (a .plan) (a .new .now) x (turn .k) (omega (arith, c .before .if1 .left)) (c .if2 .taken)) ∙ turn .inv .0
 
-mul-if3 : tie.Need-mul-if3 Inv-loop μ-loop
-mul-if3 c =
-    let a = c .before .before .before .before .before .before .before .before .before .before .before .before .before .args in
-    let x = c .before .before .before .before .before .before .before .before .before .before .before .before .before .pre in
-    omega (arith, c .before .before .loop .inv .1, x .long, x .makes .new-short)
-
-add-if3 : tie.Need-add-if3 Inv-loop μ-loop
-add-if3 c =
-    let a = c .before .before .before .before .before .before .before .before .before .before .before .before .before .args in
-    let x = c .before .before .before .before .before .before .before .before .before .before .before .before .before .pre in
-    omega (arith, c .before .before .loop .inv .1, x .long, x .makes .new-short, in-transcript (a .letters .now) (a .c) (a .e) (a .moved) (a .protein .now) (a .plan) (a .new .now) x)
+source-of-requires : tie.Need-source-of-requires Inv-loop μ-loop
+source-of-requires c κs =
+    let a = c .before .before .before .before .before .before .before .before .before .before .args in
+    let x = c .before .before .before .before .before .before .before .before .before .before .pre in
+    placed (a .letters .now) (a .c) (a .e) (a .moved) (a .protein .now) (a .plan) (a .new .now) x (c .before .before .loop .k) (omega (arith, c .before .if1 .left))
 
 returns-3 : tie.Need-returns-3 Inv-loop μ-loop
 returns-3 c =
-    let a = c .before .before .before .before .before .before .before .before .before .before .before .before .before .before .args in
-    let x = c .before .before .before .before .before .before .before .before .before .before .before .before .before .before .pre in
-    let turn = c .before .before .before .loop in
-    sym (ends-here (a .letters .now) (a .c) (a .e) (a .moved) (a .protein .now) (a .plan) (a .new .now) x (turn .k) (c .if3 .taken) (omega (arith, c .before .if2 .left)) (omega (arith, c .before .before .if1 .left))) ∙ turn .inv .0
+    let a = c .before .before .before .before .before .before .before .before .before .before .before .before .args in
+    let x = c .before .before .before .before .before .before .before .before .before .before .before .before .pre in
+    let turn = c .before .before .before .before .loop in
+    let source = c .before .source-of in
+    let found = source .ensures in
+    let below = c .if3 .taken in
+    sym (ends-here (a .letters .now) (a .c) (a .e) (a .moved) (a .protein .now) (a .plan) (a .new .now) x (found .none below) (turn .k) (source .result) (found .behind below) (found .place below) (omega (arith, c .before .before .if2 .left)) below) ∙ turn .inv .0
 
 residue-at-requires : tie.Need-residue-at-requires Inv-loop μ-loop
 residue-at-requires c κs =
-    let a = c .before .before .before .before .before .before .before .before .before .before .before .before .before .before .args in
-    let x = c .before .before .before .before .before .before .before .before .before .before .before .before .before .before .pre in
-    (x .makes, (in-made (a .letters .now) (a .c) (a .e) (a .moved) (a .protein .now) (a .plan) (a .new .now) x (c .before .before .before .loop .k) (omega (arith, c .before .before .if1 .left)), (codes (a .letters .now) (a .c) (a .e) (a .moved) (a .protein .now) (a .plan) (a .new .now) x, x .few)))
+    let a = c .before .before .before .before .before .before .before .before .before .before .before .before .args in
+    let x = c .before .before .before .before .before .before .before .before .before .before .before .before .pre in
+    (x .makes, (in-made (a .letters .now) (a .c) (a .e) (a .moved) (a .protein .now) (a .plan) (a .new .now) x (c .before .before .before .before .loop .k) (omega (arith, c .before .before .before .if1 .left)), (codes (a .letters .now) (a .c) (a .e) (a .moved) (a .protein .now) (a .plan) (a .new .now) x, x .few)))
 
 returns-4 : tie.Need-returns-4 Inv-loop μ-loop
 returns-4 c =
-    let a = c .before .before .before .before .before .before .before .before .before .before .before .before .before .before .before .before .before .args in
-    let x = c .before .before .before .before .before .before .before .before .before .before .before .before .before .before .before .before .before .pre in
-    let turn = c .before .before .before .before .before .before .loop in
+    let a = c .before .before .before .before .before .before .before .before .before .before .before .before .before .before .before .args in
+    let x = c .before .before .before .before .before .before .before .before .before .before .before .before .before .before .before .pre in
+    let turn = c .before .before .before .before .before .before .before .loop in
     let read = c .before .before .residue-at in
-    sym (parts (a .letters .now) (a .c) (a .e) (a .moved) (a .protein .now) (a .plan) (a .new .now) x (turn .k) (read .result) (omega (arith, c .before .before .before .before .before .if1 .left)) (read .ensures) (omega (arith, c .before .before .before .before .if2 .left)) (c .if4 .taken)) ∙ turn .inv .0
+    sym (parts (a .letters .now) (a .c) (a .e) (a .moved) (a .protein .now) (a .plan) (a .new .now) x (turn .k) (read .result) (omega (arith, c .before .before .before .before .before .before .if1 .left)) (read-is (a .letters .now) (a .c) (a .e) (a .moved) (a .protein .now) (a .plan) (a .new .now) x (turn .k) (read .result) (read .ensures)) (omega (arith, c .before .before .before .before .before .if2 .left)) (c .if4 .taken)) ∙ turn .inv .0
 
 returns-5 : tie.Need-returns-5 Inv-loop μ-loop
 returns-5 c =
-    let a = c .before .before .before .before .before .before .before .before .before .before .before .before .before .before .before .before .before .before .args in
-    let x = c .before .before .before .before .before .before .before .before .before .before .before .before .before .before .before .before .before .before .pre in
-    let turn = c .before .before .before .before .before .before .before .loop in
+    let a = c .before .before .before .before .before .before .before .before .before .before .before .before .before .before .before .before .args in
+    let x = c .before .before .before .before .before .before .before .before .before .before .before .before .before .before .before .before .pre in
+    let turn = c .before .before .before .before .before .before .before .before .loop in
     let read = c .before .before .before .residue-at in
-    sym (stops (a .letters .now) (a .c) (a .e) (a .moved) (a .protein .now) (a .plan) (a .new .now) x (turn .k) (read .result) (omega (arith, c .before .before .before .before .before .before .if1 .left)) (read .ensures) (omega (arith, c .before .before .before .before .before .if2 .left)) (c .before .if4 .left) (c .if5 .taken)) ∙ turn .inv .0
+    sym (stops (a .letters .now) (a .c) (a .e) (a .moved) (a .protein .now) (a .plan) (a .new .now) x (turn .k) (read .result) (omega (arith, c .before .before .before .before .before .before .before .if1 .left)) (read-is (a .letters .now) (a .c) (a .e) (a .moved) (a .protein .now) (a .plan) (a .new .now) x (turn .k) (read .result) (read .ensures)) (omega (arith, c .before .before .before .before .before .before .if2 .left)) (c .before .if4 .left) (c .if5 .taken)) ∙ turn .inv .0
 
 loop-less : tie.Need-loop-less Inv-loop μ-loop
-loop-less c = omega (arith, c .before .before .before .before .before .before .if1 .left)
+loop-less c = omega (arith, c .before .before .before .before .before .before .before .if1 .left)
 
 loop-again : tie.Need-loop-again Inv-loop μ-loop
 loop-again c =
-    let a = c .before .before .before .before .before .before .before .before .before .before .before .before .before .before .before .before .before .before .args in
-    let x = c .before .before .before .before .before .before .before .before .before .before .before .before .before .before .before .before .before .before .pre in
-    let turn = c .before .before .before .before .before .before .before .loop in
+    let a = c .before .before .before .before .before .before .before .before .before .before .before .before .before .before .before .before .args in
+    let x = c .before .before .before .before .before .before .before .before .before .before .before .before .before .before .before .before .pre in
+    let turn = c .before .before .before .before .before .before .before .before .loop in
     let read = c .before .before .before .residue-at in (
-      sym (goes-on (a .letters .now) (a .c) (a .e) (a .moved) (a .protein .now) (a .plan) (a .new .now) x (turn .k) (read .result) (omega (arith, c .before .before .before .before .before .before .if1 .left)) (read .ensures) (omega (arith, c .before .before .before .before .before .if2 .left)) (c .before .if4 .left) (c .if5 .left)) ∙ turn .inv .0,
-      omega (arith, c .before .before .before .before .before .before .if1 .left),
+      sym (goes-on (a .letters .now) (a .c) (a .e) (a .moved) (a .protein .now) (a .plan) (a .new .now) x (turn .k) (read .result) (omega (arith, c .before .before .before .before .before .before .before .if1 .left)) (read-is (a .letters .now) (a .c) (a .e) (a .moved) (a .protein .now) (a .plan) (a .new .now) x (turn .k) (read .result) (read .ensures)) (omega (arith, c .before .before .before .before .before .before .if2 .left)) (c .before .if4 .left) (c .if5 .left)) ∙ turn .inv .0,
+      omega (arith, c .before .before .before .before .before .before .before .if1 .left),
     )
 
 pub keeps-protein-spec : {M : Type 1} → statement M
@@ -135,14 +127,12 @@ keeps-protein-spec =
     sub-first
     sub-whole
     sub-rest
-    sub-level
     first-changed-requires
     loop-holds
     (λ c κs. search needs)
     returns
     returns-2
-    mul-if3
-    add-if3
+    source-of-requires
     returns-3
     residue-at-requires
     (λ c. search needs)
