@@ -5,7 +5,7 @@ ghost use Prim.Native.Nat.{_-_, _<_, _≤_};
 ghost use lib.ListN.{getD};
 ghost use Rattle.rules.specs.Codons.{geneticCode, residueX, plainCodon, basesOf, forEach, codonRule};
 ghost use Rattle.codons.specs.Tables.{HoldsPlain};
-ghost use Rattle.codons.specs.Expansion.{codonCount, expanded, joined, joinedAll};
+ghost use Rattle.codons.specs.Expansion.{codonCount, expanded, isAsx, isGlx, mixedWith, joined, joinedAll};
 
 // What a base adds to a set, in the order T, C, A, G.
 const BITS: [usize; 4] = [8, 2, 1, 4];
@@ -31,14 +31,46 @@ fn plain_residue(table: usize, place: usize) -> u8
     }
 }
 
-// A residue beside the one found so far, which is 0 where there is none yet.
+// D, N or their mix B.
+fn is_asx(residue: u8) -> bool
+    ensures { λ r. ⌜ r ≡ isAsx residue ⌝ }
+{
+    (residue == b'D') | (residue == b'N') | (residue == b'B')
+}
+
+// E, Q or their mix Z.
+fn is_glx(residue: u8) -> bool
+    ensures { λ r. ⌜ r ≡ isGlx residue ⌝ }
+{
+    (residue == b'E') | (residue == b'Q') | (residue == b'Z')
+}
+
+// What a residue makes with another one.
+fn mix(found: u8, residue: u8) -> u8
+    ensures { λ r. ⌜ r ≡ mixedWith found residue ⌝ }
+{
+    if is_asx(found) & is_asx(residue) {
+        return b'B';
+    }
+    if is_glx(found) & is_glx(residue) {
+        b'Z'
+    } else {
+        b'X'
+    }
+}
+
+// A residue beside what was found so far, which is 0 where there is none yet.
 fn join(found: u8, residue: u8) -> u8
     ensures { λ r. ⌜ r ≡ joined found residue ⌝ }
 {
     if found == 0 {
         return residue;
     }
-    if residue == found { found } else { b'X' }
+    if residue == found {
+        found
+    } else {
+        mix(found, residue)
+    }
 }
 
 // Expands the letters left, one at a time, behind the bases that make the place, and joins the residue of each plain codon to the one found so far.
