@@ -202,6 +202,7 @@ joined-from r (x ∷ xs) p h = rw (p .0) (by (eqb x r) refl (joined-from r xs p 
 agreed-list : (r : ℕ) (xs : List ℕ) → Plain r → AllPlain xs → joinedAll 0 (r ∷ xs) ≡ agreed (r ∷ xs)
 unfolding joinedAll
 agreed-list r xs p h = joined-from r xs p h
+
 -- the rule, over the three sets' bases
 agreed-all : (t : ℕ) (as′ bs cs : List ℕ) → Some as′ → Some bs → Some cs
     → joinedAll 0 (forEach as′ λ i. forEach bs λ j. forEach cs λ k. plainCodon t i j k ∷ [])
