@@ -2,12 +2,12 @@
 use Prim.Native.Nat.{ℕ, zero, suc, _+_, _*_, _/_, _%_}
 use Prim.Native.Char.{Char}
 use Prim.Native.String.{String}
-use mathlib.Core.Bool.{Bool, true, false}
+use mathlib.Core.Bool.{Bool, true, false, _&&_, _||_}
 use mathlib.Core.List.{List, [], _∷_, _++_}
 use lib.Dec.{eqb, leb}
 use lib.ListN.{getD, set}
-use Rattle.rules.specs.Bytes.{byte, bytes}
-use Rattle.rules.specs.Letters.{pick, valueOf, letterSet}
+use Rattle.rules.specs.Bytes.{byte, bytes, if_then_else_}
+use Rattle.rules.specs.Letters.{valueOf, letterSet}
 
 -- first base slowest, order T, C, A, G: a base's number
 abbrev pub order : List (ℕ × ℕ)
@@ -68,14 +68,36 @@ abbrev pub residues : ℕ → ℕ → ℕ → ℕ → List ℕ
 residues t a b c =
     forEach (basesOf a) λ i. forEach (basesOf b) λ j. forEach (basesOf c) λ k. plainCodon t i j k ∷ []
 
+-- each residue is x
 abbrev pub allAre : ℕ → List ℕ → Bool
-allAre r [] = true
-allAre r (x ∷ xs) = elim (eqb x r) [ true ↦ allAre r xs | false ↦ false ]
+allAre x [] = true
+allAre x (r ∷ rs) = if eqb r x then allAre x rs else false
 
--- if all plain codons give one residue that is the answer, else X
+-- one of them is x
+abbrev pub isAmong : ℕ → List ℕ → Bool
+isAmong x [] = false
+isAmong x (r ∷ rs) = if eqb r x then true else isAmong x rs
+
+-- each is x or y
+abbrev pub noThird : ℕ → ℕ → List ℕ → Bool
+noThird x y [] = true
+noThird x y (r ∷ rs) = if eqb r x || eqb r y then noThird x y rs else false
+
+-- exactly x and y: both are there, and no third
+abbrev pub exactly : ℕ → ℕ → List ℕ → Bool
+exactly x y rs = noThird x y rs && isAmong x rs && isAmong y rs
+
+-- of residues that aren't all one (E2): exactly D and N is B, exactly E and Q is Z, every other mix is X
+abbrev pub mixed : List ℕ → ℕ
+mixed rs =
+    if exactly (byte "D") (byte "N") rs then byte "B"
+    else if exactly (byte "E") (byte "Q") rs then byte "Z"
+    else residueX
+
+-- if all plain codons give one residue that is the answer, else what the mix of residues gives; no codon of letters has none
 abbrev pub agreed : List ℕ → ℕ
 agreed [] = residueX
-agreed (r ∷ rs) = pick (allAre r rs) r residueX
+agreed (r ∷ rs) = if allAre r rs then r else mixed (r ∷ rs)
 
 -- the residue of three letter sets
 unfoldable pub codonRule : ℕ → ℕ → ℕ → ℕ → ℕ

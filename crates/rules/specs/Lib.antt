@@ -1,4 +1,4 @@
--- The definitions of document 01, a file for each of its parts and in its order, each over those above it. Bytes has the words that all
+-- The definitions of document 01 as document 02 amends it, a file for each part and in its order, each over those above it. Bytes has the words that all
 -- share, Views the plain types as the sections' own, Values the numbers that a host reads, Opened what a worked example computes with.
 pub mod Bytes
 pub mod Letters
