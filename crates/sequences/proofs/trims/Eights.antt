@@ -2,7 +2,7 @@
 use mathlib.Core.Path.{_≡_, refl, sym, ap, ap₂, _∙_}
 use mathlib.Core.Bool.{Bool, true, false, _&&_}
 use mathlib.Core.List.{List, [], _∷_}
-use Prim.Native.Nat.{ℕ, zero, suc, _+_, _-_, _*_, _<_, _≤_}
+use Prim.Native.Nat.{ℕ, zero, suc, _+_, _*_, _<_, _≤_}
 use native.Mathlib.Omega.{arith}
 use lib.Dec.{eqb}
 use lib.ListN.{length, take, drop, getD, length-drop}
@@ -53,7 +53,7 @@ module _ (a b : List ℕ) (small : (k : ℕ) → getD a k 0 < 256) (small′ : (
   eight-same k h g = ap₂ eqb (eight-packed a k) (eight-packed b k) ∙ packed-same 8 k h g
 
 -- a part of both lists, and the rest
-pub same-split : (n : ℕ) (a b : List ℕ) → n ≤ length a → n ≤ length b → same (take n a) (take n b) && same (drop n a) (drop n b) ≡ same a b
+same-split : (n : ℕ) (a b : List ℕ) → n ≤ length a → n ≤ length b → same (take n a) (take n b) && same (drop n a) (drop n b) ≡ same a b
 unfolding same
 same-split zero a b h k = refl
 same-split (suc n) [] b h k = absurd (omega arith)
