@@ -13,6 +13,7 @@ pub mod Edit
 pub mod Altered
 pub mod Exceptions
 pub mod Protein
+pub mod Reuse
 pub mod Record
 pub mod Refusal
 pub mod Views
