@@ -6,6 +6,7 @@ pub mod Tests
 pub mod Trims
 pub mod Translation
 pub mod Reading
+pub mod Plain
 pub mod Complement
 pub mod Parts
 pub mod Reference

@@ -14,6 +14,7 @@ pub mod Altered
 pub mod Exceptions
 pub mod Protein
 pub mod Reuse
+pub mod Pieces
 pub mod Record
 pub mod Refusal
 pub mod Views
