@@ -20,6 +20,7 @@ pub mod Copies
 pub mod Checks
 pub mod Protein
 pub mod Silent
+pub mod Pieces
 pub mod Answers
 pub mod KindNumbers
 pub mod Thirteen
