@@ -164,3 +164,149 @@ module _ (longest : ℕ) (r : Reference) (accepts : referenceRefusal longest r �
       ∙ ap throughStop (plain-split (r .table) own k (omega (arith, f .inside, f .long)) ∙ ap (λ (l : List ℕ). l ++ T) (sym (head-kept k (omega arith))))
       ∙ through-goes (take k R) T (head-stopless k (omega (arith, f .residues)) (λ q. omega (arith, f .residues))) in
       sym (ap (drop k) whole ∙ drop-at (take k R) (throughStop T) k (length-take-le k R (omega (arith, f .residues))))
+
+-- an edit that reads: its codons before the edit are R's, and the stop isn't reached there
+pub record Reads (r : Reference) (e : Asked) : Type 0 where
+  pub other : is Identity (kindOf e) ≡ false
+  pub head-is : headOf r e ≡ (cutSwap r e .from - (r .cs - 1)) / 3
+  pub tail-is : tailOf r e ≡ (cutSwap r e .from + length (cutSwap r e .put) - (r .cs - 1) + 2) / 3
+  pub back-is : backOf r e ≡ (tailOf r e * 3 + cutSwap r e .to - (cutSwap r e .from + length (cutSwap r e .put))) / 3
+  pub before : r .cs - 1 + headOf r e * 3 ≤ cutSwap r e .from
+  pub few : headOf r e ≤ codons r
+  pub short : r .end ≡ atStop → headOf r e < codons r
+
+-- R goes on behind it: codon `tail` of the altered transcript is codon `back` of the CDS
+pub record Resumes (r : Reference) (e : Asked) : Type 0 where
+  pub rises : headOf r e ≤ tailOf r e
+  pub behind : cutSwap r e .from + length (cutSwap r e .put) ≤ r .cs - 1 + tailOf r e * 3
+  pub at : r .cs - 1 + tailOf r e * 3 + cutSwap r e .to ≡ r .cs - 1 + backOf r e * 3 + (cutSwap r e .from + length (cutSwap r e .put))
+  pub left : backOf r e < codons r
+  pub frame : (cutSwap r e .from + length (cutSwap r e .put)) % 3 ≡ cutSwap r e .to % 3
+
+-- the arithmetic of the first codon behind the edit
+resumes-at : (first from p to b : ℕ) → first ≤ from → from ≤ to → b ≡ (from + p - first + 2) / 3 → (from + p) % 3 ≡ to % 3
+    → (from + p ≤ first + b * 3) × (first + b * 3 + to ≡ first + (b * 3 + to - (from + p)) / 3 * 3 + (from + p))
+resumes-at first from p to b h k q l = (omega arith, omega arith)
+
+module _ (m : Limits) (r : Reference) (e : Asked) (h : refusal m r e ≡ 0) where
+  reads-if : keepsAll r e ≡ false → Reads r e
+  unfolding keepsAll headOf tailOf backOf behindPut codons cdsSize
+  reads-if q = by (eqb (r .end) atStop) refl
+    where
+      v : Span (r .cs - 1) (size r) (cutSwap r e)
+      v = cut-span m r e h
+
+      b : Bounds r
+      b = reference-accepted m r e h .bounds
+
+      other : is Identity (kindOf e) ≡ false
+      other = or-left (is Identity (kindOf e)) (eqb (r .end) atStop && leb (r .ce) (cutSwap r e .from)) q
+
+      inside : eqb (r .end) atStop ≡ true → cutSwap r e .from < r .ce
+      inside k = leb-false (r .ce) (cutSwap r e .from) (and-implies (eqb (r .end) atStop) _ (or-right (is Identity (kindOf e)) (eqb (r .end) atStop && leb (r .ce) (cutSwap r e .from)) q) k)
+
+      head-is : headOf r e ≡ (cutSwap r e .from - (r .cs - 1)) / 3
+      head-is = rw q
+
+      by : (k : Bool) → eqb (r .end) atStop ≡ k → Reads r e
+      by true k =
+          let less = inside k in
+          let whole = whole-codons r b (eqb-true (r .end) atStop k) in
+          record {
+            other = other;
+            head-is = head-is;
+            tail-is = rw q;
+            back-is = rw q;
+            before = omega (arith, head-is, v .front);
+            few = omega (arith, head-is, v .front, less);
+            short = λ z. omega (arith, head-is, v .front, less, whole, b .first);
+          }
+      by false k =
+          let last = cut-ends (m .longest) r (none-refused m r e h .0) k in
+          record {
+            other = other;
+            head-is = head-is;
+            tail-is = rw q;
+            back-is = rw q;
+            before = omega (arith, head-is, v .front);
+            few = omega (arith, head-is, v .front, v .rising, v .ends, last);
+            short = λ z. absurd (eqb-false (r .end) atStop k z);
+          }
+
+  resumes-if : keepsAll r e ≡ false → isLevel r e ≡ true → Resumes r e
+  unfolding isLevel behindPut
+  resumes-if q l =
+      let v = cut-span m r e h in
+      let x = reads-if q in
+      let frame = eqb ((cutSwap r e .from + length (cutSwap r e .put)) % 3) (cutSwap r e .to % 3) in
+      let left = ltb (backOf r e) (codons r) in
+      let both : (frame && left) ≡ true = sym (rw q refl) ∙ l in
+      let even : (cutSwap r e .from + length (cutSwap r e .put)) % 3 ≡ cutSwap r e .to % 3 = eqb-true _ _ (and-left frame left both) in
+      let at = resumes-at (r .cs - 1) (cutSwap r e .from) (length (cutSwap r e .put)) (cutSwap r e .to) (tailOf r e) (v .front) (v .rising) (x .tail-is) even in
+      record {
+        rises = omega (arith, x .head-is, x .tail-is, v .front);
+        behind = at .0;
+        at = at .1 ∙ ap (λ (n : ℕ). r .cs - 1 + n * 3 + (cutSwap r e .from + length (cutSwap r e .put))) (sym (x .back-is));
+        left = ltb-true (backOf r e) (codons r) (and-right frame left both);
+        frame = even;
+      }
+
+module _ (m : Limits) (r : Reference) (e : Asked) (h : refusal m r e ≡ 0) (none : r .exceptions ≡ []) (once : count (byte "*") (referenceProtein r) ≤ 1) where
+  accepts : referenceRefusal (m .longest) r ≡ 0
+  accepts = none-refused m r e h .0
+
+  fit : CodonsFit r
+  fit = codons-fit (m .longest) r accepts none once
+
+  inside : cutSwap r e .from ≤ size r
+  inside = let v = cut-span m r e h in omega (arith, v .rising, v .ends)
+
+  read-plain : alteredProtein r e ≡ throughStop (translated (r .table) [] (alteredCoding r e))
+  unfolding alteredProtein proteinOf alteredCoding
+  read-plain = rw (none-moved r (alteredTranscript r e) none)
+
+  -- k codons before the edit are R's
+  front-kept : (k : ℕ) → k ≤ codons r → r .cs - 1 + k * 3 ≤ cutSwap r e .from
+      → translated (r .table) [] (alteredCoding r e) ≡ take k (referenceProtein r) ++ translated (r .table) [] (drop (k * 3) (alteredCoding r e))
+  unfolding alteredCoding alteredTranscript size
+  front-kept k l before =
+      let u = alteredCoding r e in
+      let same : take (k * 3) u ≡ take (k * 3) (drop (r .cs - 1) (r .letters)) = carried-front (cutSwap r e) (r .letters) inside (r .cs - 1) (k * 3) before in
+      plain-split (r .table) u k (omega (arith, length-coding m r e h))
+      ∙ ap (λ (l : List ℕ). l ++ translated (r .table) [] (drop (k * 3) u)) (ap (translated (r .table) []) same ∙ sym (head-kept (m .longest) r accepts none once k l))
+
+  -- those before the edit are R's, all behind is read
+  read-behind : keepsAll r e ≡ false → alteredProtein r e ≡ take (headOf r e) (referenceProtein r) ++ throughStop (translated (r .table) [] (drop (headOf r e * 3) (alteredCoding r e)))
+  read-behind q =
+      let x = reads-if m r e h q in
+      read-plain
+      ∙ ap throughStop (front-kept (headOf r e) (x .few) (x .before))
+      ∙ through-goes (take (headOf r e) (referenceProtein r)) _
+      (head-stopless (m .longest) r accepts none once (headOf r e) (omega (arith, x .few, fit .residues)) (λ z. omega (arith, x .short z, fit .residues)))
+
+  -- an edit that reads no codon leaves R
+  identity-kept : is Identity (kindOf e) ≡ true → alteredProtein r e ≡ referenceProtein r
+  unfolding alteredCoding
+  identity-kept i =
+      read-plain
+      ∙ ap (λ (s : List ℕ). throughStop (translated (r .table) [] (drop (r .cs - 1) s))) (identity-stays m r e h (identity-only (kindOf e) i))
+      ∙ own-plain (m .longest) r accepts none once
+
+  behind-kept : r .end ≡ atStop → r .ce ≤ cutSwap r e .from → alteredProtein r e ≡ referenceProtein r
+  unfolding codons cdsSize
+  behind-kept z l =
+      let R = referenceProtein r in
+      let p = protein-read (m .longest) r accepts in
+      let b = reference-accepted m r e h .bounds in
+      let all : take (codons r) R ≡ R = take-all (codons r) R (omega (arith, fit .whole z)) in
+      read-plain
+      ∙ ap throughStop (front-kept (codons r) (omega arith) (omega (arith, b .first, b .rising)) ∙ ap (λ (l : List ℕ). l ++ translated (r .table) [] (drop (codons r * 3) (alteredCoding r e))) all)
+      ∙ through-last R _ (omega (arith, p .two)) (p .last z) once
+
+  pub all-kept : keepsAll r e ≡ true → alteredProtein r e ≡ referenceProtein r
+  unfolding keepsAll
+  all-kept q =
+      let stop = eqb (r .end) atStop in
+      let past = leb (r .ce) (cutSwap r e .from) in
+      or-cases (is Identity (kindOf e)) (stop && past) (alteredProtein r e ≡ referenceProtein r) q identity-kept
+      (λ k. behind-kept (eqb-true (r .end) atStop (and-left stop past k)) (leb-true (r .ce) (cutSwap r e .from) (and-right stop past k)))
