@@ -24,6 +24,7 @@ use Rattle.rules.specs.Pieces.{keepsAll, behindPut, headOf, tailOf, back
 use Rattle.rules.specs.declared.Limits.{Limits}
 use Rattle.rules.specs.Refusal.{refusal, referenceRefusal}
 use Rattle.rules.proofs.Tests.{and-left, and-right, or-left, or-right, and-implies}
+use Rattle.rules.proofs.Translation.{length-translated}
 use Rattle.rules.proofs.Plain.{plain-append, plain-split, plain-count, plain-take, through-stopped, through-goes, through-all, none-stops}
 use Rattle.rules.proofs.Parts.{length-part}
 use Rattle.rules.proofs.Reference.{Bounds, accepted, length-cds, whole-codons, protein-read}
@@ -75,6 +76,10 @@ identity-only Inversion h = let z : _≡_ {A = ℕ} 0 1 = cc in absurd (omega ar
 identity-only Identity h = refl
 identity-only Other h = let z : _≡_ {A = ℕ} 0 1 = cc in absurd (omega arith)
 
+nothing : {A : Type 0} (xs : List A) → length xs ≡ 0 → xs ≡ []
+nothing [] h = refl
+nothing (x ∷ xs) h = absurd (omega arith)
+
 or-cases : (a b : Bool) (P : Type 0) → (a || b) ≡ true → (a ≡ true → P) → (b ≡ true → P) → P
 or-cases true b P h f g = f refl
 or-cases false b P h f g = g h
@@ -98,6 +103,10 @@ module _ (m : Limits) (r : Reference) (e : Asked) (h : refusal m r e ≡ 0) wher
   length-coding =
       let v = cut-span in
       length-drop (r .cs - 1) (alteredTranscript r e) ∙ ap (λ (n : ℕ). n - (r .cs - 1)) (length-carried (cutSwap r e) (r .letters) (v .rising) (v .ends))
+
+  pub identity-coding : is Identity (kindOf e) ≡ true → alteredCoding r e ≡ drop (r .cs - 1) (r .letters)
+  unfolding alteredCoding
+  identity-coding i = ap (drop (r .cs - 1)) (identity-stays m r e h (identity-only (kindOf e) i))
 
 -- R has as many residues as the CDS has whole codons, or one more
 pub record CodonsFit (r : Reference) : Type 0 where
@@ -182,6 +191,14 @@ pub record Resumes (r : Reference) (e : Asked) : Type 0 where
   pub at : r .cs - 1 + tailOf r e * 3 + cutSwap r e .to ≡ r .cs - 1 + backOf r e * 3 + (cutSwap r e .from + length (cutSwap r e .put))
   pub left : backOf r e < codons r
   pub frame : (cutSwap r e .from + length (cutSwap r e .put)) % 3 ≡ cutSwap r e .to % 3
+
+-- the numbers of the pieces lie within R and what is read
+pub record PiecesFit (r : Reference) (e : Asked) : Type 0 where
+  pub head : headOf r e ≤ length (referenceProtein r)
+  pub coding : headOf r e * 3 ≤ length (alteredCoding r e)
+  pub rises : isLevel r e ≡ true → headOf r e ≤ tailOf r e
+  pub tail : isLevel r e ≡ true → tailOf r e * 3 ≤ length (alteredCoding r e)
+  pub back : isLevel r e ≡ true → backOf r e ≤ length (referenceProtein r)
 
 -- the arithmetic of the first codon behind the edit
 resumes-at : (first from p to b : ℕ) → first ≤ from → from ≤ to → b ≡ (from + p - first + 2) / 3 → (from + p) % 3 ≡ to % 3
@@ -286,10 +303,9 @@ module _ (m : Limits) (r : Reference) (e : Asked) (h : refusal m r e ≡ 0) (non
 
   -- an edit that reads no codon leaves R
   identity-kept : is Identity (kindOf e) ≡ true → alteredProtein r e ≡ referenceProtein r
-  unfolding alteredCoding
   identity-kept i =
       read-plain
-      ∙ ap (λ (s : List ℕ). throughStop (translated (r .table) [] (drop (r .cs - 1) s))) (identity-stays m r e h (identity-only (kindOf e) i))
+      ∙ ap (λ (s : List ℕ). throughStop (translated (r .table) [] s)) (identity-coding m r e h i)
       ∙ own-plain (m .longest) r accepts none once
 
   behind-kept : r .end ≡ atStop → r .ce ≤ cutSwap r e .from → alteredProtein r e ≡ referenceProtein r
@@ -310,3 +326,94 @@ module _ (m : Limits) (r : Reference) (e : Asked) (h : refusal m r e ≡ 0) (non
       let past = leb (r .ce) (cutSwap r e .from) in
       or-cases (is Identity (kindOf e)) (stop && past) (alteredProtein r e ≡ referenceProtein r) q identity-kept
       (λ k. behind-kept (eqb-true (r .end) atStop (and-left stop past k)) (leb-true (r .ce) (cutSwap r e .from) (and-right stop past k)))
+
+  pub pieces-fit : PiecesFit r e
+  unfolding keepsAll headOf tailOf backOf isLevel codons cdsSize
+  pieces-fit = by (keepsAll r e) refl
+    where
+      v : Span (r .cs - 1) (size r) (cutSwap r e)
+      v = cut-span m r e h
+
+      b : Bounds r
+      b = reference-accepted m r e h .bounds
+
+      all-fits : keepsAll r e ≡ true → codons r * 3 ≤ length (alteredCoding r e)
+      all-fits q =
+          let stop = eqb (r .end) atStop in
+          let past = leb (r .ce) (cutSwap r e .from) in
+          or-cases (is Identity (kindOf e)) (stop && past) (codons r * 3 ≤ length (alteredCoding r e)) q
+          (λ i. omega (arith, ap (λ (s : List ℕ). length s) (identity-coding m r e h i), fit .inside, fit .long))
+          (λ k. omega (arith, leb-true (r .ce) (cutSwap r e .from) (and-right stop past k), length-coding m r e h, b .first))
+
+      by : (q : Bool) → keepsAll r e ≡ q → PiecesFit r e
+      by true q = record { head = rw q (fit .residues); coding = rw q (all-fits q); rises = λ l. rw q (omega arith); tail = λ l. rw q (all-fits q); back = λ l. rw q (fit .residues) }
+      by false q =
+          let x = reads-if m r e h q in
+          record {
+            head = omega (arith, x .few, fit .residues);
+            coding = omega (arith, x .before, length-coding m r e h);
+            rises = λ l. resumes-if m r e h q l .rises;
+            tail = λ l. let y = resumes-if m r e h q l in omega (arith, y .at, y .left, length-coding m r e h, b .first, b .rising, b .inside, v .ends);
+            back = λ l. omega (arith, resumes-if m r e h q l .left, fit .residues);
+          }
+
+  pub length-middle : isLevel r e ≡ true → length (middle r e) ≡ tailOf r e - headOf r e
+  unfolding middle residueCount
+  length-middle l =
+      let x = pieces-fit in
+      length-translated (r .table) [] (part (headOf r e * 3) (tailOf r e * 3) (alteredCoding r e))
+      ∙ omega (arith, length-part (headOf r e * 3) (tailOf r e * 3) (alteredCoding r e) (x .tail l))
+
+  -- what is read behind the codons before the edit: the middle, then what the CDS has from codon `back` on
+  split-behind : keepsAll r e ≡ false → isLevel r e ≡ true
+      → translated (r .table) [] (drop (headOf r e * 3) (alteredCoding r e)) ≡ middle r e ++ translated (r .table) [] (drop (backOf r e * 3) (drop (r .cs - 1) (r .letters)))
+  unfolding middle part alteredCoding alteredTranscript size
+  split-behind q l =
+      let x = pieces-fit in
+      let y = resumes-if m r e h q l in
+      let u = alteredCoding r e in
+      let a : ℕ = headOf r e * 3 in
+      let b : ℕ = tailOf r e * 3 in
+      let first = r .cs - 1 in
+      let on : a + (b - a) ≡ b = omega (arith, y .rises) in
+      let there : drop (b - a) (drop a u) ≡ drop (backOf r e * 3) (drop first (r .letters)) =
+      drop-drop (b - a) a u ∙ ap (λ (n : ℕ). drop n u) on ∙ drop-drop b first (alteredTranscript r e)
+      ∙ carried-back (cutSwap r e) (r .letters) inside (first + b) (first + backOf r e * 3) (y .behind) (y .at)
+      ∙ sym (drop-drop (backOf r e * 3) first (r .letters)) in
+      ap (translated (r .table) []) (sym (take-append-drop (b - a) (drop a u)))
+      ∙ plain-append (r .table) (take (b - a) (drop a u)) (drop (b - a) (drop a u)) (omega (arith, length-part a b u (x .tail l)))
+      ∙ ap (λ (s : List ℕ). translated (r .table) [] (take (b - a) (drop a u)) ++ translated (r .table) [] s) there
+
+  -- Case by case what a walk that reuses writes. R goes no further than the edit: all behind it is read.
+  pub pieces-read : isLevel r e ≡ false → alteredProtein r e ≡ take (headOf r e) (referenceProtein r) ++ throughStop (translated (r .table) [] (drop (headOf r e * 3) (alteredCoding r e)))
+  unfolding isLevel
+  pieces-read l = read-behind (or-left (keepsAll r e) _ l)
+
+  -- R goes on behind it, but a stop is read before that.
+  pub pieces-stopped : isLevel r e ≡ true → beforeStop (middle r e) < length (middle r e) → alteredProtein r e ≡ take (headOf r e) (referenceProtein r) ++ throughStop (middle r e)
+  unfolding headOf tailOf
+  pieces-stopped l s = by (keepsAll r e) refl
+    where
+      by : (q : Bool) → keepsAll r e ≡ q → alteredProtein r e ≡ take (headOf r e) (referenceProtein r) ++ throughStop (middle r e)
+      by true q = let none : tailOf r e - headOf r e ≡ 0 = rw q (omega arith) in absurd (omega (arith, length-middle l))
+      by false q = read-behind q ∙ ap (λ (t : List ℕ). take (headOf r e) (referenceProtein r) ++ t) (ap throughStop (split-behind q l) ∙ through-stopped (middle r e) _ s)
+
+  -- R goes on behind it.
+  pub pieces-resumed : isLevel r e ≡ true → length (middle r e) ≤ beforeStop (middle r e)
+      → alteredProtein r e ≡ take (headOf r e) (referenceProtein r) ++ (throughStop (middle r e) ++ drop (backOf r e) (referenceProtein r))
+  unfolding headOf tailOf backOf
+  pieces-resumed l s = by (keepsAll r e) refl
+    where
+      R : List ℕ
+      R = referenceProtein r
+
+      by : (q : Bool) → keepsAll r e ≡ q → alteredProtein r e ≡ take (headOf r e) R ++ (throughStop (middle r e) ++ drop (backOf r e) R)
+      by true q =
+          let same : backOf r e ≡ headOf r e = rw q refl in
+          let none : tailOf r e - headOf r e ≡ 0 = rw q (omega arith) in
+          let empty : throughStop (middle r e) ≡ [] = through-all (middle r e) s ∙ nothing (middle r e) (length-middle l ∙ none) in
+          all-kept q ∙ sym (take-append-drop (headOf r e) R) ∙ ap (λ (n : ℕ). take (headOf r e) R ++ drop n R) (sym same) ∙ ap (λ (t : List ℕ). take (headOf r e) R ++ (t ++ drop (backOf r e) R)) (sym empty)
+      by false q =
+          read-behind q
+          ∙ ap (λ (t : List ℕ). take (headOf r e) R ++ t)
+          (ap throughStop (split-behind q l) ∙ through-goes (middle r e) _ s ∙ rw (through-all (middle r e) s, back-kept (m .longest) r accepts none once (backOf r e) (resumes-if m r e h q l .left)))
