@@ -21,6 +21,7 @@ pub mod Checks
 pub mod Protein
 pub mod Silent
 pub mod Pieces
+pub mod Looked
 pub mod Answers
 pub mod KindNumbers
 pub mod Thirteen

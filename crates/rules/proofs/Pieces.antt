@@ -80,7 +80,7 @@ nothing : {A : Type 0} (xs : List A) → length xs ≡ 0 → xs ≡ []
 nothing [] h = refl
 nothing (x ∷ xs) h = absurd (omega arith)
 
-or-cases : (a b : Bool) (P : Type 0) → (a || b) ≡ true → (a ≡ true → P) → (b ≡ true → P) → P
+pub or-cases : (a b : Bool) (P : Type 0) → (a || b) ≡ true → (a ≡ true → P) → (b ≡ true → P) → P
 or-cases true b P h f g = f refl
 or-cases false b P h f g = g h
 
@@ -126,7 +126,7 @@ module _ (longest : ℕ) (r : Reference) (accepts : referenceRefusal longest r �
   bounds : Bounds r
   bounds = accepted longest r accepts .bounds
 
-  codons-fit : CodonsFit r
+  pub codons-fit : CodonsFit r
   unfolding codons residueCount cdsSize size
   codons-fit =
       let p = protein-read longest r accepts .counted in
@@ -206,7 +206,7 @@ resumes-at : (first from p to b : ℕ) → first ≤ from → from ≤ to → b 
 resumes-at first from p to b h k q l = (omega arith, omega arith)
 
 module _ (m : Limits) (r : Reference) (e : Asked) (h : refusal m r e ≡ 0) where
-  reads-if : keepsAll r e ≡ false → Reads r e
+  pub reads-if : keepsAll r e ≡ false → Reads r e
   unfolding keepsAll headOf tailOf backOf behindPut codons cdsSize
   reads-if q = by (eqb (r .end) atStop) refl
     where
@@ -250,7 +250,7 @@ module _ (m : Limits) (r : Reference) (e : Asked) (h : refusal m r e ≡ 0) wher
             short = λ z. absurd (eqb-false (r .end) atStop k z);
           }
 
-  resumes-if : keepsAll r e ≡ false → isLevel r e ≡ true → Resumes r e
+  pub resumes-if : keepsAll r e ≡ false → isLevel r e ≡ true → Resumes r e
   unfolding isLevel behindPut
   resumes-if q l =
       let v = cut-span m r e h in
