@@ -22,7 +22,7 @@ use Rattle.rules.specs.Reuse.{liesBefore, liesBehind, origin, isOfCds, i
 use Rattle.rules.specs.Pieces.{keepsAll, behindPut, headOf, tailOf, backOf, isLevel, middle}
 use Rattle.rules.specs.declared.Limits.{Limits}
 use Rattle.rules.specs.Refusal.{refusal}
-use Rattle.rules.proofs.Tests.{and-left, and-right}
+use Rattle.rules.proofs.Tests.{and-left, and-right, or-left}
 use Rattle.rules.proofs.Reference.{Bounds}
 use Rattle.rules.proofs.Refusal.{none-refused, reference-accepted}
 use Rattle.rules.proofs.Span.{Span}
@@ -115,3 +115,84 @@ module _ (r : Reference) (e : Asked) (k : ℕ) where
   read-excepted : (length (r .exceptions) ≡ 0 → ⊥) → isReused r e k ≡ false
   unfolding isReused
   read-excepted d = rw (ne-eqb (length (r .exceptions)) 0 d)
+
+-- codon k at index first + 3k, behind what ends at q, and codon j that lies as far behind `to`
+tail-numbers : (first q to k j t : ℕ) → first ≤ q → first ≤ to → q ≤ first + k * 3 → first + k * 3 + to ≡ first + j * 3 + q → t ≡ (q - first + 2) / 3
+    → (q % 3 ≡ to % 3) × (t ≤ k) × ((t * 3 + to - q) / 3 + (k - t) ≡ j)
+tail-numbers first q to k j t a b h e s = (omega arith, omega arith, omega arith)
+
+in-frame : (first at : ℕ) → first ≤ at → at % 3 ≡ first % 3 → first + (at - first) / 3 * 3 ≡ at
+in-frame first at h k = omega arith
+
+-- the codons that are looked up
+abbrev pub looks : Reference → Asked → ℕ → Bool
+looks r e k = not (isReused r e k)
+
+module _ (m : Limits) (r : Reference) (e : Asked) (h : refusal m r e ≡ 0) where
+  begins : 1 ≤ r .cs
+  begins = reference-accepted m r e h .bounds .first
+
+  -- where one behind the edit was one of the CDS, R goes on
+  level-if : (k : ℕ) → keepsAll r e ≡ false → liesBehind (cutSwap r e) (r .cs - 1 + k * 3) ≡ true → isOfCds r (origin (cutSwap r e) (r .cs - 1 + k * 3)) ≡ true → isLevel r e ≡ true
+  unfolding isLevel behindPut liesBehind isOfCds inFrame origin codons cdsSize
+  level-if k q z c =
+      let v = cut-span m r e h in
+      let x = reads-if m r e h q in
+      let first = r .cs - 1 in
+      let end = cutSwap r e .from + length (cutSwap r e .put) in
+      let l : end ≤ first + k * 3 = leb-true end (first + k * 3) z in
+      let old : ℕ = first + k * 3 + cutSwap r e .to - end in
+      let frame = eqb (old % 3) (first % 3) in
+      let fits = leb (old + 3) (r .ce) in
+      let place = in-frame first old (omega (arith, v .front, v .rising)) (eqb-true (old % 3) (first % 3) (and-left frame fits c)) in
+      let last : old + 3 ≤ r .ce = leb-true (old + 3) (r .ce) (and-right frame fits c) in
+      let n = tail-numbers first end (cutSwap r e .to) k ((old - first) / 3) (tailOf r e) (omega (arith, v .front)) (omega (arith, v .front, v .rising)) l (omega arith) (x .tail-is) in
+      rw (q, eq-eqb (end % 3) (cutSwap r e .to % 3) (n .0), lt-ltb (backOf r e) (codons r) (omega (arith, n .2, x .back-is, begins)))
+
+  module _ (q : keepsAll r e ≡ false) where
+    -- codons before the edit are reused
+    head-reused : r .exceptions ≡ [] → (k : ℕ) → k < headOf r e → looks r e k ≡ false
+    head-reused none k l = let x = reads-if m r e h q in ap not (reused-before r e k none begins (omega (arith, x .before)) (omega (arith, x .few)))
+
+    not-before : (k : ℕ) → headOf r e ≤ k → cutSwap r e .from < r .cs - 1 + k * 3 + 3
+    not-before k l = let x = reads-if m r e h q in omega (arith, x .head-is, cut-span m r e h .front)
+
+    -- where R doesn't go on, all others are read
+    behind-read : isLevel r e ≡ false → (k : ℕ) → headOf r e ≤ k → looks r e k ≡ true
+    behind-read f k l = ap not (read-if r e k (reads-if m r e h q .other) (not-before k l) (by (isOfCds r (origin (cutSwap r e) (r .cs - 1 + k * 3))) (liesBehind (cutSwap r e) (r .cs - 1 + k * 3)) refl refl))
+      where
+        by : (a b : Bool) → isOfCds r (origin (cutSwap r e) (r .cs - 1 + k * 3)) ≡ a → liesBehind (cutSwap r e) (r .cs - 1 + k * 3) ≡ b → (b && a) ≡ false
+        by a false y z = refl
+        by false true y z = refl
+        by true true y z = sym (level-if k q z y) ∙ f
+
+    -- where it goes on, those between are
+    middle-read : (k : ℕ) → headOf r e ≤ k → k < tailOf r e → looks r e k ≡ true
+    middle-read k l i = let x = reads-if m r e h q in ap not (read-touched r e k (x .other) (not-before k l) (omega (arith, x .tail-is)))
+
+    -- and the codons of the CDS behind it are reused
+    tail-reused : r .exceptions ≡ [] → isLevel r e ≡ true → (k : ℕ) → tailOf r e ≤ k → backOf r e + (k - tailOf r e) < codons r → looks r e k ≡ false
+    tail-reused none f k l i =
+        let y = resumes-if m r e h q f in
+        ap not (reused-behind r e k (backOf r e + (k - tailOf r e)) none begins (omega (arith, y .behind)) (omega (arith, y .at)) i)
+
+-- so many are read in each case
+module _ (m : Limits) (r : Reference) (e : Asked) (h : refusal m r e ≡ 0) (none : r .exceptions ≡ []) (once : count (byte "*") (referenceProtein r) ≤ 1) where
+  long-head : length (take (headOf r e) (referenceProtein r)) ≡ headOf r e
+  long-head = length-take-le (headOf r e) (referenceProtein r) (pieces-fit m r e h none once .head)
+
+  -- all behind the edit is read: its whole codons through the first stop
+  pub looked-read : isLevel r e ≡ false
+      → lookedUp r e ≡ min (length (throughStop (translated (r .table) [] (drop (headOf r e * 3) (alteredCoding r e))))) (length (drop (headOf r e * 3) (alteredCoding r e)) / 3)
+  unfolding lookedUp readCodons isLevel
+  looked-read l =
+      let q : keepsAll r e ≡ false = or-left (keepsAll r e) _ l in
+      let R = referenceProtein r in
+      let u = alteredCoding r e in
+      let a = headOf r e in
+      let T = throughStop (translated (r .table) [] (drop (a * 3) u)) in
+      let n = readCodons r e in
+      let long : length (alteredProtein r e) ≡ a + length T = ap length (pieces-read m r e h none once l) ∙ length-append (take a R) T ∙ ap (λ (k : ℕ). k + length T) long-head in
+      let read : n ≡ a + min (length T) (length (drop (a * 3) u) / 3) = omega (arith, long, length-drop (a * 3) u, pieces-fit m r e h none once .coding) in
+      count-between (looks r e) a n n (omega arith) (omega arith)
+      (record { below = head-reused m r e h q none; between = λ k x y. behind-read m r e h q l k x; behind = λ k x y. absurd (omega arith) }) ∙ omega arith
