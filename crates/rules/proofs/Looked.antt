@@ -21,9 +21,10 @@ use Rattle.rules.specs.Protein.{alteredProtein}
 use Rattle.rules.specs.Reuse.{liesBefore, liesBehind, origin, isOfCds, isReused, alteredCoding, readCodons, countTo, lookedUp}
 use Rattle.rules.specs.Pieces.{keepsAll, behindPut, headOf, tailOf, backOf, isLevel, middle}
 use Rattle.rules.specs.declared.Limits.{Limits}
-use Rattle.rules.specs.Refusal.{refusal}
+use Rattle.rules.specs.Refusal.{refusal, referenceRefusal}
 use Rattle.rules.proofs.Tests.{and-left, and-right, or-left}
-use Rattle.rules.proofs.Reference.{Bounds}
+use Rattle.rules.proofs.Translation.{through-le}
+use Rattle.rules.proofs.Plain.{through-all}
 use Rattle.rules.proofs.Refusal.{none-refused, reference-accepted}
 use Rattle.rules.proofs.Span.{Span}
 use Rattle.rules.proofs.Pieces.{or-cases, cut-ends, cut-span, length-coding, identity-coding, CodonsFit, codons-fit, Reads, reads-if, Resumes, resumes-if, PiecesFit, pieces-fit, length-middle, all-kept, pieces-read, pieces-stopped, pieces-resumed}
@@ -124,6 +125,10 @@ tail-numbers first q to k j t a b h e s = (omega arith, omega arith, omega arith
 in-frame : (first at : ℕ) → first ≤ at → at % 3 ≡ first % 3 → first + (at - first) / 3 * 3 ≡ at
 in-frame first at h k = omega arith
 
+-- of a CDS that ends with the transcript, the codons behind the edit are those of the CDS
+still-inside : (first from p to L t b k : ℕ) → first ≤ from → to ≤ L → first + t * 3 + to ≡ first + b * 3 + (from + p) → t ≤ k → k < (from + (p + (L - to)) - first) / 3 → b + (k - t) < (L - first) / 3
+still-inside first from p to L t b k a c q l i = omega arith
+
 -- the codons that are looked up
 abbrev pub looks : Reference → Asked → ℕ → Bool
 looks r e k = not (isReused r e k)
@@ -196,3 +201,103 @@ module _ (m : Limits) (r : Reference) (e : Asked) (h : refusal m r e ≡ 0) (non
       let read : n ≡ a + min (length T) (length (drop (a * 3) u) / 3) = omega (arith, long, length-drop (a * 3) u, pieces-fit m r e h none once .coding) in
       count-between (looks r e) a n n (omega arith) (omega arith)
       (record { below = head-reused m r e h q none; between = λ k x y. behind-read m r e h q l k x; behind = λ k x y. absurd (omega arith) }) ∙ omega arith
+
+  -- nothing is read where all of R is kept
+  few-kept : keepsAll r e ≡ true → readCodons r e ≤ codons r
+  unfolding readCodons keepsAll codons cdsSize size
+  few-kept q = by (eqb (r .end) atStop) refl
+    where
+      accepts : referenceRefusal (m .longest) r ≡ 0
+      accepts = none-refused m r e h .0
+
+      f : CodonsFit r
+      f = codons-fit (m .longest) r accepts none once
+
+      by : (b : Bool) → eqb (r .end) atStop ≡ b → min (length (alteredProtein r e)) (length (alteredCoding r e) / 3) ≤ codons r
+      by true z = omega (arith, ap (λ (l : List ℕ). length l) (all-kept m r e h none once q), f .whole (eqb-true (r .end) atStop z))
+      by false z =
+          or-cases (is Identity (kindOf e)) (eqb (r .end) atStop && leb (r .ce) (cutSwap r e .from)) (min (length (alteredProtein r e)) (length (alteredCoding r e) / 3) ≤ codons r) q
+          (λ i. omega (arith, ap (λ (l : List ℕ). length l) (identity-coding m r e h i), length-drop (r .cs - 1) (r .letters), cut-ends (m .longest) r accepts z, begins m r e h))
+          (λ k. let no : false ≡ true = sym z ∙ and-left (eqb (r .end) atStop) (leb (r .ce) (cutSwap r e .from)) k in let z : _≡_ {A = ℕ} 0 1 = cc in absurd (omega arith))
+
+  kept-reused : keepsAll r e ≡ true → (k : ℕ) → k < codons r → looks r e k ≡ false
+  unfolding keepsAll codons cdsSize
+  kept-reused q k l =
+      let stop = eqb (r .end) atStop in
+      let past = leb (r .ce) (cutSwap r e .from) in
+      or-cases (is Identity (kindOf e)) (stop && past) (looks r e k ≡ false) q
+      (λ i. ap not (reused-identity r e k none (begins m r e h) i l))
+      (λ i. ap not (reused-before r e k none (begins m r e h) (omega (arith, leb-true (r .ce) (cutSwap r e .from) (and-right stop past i), begins m r e h)) l))
+
+  none-looked : keepsAll r e ≡ true → lookedUp r e ≡ 0
+  unfolding lookedUp
+  none-looked q =
+      let n = readCodons r e in
+      let few = few-kept q in
+      count-between (looks r e) n n n (omega arith) (omega arith)
+      (record { below = λ k x. kept-reused q k (omega arith); between = λ k x y. absurd (omega arith); behind = λ k x y. absurd (omega arith) }) ∙ omega arith
+
+  -- R goes on behind the edit: the codons between are read, through the first stop
+  pub looked-middle : isLevel r e ≡ true → lookedUp r e ≡ length (throughStop (middle r e))
+  unfolding lookedUp readCodons headOf tailOf codons cdsSize size
+  looked-middle l = by (keepsAll r e) refl (decLt (beforeStop (middle r e)) (length (middle r e)))
+    where
+      R : List ℕ
+      R = referenceProtein r
+
+      M : List ℕ
+      M = middle r e
+
+      fits : PiecesFit r e
+      fits = pieces-fit m r e h none once
+
+      f : CodonsFit r
+      f = codons-fit (m .longest) r (none-refused m r e h .0) none once
+
+      v : Span (r .cs - 1) (size r) (cutSwap r e)
+      v = cut-span m r e h
+
+      long : length M ≡ tailOf r e - headOf r e
+      long = length-middle m r e h none once l
+
+      inside : (q : keepsAll r e ≡ false) → length (alteredProtein r e) ≡ tailOf r e + (length R - backOf r e) → (k : ℕ) → tailOf r e ≤ k → k < readCodons r e → backOf r e + (k - tailOf r e) < codons r
+      inside q whole k x y = at (eqb (r .end) atStop) refl
+        where
+          at : (b : Bool) → eqb (r .end) atStop ≡ b → backOf r e + (k - tailOf r e) < codons r
+          at true z = omega (arith, f .whole (eqb-true (r .end) atStop z), resumes-if m r e h q l .left)
+          at false z =
+              let last = cut-ends (m .longest) r (none-refused m r e h .0) z in
+              omega (arith, still-inside (r .cs - 1) (cutSwap r e .from) (length (cutSwap r e .put)) (cutSwap r e .to) (size r) (tailOf r e) (backOf r e) k (v .front) (v .ends) (resumes-if m r e h q l .at) x (omega (arith, length-coding m r e h)), begins m r e h)
+
+      by : (q : Bool) → keepsAll r e ≡ q → Dec (beforeStop M < length M) → lookedUp r e ≡ length (throughStop M)
+      by true q d = let none : tailOf r e - headOf r e ≡ 0 = rw q (omega arith) in none-looked q ∙ omega (arith, through-le M, long)
+      by false q (yes d) =
+          let n = readCodons r e in
+          let whole : length (alteredProtein r e) ≡ headOf r e + length (throughStop M) = ap length (pieces-stopped m r e h none once l d) ∙ length-append (take (headOf r e) R) (throughStop M) ∙ ap (λ (k : ℕ). k + length (throughStop M)) long-head in
+          let read : n ≡ headOf r e + length (throughStop M) = omega (arith, whole, through-le M, long, fits .tail l, fits .rises l) in
+          count-between (looks r e) (headOf r e) n n (omega arith) (omega arith)
+          (record { below = head-reused m r e h q none; between = λ k x y. middle-read m r e h q k x (omega (arith, through-le M, long, fits .rises l)); behind = λ k x y. absurd (omega arith) }) ∙ omega arith
+      by false q (no d) =
+          let n = readCodons r e in
+          let kept : throughStop M ≡ M = through-all M (omega arith) in
+          let short : length (throughStop M) ≡ tailOf r e - headOf r e = ap length kept ∙ long in
+          let whole : length (alteredProtein r e) ≡ tailOf r e + (length R - backOf r e) =
+          ap length (pieces-resumed m r e h none once l (omega arith))
+          ∙ length-append (take (headOf r e) R) (throughStop M ++ drop (backOf r e) R)
+          ∙ omega (arith, long-head, length-append (throughStop M) (drop (backOf r e) R), length-drop (backOf r e) R, short, fits .rises l) in
+          let read : tailOf r e ≤ n = omega (arith, whole, fits .tail l) in
+          count-between (looks r e) (headOf r e) (tailOf r e) n (fits .rises l) read
+          (record { below = head-reused m r e h q none; between = λ k x y. middle-read m r e h q k x y; behind = λ k x y. tail-reused m r e h q none l k x (inside q whole k x y) }) ∙ omega arith
+
+  -- an identity looks up none
+  pub identity-looks : is Identity (kindOf e) ≡ true → lookedUp r e ≡ 0
+  unfolding keepsAll
+  identity-looks i = none-looked (rw i)
+
+-- with exceptions every whole codon through the first stop is looked up
+pub excepted-looks : (r : Reference) (e : Asked) → (length (r .exceptions) ≡ 0 → ⊥) → lookedUp r e ≡ readCodons r e
+unfolding lookedUp
+excepted-looks r e d =
+    let n = readCodons r e in
+    count-between (looks r e) 0 n n (omega arith) (omega arith)
+    (record { below = λ k x. absurd (omega arith); between = λ k x y. ap not (read-excepted r e k d); behind = λ k x y. absurd (omega arith) }) ∙ omega arith
