@@ -22,6 +22,7 @@ pub mod Protein
 pub mod Silent
 pub mod Pieces
 pub mod Looked
+pub mod Substituted
 pub mod Answers
 pub mod KindNumbers
 pub mod Thirteen

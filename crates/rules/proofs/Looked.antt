@@ -49,6 +49,10 @@ count-between p a b (suc n) h k w = by (decLe b n) (decLe a n) (λ x y i j v. co
         rw (w .below n (omega arith))
         (f n n (omega arith) (omega arith) (record { below = λ x y. w .below x (omega arith); between = λ x y z. absurd (omega arith); behind = λ x y z. absurd (omega arith) }) ∙ omega arith)
 
+pub none-below : (p : ℕ → Bool) (n : ℕ) → ((k : ℕ) → k < n → p k ≡ false) → countTo p n ≡ 0
+none-below p n h =
+    count-between p n n n (omega arith) (omega arith) (record { below = h; between = λ k x y. absurd (omega arith); behind = λ k x y. absurd (omega arith) }) ∙ omega arith
+
 -- which codons are reused
 module _ (r : Reference) (e : Asked) (k : ℕ) where
   abbrev at : ℕ
@@ -65,7 +69,7 @@ module _ (r : Reference) (e : Asked) (k : ℕ) where
       rw (eq-eqb (i % 3) ((r .cs - 1) % 3) (omega arith), le-leb (i + 3) (r .ce) (omega arith))
 
   -- without exceptions an identity's CDS codon is reused
-  reused-identity : r .exceptions ≡ [] → 1 ≤ r .cs → is Identity (kindOf e) ≡ true → k < codons r → isReused r e k ≡ true
+  pub reused-identity : r .exceptions ≡ [] → 1 ≤ r .cs → is Identity (kindOf e) ≡ true → k < codons r → isReused r e k ≡ true
   unfolding isReused
   reused-identity none b i l =
       let inside : isOfCds r at ≡ true = of-cds-if at k refl b l in
@@ -73,7 +77,7 @@ module _ (r : Reference) (e : Asked) (k : ℕ) where
       rw (plain, index-is, i, inside)
 
   -- so is a CDS codon wholly before the edit
-  reused-before : r .exceptions ≡ [] → 1 ≤ r .cs → at + 3 ≤ cutSwap r e .from → k < codons r → isReused r e k ≡ true
+  pub reused-before : r .exceptions ≡ [] → 1 ≤ r .cs → at + 3 ≤ cutSwap r e .from → k < codons r → isReused r e k ≡ true
   unfolding isReused liesBefore
   reused-before none b i l =
       let inside : isOfCds r at ≡ true = of-cds-if at k refl b l in
@@ -85,7 +89,7 @@ module _ (r : Reference) (e : Asked) (k : ℕ) where
       by false = refl
 
   -- and one wholly behind it that was codon j of the CDS
-  reused-behind : (j : ℕ) → r .exceptions ≡ [] → 1 ≤ r .cs → cutSwap r e .from + length (cutSwap r e .put) ≤ at
+  pub reused-behind : (j : ℕ) → r .exceptions ≡ [] → 1 ≤ r .cs → cutSwap r e .from + length (cutSwap r e .put) ≤ at
       → at + cutSwap r e .to ≡ r .cs - 1 + j * 3 + (cutSwap r e .from + length (cutSwap r e .put)) → j < codons r → isReused r e k ≡ true
   unfolding isReused liesBehind origin
   reused-behind j none b i q l =
@@ -231,11 +235,7 @@ module _ (m : Limits) (r : Reference) (e : Asked) (h : refusal m r e ≡ 0) (non
 
   none-looked : keepsAll r e ≡ true → lookedUp r e ≡ 0
   unfolding lookedUp
-  none-looked q =
-      let n = readCodons r e in
-      let few = few-kept q in
-      count-between (looks r e) n n n (omega arith) (omega arith)
-      (record { below = λ k x. kept-reused q k (omega arith); between = λ k x y. absurd (omega arith); behind = λ k x y. absurd (omega arith) }) ∙ omega arith
+  none-looked q = let few = few-kept q in none-below (looks r e) (readCodons r e) (λ k x. kept-reused q k (omega arith))
 
   -- R goes on behind the edit: the codons between are read, through the first stop
   pub looked-middle : isLevel r e ≡ true → lookedUp r e ≡ length (throughStop (middle r e))

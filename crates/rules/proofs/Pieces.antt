@@ -66,6 +66,10 @@ none-moved : (r : Reference) (new : List ℕ) → r .exceptions ≡ [] → moved
 unfolding movedExceptions movedAll
 none-moved r new h = rw h
 
+pub read-plain : (r : Reference) (e : Asked) → r .exceptions ≡ [] → alteredProtein r e ≡ throughStop (translated (r .table) [] (alteredCoding r e))
+unfolding alteredProtein proteinOf alteredCoding
+read-plain r e none = rw (none-moved r (alteredTranscript r e) none)
+
 pub identity-only : (k : Kind) → is Identity k ≡ true → k ≡ Identity
 identity-only Substitution h = let z : _≡_ {A = ℕ} 0 1 = cc in absurd (omega arith)
 identity-only Deletion h = let z : _≡_ {A = ℕ} 0 1 = cc in absurd (omega arith)
@@ -278,10 +282,6 @@ module _ (m : Limits) (r : Reference) (e : Asked) (h : refusal m r e ≡ 0) (non
   inside : cutSwap r e .from ≤ size r
   inside = let v = cut-span m r e h in omega (arith, v .rising, v .ends)
 
-  read-plain : alteredProtein r e ≡ throughStop (translated (r .table) [] (alteredCoding r e))
-  unfolding alteredProtein proteinOf alteredCoding
-  read-plain = rw (none-moved r (alteredTranscript r e) none)
-
   -- k codons before the edit are R's
   front-kept : (k : ℕ) → k ≤ codons r → r .cs - 1 + k * 3 ≤ cutSwap r e .from
       → translated (r .table) [] (alteredCoding r e) ≡ take k (referenceProtein r) ++ translated (r .table) [] (drop (k * 3) (alteredCoding r e))
@@ -296,7 +296,7 @@ module _ (m : Limits) (r : Reference) (e : Asked) (h : refusal m r e ≡ 0) (non
   read-behind : keepsAll r e ≡ false → alteredProtein r e ≡ take (headOf r e) (referenceProtein r) ++ throughStop (translated (r .table) [] (drop (headOf r e * 3) (alteredCoding r e)))
   read-behind q =
       let x = reads-if m r e h q in
-      read-plain
+      read-plain r e none
       ∙ ap throughStop (front-kept (headOf r e) (x .few) (x .before))
       ∙ through-goes (take (headOf r e) (referenceProtein r)) _
       (head-stopless (m .longest) r accepts none once (headOf r e) (omega (arith, x .few, fit .residues)) (λ z. omega (arith, x .short z, fit .residues)))
@@ -304,7 +304,7 @@ module _ (m : Limits) (r : Reference) (e : Asked) (h : refusal m r e ≡ 0) (non
   -- an edit that reads no codon leaves R
   identity-kept : is Identity (kindOf e) ≡ true → alteredProtein r e ≡ referenceProtein r
   identity-kept i =
-      read-plain
+      read-plain r e none
       ∙ ap (λ (s : List ℕ). throughStop (translated (r .table) [] s)) (identity-coding m r e h i)
       ∙ own-plain (m .longest) r accepts none once
 
@@ -315,7 +315,7 @@ module _ (m : Limits) (r : Reference) (e : Asked) (h : refusal m r e ≡ 0) (non
       let p = protein-read (m .longest) r accepts in
       let b = reference-accepted m r e h .bounds in
       let all : take (codons r) R ≡ R = take-all (codons r) R (omega (arith, fit .whole z)) in
-      read-plain
+      read-plain r e none
       ∙ ap throughStop (front-kept (codons r) (omega arith) (omega (arith, b .first, b .rising)) ∙ ap (λ (l : List ℕ). l ++ translated (r .table) [] (drop (codons r * 3) (alteredCoding r e))) all)
       ∙ through-last R _ (omega (arith, p .two)) (p .last z) once
 
