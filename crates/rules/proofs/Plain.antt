@@ -3,16 +3,17 @@
 use mathlib.Core.Path.{_≡_, refl, sym, ap, _∙_}
 use mathlib.Core.Bool.{Bool, true, false}
 use mathlib.Core.List.{List, [], _∷_, _++_, append-nil}
-use Prim.Native.Nat.{ℕ, zero, suc, _+_, _-_, _*_, _/_, _%_, _≤_, _<_}
+use Prim.Native.Nat.{ℕ, zero, suc, _+_, _-_, _*_, _/_, _%_, _≤_, _<_, zero-le}
+use native.Mathlib.Decide.{decLt}
 use native.Mathlib.Omega.{arith}
 use lib.Dec.{eqb}
 use lib.ListN.{length, getD, take, drop, take-append-drop, length-drop}
-use lib.Seq.{length-take-le, take-at, drop-at, take-append-le}
-use borrow.Author.Tests.{eqb-true}
+use lib.Seq.{length-take-le, take-at, drop-at, take-append-le, getD-take}
+use borrow.Author.Tests.{eqb-true, eq-eqb}
 use Rattle.rules.specs.Bytes.{byte, if_then_else_}
 use Rattle.rules.specs.Codons.{codon}
 use Rattle.rules.specs.Translation.{excepted, residuesFrom, translated, residueCount, beforeStop, throughStop}
-use Rattle.rules.proofs.Translation.{length-translated, through-is}
+use Rattle.rules.proofs.Translation.{length-translated, through-is, length-through}
 use Rattle.rules.proofs.Reading.{translated-append, before-append}
 
 module _ (t : ℕ) where
@@ -75,3 +76,48 @@ none-stops (x ∷ s) h = by (eqb x (byte "*")) refl (none-stops s (λ j l z. h (
     by : (b : Bool) → eqb x (byte "*") ≡ b → length s ≤ beforeStop s → suc (length s) ≤ (if b then 0 else suc (beforeStop s))
     by true q k = absurd (h 0 (omega arith) (eqb-true x (byte "*") q))
     by false q k = omega arith
+
+-- a `*` is no earlier than the first
+pub before-at : (xs : List ℕ) (j : ℕ) → getD xs j 0 ≡ byte "*" → beforeStop xs ≤ j
+unfolding beforeStop
+before-at [] j z = zero-le
+before-at (x ∷ xs) zero z = rw (eq-eqb x (byte "*") z) zero-le
+before-at (x ∷ xs) (suc j) z = by (eqb x (byte "*")) (before-at xs j z)
+  where
+    by : (b : Bool) → beforeStop xs ≤ j → (if b then 0 else suc (beforeStop xs)) ≤ suc j
+    by true h = zero-le
+    by false h = omega arith
+
+stop-at : (xs : List ℕ) → beforeStop xs < length xs → getD xs (beforeStop xs) 0 ≡ byte "*"
+unfolding beforeStop
+stop-at [] h = absurd (omega arith)
+stop-at (x ∷ xs) h = by (eqb x (byte "*")) refl h (stop-at xs)
+  where
+    by : (b : Bool) → eqb x (byte "*") ≡ b → (if b then 0 else suc (beforeStop xs)) < suc (length xs) → (beforeStop xs < length xs → getD xs (beforeStop xs) 0 ≡ byte "*")
+        → getD (x ∷ xs) (if b then 0 else suc (beforeStop xs)) 0 ≡ byte "*"
+    by true q k f = eqb-true x (byte "*") q
+    by false q k f = f (omega arith)
+
+-- the last residue that is read tells whether a stop was: `*`, or another
+module _ (xs : List ℕ) where
+  abbrev last : ℕ
+  last = getD (throughStop xs) (length (throughStop xs) - 1) 0
+
+  pub last-stops : 1 ≤ length xs → last ≡ byte "*" → beforeStop xs < length xs
+  last-stops some z = by (decLt (beforeStop xs) (length xs))
+    where
+      by : Dec (beforeStop xs < length xs) → beforeStop xs < length xs
+      by (yes h) = h
+      by (no h) =
+          let all : throughStop xs ≡ xs = through-all xs (omega arith) in
+          absurd (omega (arith, before-at xs (length xs - 1) (ap (λ (l : List ℕ). getD l (length l - 1) 0) (sym all) ∙ z)))
+
+  pub last-goes : (last ≡ byte "*" → ⊥) → length xs ≤ beforeStop xs
+  last-goes d = by (decLt (beforeStop xs) (length xs))
+    where
+      by : Dec (beforeStop xs < length xs) → length xs ≤ beforeStop xs
+      by (no h) = omega arith
+      by (yes h) =
+          let n : ℕ = beforeStop xs in
+          let long : length (throughStop xs) - 1 ≡ n = omega (arith, length-through xs) in
+          absurd (d (ap (λ (k : ℕ). getD (throughStop xs) k 0) long ∙ ap (λ (l : List ℕ). getD l n 0) (through-is xs) ∙ getD-take (suc n) xs n 0 (omega arith) ∙ stop-at xs h))

@@ -8,12 +8,12 @@ use native.Mathlib.Decide.{decLe, decLt}
 use native.Mathlib.Omega.{arith}
 use lib.Dec.{eqb, leb}
 use lib.ListN.{length, getD}
-use borrow.Author.Tests.{eq-eqb, eqb-true, leb-true}
+use borrow.Author.Tests.{eqb-true, leb-true}
 use Rattle.rules.specs.declared.Kind.{Kind}
 use Rattle.rules.specs.declared.Kind.the-variants.{Substitution, Deletion, Delins, Insertion, Duplication, Inversion, Identity, Other}
 use Rattle.rules.specs.Bytes.{byte, if_then_else_, all}
 use Rattle.rules.specs.Letters.{isLetter}
-use Rattle.rules.specs.Translation.{translated, beforeStop, throughStop}
+use Rattle.rules.specs.Translation.{translated}
 use Rattle.rules.specs.Reference.{Reference, atStop, size, cdsSize, codons}
 use Rattle.rules.specs.Edit.{Asked, is, kindOf, startIndex, endIndex, areNewBases, fitBases}
 use Rattle.rules.specs.Altered.{swapBy, swap, kept, cutSwap}
@@ -23,6 +23,7 @@ use Rattle.rules.specs.declared.Limits.{Limits}
 use Rattle.rules.specs.Refusal.{refusal}
 use Rattle.rules.proofs.Tests.{and-left, and-right}
 use Rattle.rules.proofs.Translation.{length-through}
+use Rattle.rules.proofs.Plain.{before-at}
 use Rattle.rules.proofs.Refusal.{none-refused, reference-accepted, edit-allowed}
 use Rattle.rules.proofs.Span.{indexes}
 use Rattle.rules.proofs.Pieces.{read-plain, cut-ends, length-coding}
@@ -41,17 +42,6 @@ at-most-one p m (suc n) h = by (decLt m n) (at-most-one p m n (λ k l q. h k (om
         rest : (t : Bool) → countTo p n ≡ 0 → (if t then suc (countTo p n) else countTo p n) ≤ 1
         rest true q = omega arith
         rest false q = omega arith
-
--- a `*` is no earlier than the first
-before-at : (xs : List ℕ) (j : ℕ) → getD xs j 0 ≡ byte "*" → beforeStop xs ≤ j
-unfolding beforeStop
-before-at [] j z = zero-le
-before-at (x ∷ xs) zero z = rw (eq-eqb x (byte "*") z) zero-le
-before-at (x ∷ xs) (suc j) z = by (eqb x (byte "*")) (before-at xs j z)
-  where
-    by : (b : Bool) → beforeStop xs ≤ j → (if b then 0 else suc (beforeStop xs)) ≤ suc j
-    by true h = zero-le
-    by false h = omega arith
 
 substitution-only : (k : Kind) → is Substitution k ≡ true → k ≡ Substitution
 substitution-only Substitution h = refl
