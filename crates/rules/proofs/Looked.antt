@@ -133,6 +133,26 @@ in-frame first at h k = omega arith
 still-inside : (first from p to L t b k : ℕ) → first ≤ from → to ≤ L → first + t * 3 + to ≡ first + b * 3 + (from + p) → t ≤ k → k < (from + (p + (L - to)) - first) / 3 → b + (k - t) < (L - first) / 3
 still-inside first from p to L t b k a c q l i = omega arith
 
+still-counted : (t b k R n : ℕ) → R ≡ n → t ≤ k → k < t + (R - b) → b < n → b + (k - t) < n
+still-counted t b k R n q l i j = omega arith
+
+codons-of : (r : Reference) → 1 ≤ r .cs → r .ce ≡ size r → (n : ℕ) → n < (size r - (r .cs - 1)) / 3 → n < codons r
+unfolding codons cdsSize
+codons-of r h q n l = omega arith
+
+le-at : (k a b : ℕ) → a ≡ b → k < a / 3 → k < b / 3
+le-at k a b q h = omega arith
+
+less : (a b c : ℕ) → a < b → b ≤ c → a < c
+less a b c h k = omega arith
+
+-- through a stop in the middle, or on behind it
+read-so-many : (A head few tail U : ℕ) → A ≡ head + few → few ≤ tail - head → head ≤ tail → tail * 3 ≤ U → min A (U / 3) ≡ head + few
+read-so-many A head few tail U q l i j = omega arith
+
+read-past : (A tail more U : ℕ) → A ≡ tail + more → tail * 3 ≤ U → (min A (U / 3) ≤ tail + more) × (min A (U / 3) ≤ U / 3) × (tail ≤ min A (U / 3))
+read-past A tail more U q l = (omega arith, omega arith, omega arith)
+
 -- the codons that are looked up
 abbrev pub looks : Reference → Asked → ℕ → Bool
 looks r e k = not (isReused r e k)
@@ -237,57 +257,71 @@ module _ (m : Limits) (r : Reference) (e : Asked) (h : refusal m r e ≡ 0) (non
   unfolding lookedUp
   none-looked q = let few = few-kept q in none-below (looks r e) (readCodons r e) (λ k x. kept-reused q k (omega arith))
 
-  -- R goes on behind the edit: the codons between are read, through the first stop
-  pub looked-middle : isLevel r e ≡ true → lookedUp r e ≡ length (throughStop (middle r e))
-  unfolding lookedUp readCodons headOf tailOf codons cdsSize size
-  looked-middle l = by (keepsAll r e) refl (decLt (beforeStop (middle r e)) (length (middle r e)))
+  -- R goes on behind the edit, and isn't left again
+  tail-inside : keepsAll r e ≡ false → isLevel r e ≡ true → (k : ℕ) → tailOf r e ≤ k → k < tailOf r e + (length (referenceProtein r) - backOf r e) → k < length (alteredCoding r e) / 3
+      → backOf r e + (k - tailOf r e) < codons r
+  tail-inside q l k x y z = by (eqb (r .end) atStop) refl
     where
-      R : List ℕ
-      R = referenceProtein r
-
-      M : List ℕ
-      M = middle r e
-
-      fits : PiecesFit r e
-      fits = pieces-fit m r e h none once
-
       f : CodonsFit r
       f = codons-fit (m .longest) r (none-refused m r e h .0) none once
 
-      v : Span (r .cs - 1) (size r) (cutSwap r e)
-      v = cut-span m r e h
+      o : Resumes r e
+      o = resumes-if m r e h q l
 
-      long : length M ≡ tailOf r e - headOf r e
-      long = length-middle m r e h none once l
+      by : (b : Bool) → eqb (r .end) atStop ≡ b → backOf r e + (k - tailOf r e) < codons r
+      by true i = still-counted (tailOf r e) (backOf r e) k (length (referenceProtein r)) (codons r) (f .whole (eqb-true (r .end) atStop i)) x y (o .left)
+      by false i =
+          let v = cut-span m r e h in
+          codons-of r (begins m r e h) (cut-ends (m .longest) r (none-refused m r e h .0) i) _
+          (still-inside (r .cs - 1) (cutSwap r e .from) (length (cutSwap r e .put)) (cutSwap r e .to) (size r) (tailOf r e) (backOf r e) k (v .front) (v .ends) (o .at) x
+          (le-at _ _ _ (length-coding m r e h) z))
 
-      inside : (q : keepsAll r e ≡ false) → length (alteredProtein r e) ≡ tailOf r e + (length R - backOf r e) → (k : ℕ) → tailOf r e ≤ k → k < readCodons r e → backOf r e + (k - tailOf r e) < codons r
-      inside q whole k x y = at (eqb (r .end) atStop) refl
-        where
-          at : (b : Bool) → eqb (r .end) atStop ≡ b → backOf r e + (k - tailOf r e) < codons r
-          at true z = omega (arith, f .whole (eqb-true (r .end) atStop z), resumes-if m r e h q l .left)
-          at false z =
-              let last = cut-ends (m .longest) r (none-refused m r e h .0) z in
-              omega (arith, still-inside (r .cs - 1) (cutSwap r e .from) (length (cutSwap r e .put)) (cutSwap r e .to) (size r) (tailOf r e) (backOf r e) k (v .front) (v .ends) (resumes-if m r e h q l .at) x (omega (arith, length-coding m r e h)), begins m r e h)
+  -- the codons between are read, through the first stop
+  middle-stopped : keepsAll r e ≡ false → isLevel r e ≡ true → beforeStop (middle r e) < length (middle r e) → lookedUp r e ≡ length (throughStop (middle r e))
+  unfolding lookedUp readCodons
+  middle-stopped q l d =
+      let M = middle r e in
+      let R = referenceProtein r in
+      let n = readCodons r e in
+      let fits = pieces-fit m r e h none once in
+      let few : length (throughStop M) ≤ tailOf r e - headOf r e = omega (arith, through-le M, length-middle m r e h none once l) in
+      let whole : length (alteredProtein r e) ≡ headOf r e + length (throughStop M) = ap length (pieces-stopped m r e h none once l d) ∙ length-append (take (headOf r e) R) (throughStop M) ∙ ap (λ (k : ℕ). k + length (throughStop M)) long-head in
+      let read : n ≡ headOf r e + length (throughStop M) = read-so-many (length (alteredProtein r e)) (headOf r e) (length (throughStop M)) (tailOf r e) (length (alteredCoding r e)) whole few (fits .rises l) (fits .tail l) in
+      ap (countTo (looks r e)) read
+      ∙ count-between (looks r e) (headOf r e) (headOf r e + length (throughStop M)) (headOf r e + length (throughStop M)) (omega arith) (omega arith)
+      (record { below = head-reused m r e h q none; between = λ k x y. middle-read m r e h q k x (omega (arith, fits .rises l)); behind = λ k x y. absurd (omega arith) }) ∙ omega arith
 
-      by : (q : Bool) → keepsAll r e ≡ q → Dec (beforeStop M < length M) → lookedUp r e ≡ length (throughStop M)
-      by true q d = let none : tailOf r e - headOf r e ≡ 0 = rw q (omega arith) in none-looked q ∙ omega (arith, through-le M, long)
-      by false q (yes d) =
-          let n = readCodons r e in
-          let whole : length (alteredProtein r e) ≡ headOf r e + length (throughStop M) = ap length (pieces-stopped m r e h none once l d) ∙ length-append (take (headOf r e) R) (throughStop M) ∙ ap (λ (k : ℕ). k + length (throughStop M)) long-head in
-          let read : n ≡ headOf r e + length (throughStop M) = omega (arith, whole, through-le M, long, fits .tail l, fits .rises l) in
-          count-between (looks r e) (headOf r e) n n (omega arith) (omega arith)
-          (record { below = head-reused m r e h q none; between = λ k x y. middle-read m r e h q k x (omega (arith, through-le M, long, fits .rises l)); behind = λ k x y. absurd (omega arith) }) ∙ omega arith
-      by false q (no d) =
-          let n = readCodons r e in
-          let kept : throughStop M ≡ M = through-all M (omega arith) in
-          let short : length (throughStop M) ≡ tailOf r e - headOf r e = ap length kept ∙ long in
-          let whole : length (alteredProtein r e) ≡ tailOf r e + (length R - backOf r e) =
-          ap length (pieces-resumed m r e h none once l (omega arith))
-          ∙ length-append (take (headOf r e) R) (throughStop M ++ drop (backOf r e) R)
-          ∙ omega (arith, long-head, length-append (throughStop M) (drop (backOf r e) R), length-drop (backOf r e) R, short, fits .rises l) in
-          let read : tailOf r e ≤ n = omega (arith, whole, fits .tail l) in
-          count-between (looks r e) (headOf r e) (tailOf r e) n (fits .rises l) read
-          (record { below = head-reused m r e h q none; between = λ k x y. middle-read m r e h q k x y; behind = λ k x y. tail-reused m r e h q none l k x (inside q whole k x y) }) ∙ omega arith
+  middle-resumed : keepsAll r e ≡ false → isLevel r e ≡ true → length (middle r e) ≤ beforeStop (middle r e) → lookedUp r e ≡ length (throughStop (middle r e))
+  unfolding lookedUp readCodons
+  middle-resumed q l d =
+      let M = middle r e in
+      let R = referenceProtein r in
+      let n = readCodons r e in
+      let fits = pieces-fit m r e h none once in
+      let short : length (throughStop M) ≡ tailOf r e - headOf r e = ap length (through-all M d) ∙ length-middle m r e h none once l in
+      let whole : length (alteredProtein r e) ≡ tailOf r e + (length R - backOf r e) =
+      ap length (pieces-resumed m r e h none once l d)
+      ∙ length-append (take (headOf r e) R) (throughStop M ++ drop (backOf r e) R)
+      ∙ omega (arith, long-head, length-append (throughStop M) (drop (backOf r e) R), length-drop (backOf r e) R, fits .rises l) in
+      let within : (n ≤ tailOf r e + (length R - backOf r e)) × (n ≤ length (alteredCoding r e) / 3) × (tailOf r e ≤ n) = read-past (length (alteredProtein r e)) (tailOf r e) (length R - backOf r e) (length (alteredCoding r e)) whole (fits .tail l) in
+      count-between (looks r e) (headOf r e) (tailOf r e) n (fits .rises l) (within .2)
+      (record {
+        below = head-reused m r e h q none;
+        between = λ k x y. middle-read m r e h q k x y;
+        behind = λ k x y. tail-reused m r e h q none l k x (tail-inside q l k x (less k n _ y (within .0)) (less k n _ y (within .1)));
+      })
+      ∙ sym short
+
+  pub looked-middle : isLevel r e ≡ true → lookedUp r e ≡ length (throughStop (middle r e))
+  unfolding headOf tailOf
+  looked-middle l = by (keepsAll r e) refl (decLt (beforeStop (middle r e)) (length (middle r e)))
+    where
+      by : (q : Bool) → keepsAll r e ≡ q → Dec (beforeStop (middle r e) < length (middle r e)) → lookedUp r e ≡ length (throughStop (middle r e))
+      by true q d =
+          let same : tailOf r e - headOf r e ≡ 0 = rw q (omega arith) in
+          none-looked q ∙ omega (arith, through-le (middle r e), length-middle m r e h none once l)
+      by false q (yes d) = middle-stopped q l d
+      by false q (no d) = middle-resumed q l (omega arith)
 
   -- an identity looks up none
   pub identity-looks : is Identity (kindOf e) ≡ true → lookedUp r e ≡ 0
