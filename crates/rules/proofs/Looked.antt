@@ -53,8 +53,21 @@ pub none-below : (p : ℕ → Bool) (n : ℕ) → ((k : ℕ) → k < n → p k �
 none-below p n h =
     count-between p n n n (omega arith) (omega arith) (record { below = h; between = λ k x y. absurd (omega arith); behind = λ k x y. absurd (omega arith) }) ∙ omega arith
 
+-- one of the CDS is in its frame, and wholly inside it
+of-cds : (r : Reference) (i : ℕ) → isOfCds r i ≡ true → (i % 3 ≡ (r .cs - 1) % 3) × (i + 3 ≤ r .ce)
+unfolding isOfCds inFrame
+of-cds r i c =
+    let frame = eqb (i % 3) ((r .cs - 1) % 3) in
+    let fits = leb (i + 3) (r .ce) in
+    (eqb-true (i % 3) ((r .cs - 1) % 3) (and-left frame fits c), leb-true (i + 3) (r .ce) (and-right frame fits c))
+
 -- which codons are reused
 module _ (r : Reference) (e : Asked) (k : ℕ) where
+  -- with exceptions none is
+  read-excepted : (length (r .exceptions) ≡ 0 → ⊥) → isReused r e k ≡ false
+  unfolding isReused
+  read-excepted d = rw (ne-eqb (length (r .exceptions)) 0 d)
+
   abbrev at : ℕ
   at = r .cs - 1 + k * 3
 
@@ -116,11 +129,6 @@ module _ (r : Reference) (e : Asked) (k : ℕ) where
   unfolding liesBehind
   read-touched i l q = read-if i l (rw (lt-leb (cutSwap r e .from + length (cutSwap r e .put)) at q) refl)
 
-  -- with exceptions none is
-  read-excepted : (length (r .exceptions) ≡ 0 → ⊥) → isReused r e k ≡ false
-  unfolding isReused
-  read-excepted d = rw (ne-eqb (length (r .exceptions)) 0 d)
-
 -- codon k at index first + 3k, behind what ends at q, and codon j that lies as far behind `to`
 tail-numbers : (first q to k j t : ℕ) → first ≤ q → first ≤ to → q ≤ first + k * 3 → first + k * 3 + to ≡ first + j * 3 + q → t ≡ (q - first + 2) / 3
     → (q % 3 ≡ to % 3) × (t ≤ k) × ((t * 3 + to - q) / 3 + (k - t) ≡ j)
@@ -163,7 +171,7 @@ module _ (m : Limits) (r : Reference) (e : Asked) (h : refusal m r e ≡ 0) wher
 
   -- where one behind the edit was one of the CDS, R goes on
   level-if : (k : ℕ) → keepsAll r e ≡ false → liesBehind (cutSwap r e) (r .cs - 1 + k * 3) ≡ true → isOfCds r (origin (cutSwap r e) (r .cs - 1 + k * 3)) ≡ true → isLevel r e ≡ true
-  unfolding isLevel behindPut liesBehind isOfCds inFrame origin codons cdsSize
+  unfolding isLevel behindPut liesBehind origin codons cdsSize
   level-if k q z c =
       let v = cut-span m r e h in
       let x = reads-if m r e h q in
@@ -171,10 +179,9 @@ module _ (m : Limits) (r : Reference) (e : Asked) (h : refusal m r e ≡ 0) wher
       let end = cutSwap r e .from + length (cutSwap r e .put) in
       let l : end ≤ first + k * 3 = leb-true end (first + k * 3) z in
       let old : ℕ = first + k * 3 + cutSwap r e .to - end in
-      let frame = eqb (old % 3) (first % 3) in
-      let fits = leb (old + 3) (r .ce) in
-      let place = in-frame first old (omega (arith, v .front, v .rising)) (eqb-true (old % 3) (first % 3) (and-left frame fits c)) in
-      let last : old + 3 ≤ r .ce = leb-true (old + 3) (r .ce) (and-right frame fits c) in
+      let i = of-cds r old c in
+      let place = in-frame first old (omega (arith, v .front, v .rising)) (i .0) in
+      let last : old + 3 ≤ r .ce = i .1 in
       let n = tail-numbers first end (cutSwap r e .to) k ((old - first) / 3) (tailOf r e) (omega (arith, v .front)) (omega (arith, v .front, v .rising)) l (omega arith) (x .tail-is) in
       rw (q, eq-eqb (end % 3) (cutSwap r e .to % 3) (n .0), lt-ltb (backOf r e) (codons r) (omega (arith, n .2, x .back-is, begins)))
 

@@ -2,28 +2,32 @@
 -- Assumes nothing.
 use mathlib.Core.Path.{_≡_, refl, sym, ap, _∙_}
 use mathlib.Core.Bool.{Bool, true, false, _&&_, _||_}
-use mathlib.Core.List.{List, [], _∷_, _++_}
+use mathlib.Core.List.{List, [], _∷_, _++_, append-assoc}
 use Prim.Native.Nat.{ℕ, suc, _+_, _-_, _*_, _/_, _%_, _≤_, _<_}
+use native.Mathlib.Decide.{decLt}
 use native.Mathlib.Omega.{arith}
 use lib.Dec.{eqb, leb, ltb}
-use lib.ListN.{length, getD, take, drop, length-drop, take-append-drop}
+use lib.ListN.{length, getD, take, drop, length-append, length-drop, take-append-drop}
 use lib.Seq.{length-take-le, take-all, take-append-le, drop-append-le, drop-append-add, take-take, drop-drop, drop-at, getD-take}
-use borrow.Author.Tests.{eqb-true, eqb-false, leb-true, leb-false, ltb-true}
+use borrow.Author.Tests.{eqb-true, eqb-false, leb-true, leb-false, ltb-true, ltb-false}
 use Rattle.rules.specs.declared.Exception.{Exception}
 use Rattle.rules.specs.declared.Kind.{Kind}
 use Rattle.rules.specs.declared.Kind.the-variants.{Substitution, Deletion, Delins, Insertion, Duplication, Inversion, Identity, Other}
 use Rattle.rules.specs.Bytes.{byte, if_then_else_, count}
 use Rattle.rules.specs.Translation.{translated, residueCount, beforeStop, throughStop}
+use Rattle.rules.specs.Trims.{commonPrefix}
 use Rattle.rules.specs.Reference.{Reference, atStop, isShortEnd, size, cdsSize, cds, codons, referenceProtein, isCutShort}
 use Rattle.rules.specs.Edit.{Asked, is, kindOf}
 use Rattle.rules.specs.Altered.{part, Swap, carried, cutSwap, alteredTranscript}
 use Rattle.rules.specs.Exceptions.{movedAll, movedExceptions}
 use Rattle.rules.specs.Protein.{proteinOf, alteredProtein}
 use Rattle.rules.specs.Reuse.{alteredCoding}
+use Rattle.rules.specs.Record.{isUnknown}
 use Rattle.rules.specs.Pieces.{keepsAll, behindPut, headOf, tailOf, backOf, isLevel, middle}
 use Rattle.rules.specs.declared.Limits.{Limits}
 use Rattle.rules.specs.Refusal.{refusal, referenceRefusal}
 use Rattle.rules.proofs.Tests.{and-left, and-right, or-left, or-right, and-implies}
+use Rattle.rules.proofs.Trims.{cp-append}
 use Rattle.rules.proofs.Translation.{length-translated}
 use Rattle.rules.proofs.Plain.{plain-append, plain-split, plain-count, plain-take, through-stopped, through-goes, through-all, none-stops}
 use Rattle.rules.proofs.Parts.{length-part}
@@ -212,47 +216,40 @@ resumes-at first from p to b h k q l = (omega arith, omega arith)
 module _ (m : Limits) (r : Reference) (e : Asked) (h : refusal m r e ≡ 0) where
   pub reads-if : keepsAll r e ≡ false → Reads r e
   unfolding keepsAll headOf tailOf backOf behindPut codons cdsSize
-  reads-if q = by (eqb (r .end) atStop) refl
+  reads-if q =
+      record {
+        other = or-left (is Identity (kindOf e)) (stop && past) q;
+        head-is = head-is;
+        tail-is = rw q;
+        back-is = rw q;
+        before = omega (arith, head-is, v .front);
+        few = ahead stop refl .0;
+        short = ahead stop refl .1;
+      }
     where
+      stop : Bool
+      stop = eqb (r .end) atStop
+
+      past : Bool
+      past = leb (r .ce) (cutSwap r e .from)
+
       v : Span (r .cs - 1) (size r) (cutSwap r e)
       v = cut-span m r e h
 
       b : Bounds r
       b = reference-accepted m r e h .bounds
 
-      other : is Identity (kindOf e) ≡ false
-      other = or-left (is Identity (kindOf e)) (eqb (r .end) atStop && leb (r .ce) (cutSwap r e .from)) q
-
-      inside : eqb (r .end) atStop ≡ true → cutSwap r e .from < r .ce
-      inside k = leb-false (r .ce) (cutSwap r e .from) (and-implies (eqb (r .end) atStop) _ (or-right (is Identity (kindOf e)) (eqb (r .end) atStop && leb (r .ce) (cutSwap r e .from)) q) k)
-
       head-is : headOf r e ≡ (cutSwap r e .from - (r .cs - 1)) / 3
       head-is = rw q
 
-      by : (k : Bool) → eqb (r .end) atStop ≡ k → Reads r e
-      by true k =
-          let less = inside k in
+      ahead : (k : Bool) → stop ≡ k → (headOf r e ≤ codons r) × (r .end ≡ atStop → headOf r e < codons r)
+      ahead true k =
+          let less : cutSwap r e .from < r .ce = leb-false (r .ce) (cutSwap r e .from) (and-implies stop past (or-right (is Identity (kindOf e)) (stop && past) q) k) in
           let whole = whole-codons r b (eqb-true (r .end) atStop k) in
-          record {
-            other = other;
-            head-is = head-is;
-            tail-is = rw q;
-            back-is = rw q;
-            before = omega (arith, head-is, v .front);
-            few = omega (arith, head-is, v .front, less);
-            short = λ z. omega (arith, head-is, v .front, less, whole, b .first);
-          }
-      by false k =
+          (omega (arith, head-is, v .front), λ z. omega (arith, head-is, v .front, b .first))
+      ahead false k =
           let last = cut-ends (m .longest) r (none-refused m r e h .0) k in
-          record {
-            other = other;
-            head-is = head-is;
-            tail-is = rw q;
-            back-is = rw q;
-            before = omega (arith, head-is, v .front);
-            few = omega (arith, head-is, v .front, v .rising, v .ends, last);
-            short = λ z. absurd (eqb-false (r .end) atStop k z);
-          }
+          (omega (arith, head-is, v .front, v .rising, v .ends), λ z. absurd (eqb-false (r .end) atStop k z))
 
   pub resumes-if : keepsAll r e ≡ false → isLevel r e ≡ true → Resumes r e
   unfolding isLevel behindPut
@@ -417,3 +414,40 @@ module _ (m : Limits) (r : Reference) (e : Asked) (h : refusal m r e ≡ 0) (non
           read-behind q
           ∙ ap (λ (t : List ℕ). take (headOf r e) R ++ t)
           (ap throughStop (split-behind q l) ∙ through-goes (middle r e) _ s ∙ rw (through-all (middle r e) s, back-kept (m .longest) r accepts none once (backOf r e) (resumes-if m r e h q l .left)))
+
+  -- R and A begin alike through `head`, and where R goes on they end alike from `back` and `tail` on: neither need be compared there.
+  begins-with : (X : List ℕ) → alteredProtein r e ≡ take (headOf r e) (referenceProtein r) ++ X
+      → commonPrefix (referenceProtein r) (alteredProtein r e) ≡ headOf r e + commonPrefix (drop (headOf r e) (referenceProtein r)) (drop (headOf r e) (alteredProtein r e))
+  begins-with X is =
+      let R = referenceProtein r in
+      let a = headOf r e in
+      let long : length (take a R) ≡ a = length-take-le a R (pieces-fit .head) in
+      let behind : drop a (alteredProtein r e) ≡ X = ap (drop a) is ∙ drop-at (take a R) X a long in
+      ap (λ (l : List ℕ). commonPrefix l (alteredProtein r e)) (sym (take-append-drop a R))
+      ∙ ap (commonPrefix (take a R ++ drop a R)) is
+      ∙ cp-append (take a R) (drop a R) X
+      ∙ rw (long, behind)
+
+  pub head-shared : commonPrefix (referenceProtein r) (alteredProtein r e) ≡ headOf r e + commonPrefix (drop (headOf r e) (referenceProtein r)) (drop (headOf r e) (alteredProtein r e))
+  head-shared = by (isLevel r e) refl (decLt (beforeStop (middle r e)) (length (middle r e)))
+    where
+      by : (l : Bool) → isLevel r e ≡ l → Dec (beforeStop (middle r e) < length (middle r e))
+          → commonPrefix (referenceProtein r) (alteredProtein r e) ≡ headOf r e + commonPrefix (drop (headOf r e) (referenceProtein r)) (drop (headOf r e) (alteredProtein r e))
+      by false l d = begins-with _ (pieces-read l)
+      by true l (yes d) = begins-with _ (pieces-stopped l d)
+      by true l (no d) = begins-with _ (pieces-resumed l (omega arith))
+
+  pub tail-shared : isLevel r e ≡ true → length (middle r e) ≤ beforeStop (middle r e) → drop (tailOf r e) (alteredProtein r e) ≡ drop (backOf r e) (referenceProtein r)
+  tail-shared l s =
+      let R = referenceProtein r in
+      let front = take (headOf r e) R ++ throughStop (middle r e) in
+      let long : length front ≡ tailOf r e =
+      length-append (take (headOf r e) R) (throughStop (middle r e))
+      ∙ omega (arith, length-take-le (headOf r e) R (pieces-fit .head), ap (λ (l : List ℕ). length l) (through-all (middle r e) s), length-middle l, pieces-fit .rises l) in
+      ap (drop (tailOf r e)) (pieces-resumed l s ∙ sym (append-assoc (take (headOf r e) R) (throughStop (middle r e)) (drop (backOf r e) R)))
+      ∙ drop-at front (drop (backOf r e) R) (tailOf r e) long
+
+-- an edit that isn't Unknown has an R with at most one stop
+pub known-once : (r : Reference) (e : Asked) → isUnknown r e ≡ false → count (byte "*") (referenceProtein r) ≤ 1
+unfolding isUnknown
+known-once r e h = ltb-false 1 (count (byte "*") (referenceProtein r)) (or-left (ltb 1 (count (byte "*") (referenceProtein r))) _ h)

@@ -18,7 +18,7 @@ use Rattle.rules.proofs.Reading.{translated-append, before-append}
 
 module _ (t : ℕ) where
   -- it doesn't matter at which number codons begin
-  any-number : (n m : ℕ) (s : List ℕ) → residuesFrom t [] n s ≡ residuesFrom t [] m s
+  pub any-number : (n m : ℕ) (s : List ℕ) → residuesFrom t [] n s ≡ residuesFrom t [] m s
   unfolding residuesFrom excepted
   any-number n m [] = refl
   any-number n m (a ∷ []) = refl
