@@ -53,6 +53,9 @@ pub none-below : (p : ℕ → Bool) (n : ℕ) → ((k : ℕ) → k < n → p k �
 none-below p n h =
     count-between p n n n (omega arith) (omega arith) (record { below = h; between = λ k x y. absurd (omega arith); behind = λ k x y. absurd (omega arith) }) ∙ omega arith
 
+off : (a b : Bool) → a ≡ false → (a && b) ≡ false
+off a b h = rw h
+
 -- one of the CDS is in its frame, and wholly inside it
 of-cds : (r : Reference) (i : ℕ) → isOfCds r i ≡ true → (i % 3 ≡ (r .cs - 1) % 3) × (i + 3 ≤ r .ce)
 unfolding isOfCds inFrame
@@ -66,7 +69,7 @@ module _ (r : Reference) (e : Asked) (k : ℕ) where
   -- with exceptions none is
   read-excepted : (length (r .exceptions) ≡ 0 → ⊥) → isReused r e k ≡ false
   unfolding isReused
-  read-excepted d = rw (ne-eqb (length (r .exceptions)) 0 d)
+  read-excepted d = off (eqb (length (r .exceptions)) 0) _ (ne-eqb (length (r .exceptions)) 0 d)
 
   abbrev at : ℕ
   at = r .cs - 1 + k * 3
