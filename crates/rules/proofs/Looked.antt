@@ -2,12 +2,12 @@
 -- Assumes nothing.
 use mathlib.Core.Path.{_≡_, refl, sym, ap, _∙_}
 use mathlib.Core.Bool.{Bool, true, false, _&&_, _||_, not}
-use mathlib.Core.List.{List, [], _∷_, _++_}
+use mathlib.Core.List.{List, [], _++_}
 use Prim.Native.Nat.{ℕ, zero, suc, _+_, _-_, _*_, _/_, _%_, _≤_, _<_, min}
 use native.Mathlib.Decide.{decLe, decLt}
 use native.Mathlib.Omega.{arith}
-use lib.Dec.{eqb, leb, ltb}
-use lib.ListN.{length, getD, take, drop, length-append, length-drop}
+use lib.Dec.{eqb, leb}
+use lib.ListN.{length, take, drop, length-append, length-drop}
 use lib.Seq.{length-take-le}
 use borrow.Author.Tests.{eq-eqb, ne-eqb, le-leb, lt-leb, lt-ltb, eqb-true, leb-true}
 use Rattle.rules.specs.declared.Kind.the-variants.{Identity}
@@ -26,8 +26,7 @@ use Rattle.rules.proofs.Tests.{and-left, and-right, or-left}
 use Rattle.rules.proofs.Translation.{through-le}
 use Rattle.rules.proofs.Plain.{through-all}
 use Rattle.rules.proofs.Refusal.{none-refused, reference-accepted}
-use Rattle.rules.proofs.Span.{Span}
-use Rattle.rules.proofs.Pieces.{or-cases, cut-ends, cut-span, length-coding, identity-coding, CodonsFit, codons-fit, Reads, reads-if, Resumes, resumes-if, PiecesFit, pieces-fit, length-middle, all-kept, pieces-read, pieces-stopped, pieces-resumed}
+use Rattle.rules.proofs.Pieces.{or-cases, cut-ends, cut-span, length-coding, identity-coding, CodonsFit, codons-fit, reads-if, Resumes, resumes-if, pieces-fit, length-middle, all-kept, pieces-read, pieces-stopped, pieces-resumed}
 
 -- the numbers from a to b pass, and no others below n
 record Between (p : ℕ → Bool) (a b n : ℕ) : Type 0 where

@@ -3,17 +3,17 @@
 use mathlib.Core.Path.{_≡_, refl, sym, ap, _∙_}
 use mathlib.Core.Bool.{Bool, true, false, _&&_, _||_}
 use mathlib.Core.List.{List, [], _∷_, _++_, append-assoc}
-use Prim.Native.Nat.{ℕ, suc, _+_, _-_, _*_, _/_, _%_, _≤_, _<_}
+use Prim.Native.Nat.{ℕ, zero, suc, _+_, _-_, _*_, _/_, _%_, _≤_, _<_}
 use native.Mathlib.Decide.{decLt}
 use native.Mathlib.Omega.{arith}
 use lib.Dec.{eqb, leb, ltb}
 use lib.ListN.{length, getD, take, drop, length-append, length-drop, take-append-drop}
-use lib.Seq.{length-take-le, take-all, take-append-le, drop-append-le, drop-append-add, take-take, drop-drop, drop-at, getD-take}
+use lib.Seq.{length-take-le, take-all, take-nil, take-append-le, take-append-add, drop-append-le, drop-append-add, take-take, drop-drop, drop-at, getD-take}
 use borrow.Author.Tests.{eqb-true, eqb-false, leb-true, leb-false, ltb-true, ltb-false}
 use Rattle.rules.specs.declared.Exception.{Exception}
 use Rattle.rules.specs.declared.Kind.{Kind}
 use Rattle.rules.specs.declared.Kind.the-variants.{Substitution, Deletion, Delins, Insertion, Duplication, Inversion, Identity, Other}
-use Rattle.rules.specs.Bytes.{byte, if_then_else_, count}
+use Rattle.rules.specs.Bytes.{byte, count}
 use Rattle.rules.specs.Translation.{translated, residueCount, beforeStop, throughStop}
 use Rattle.rules.specs.Trims.{commonPrefix}
 use Rattle.rules.specs.Reference.{Reference, atStop, isShortEnd, size, cdsSize, cds, codons, referenceProtein, isCutShort}
@@ -29,9 +29,9 @@ use Rattle.rules.specs.Refusal.{refusal, referenceRefusal}
 use Rattle.rules.proofs.Tests.{and-left, and-right, or-left, or-right, and-implies}
 use Rattle.rules.proofs.Trims.{cp-append}
 use Rattle.rules.proofs.Translation.{length-translated}
-use Rattle.rules.proofs.Plain.{plain-append, plain-split, plain-count, plain-take, through-stopped, through-goes, through-all, none-stops}
+use Rattle.rules.proofs.Plain.{plain-append, plain-split, plain-take, through-stopped, through-goes, through-all, none-stops}
 use Rattle.rules.proofs.Parts.{length-part}
-use Rattle.rules.proofs.Reference.{Bounds, accepted, length-cds, whole-codons, protein-read}
+use Rattle.rules.proofs.Reference.{Bounds, accepted, whole-codons, protein-read}
 use Rattle.rules.proofs.Refusal.{none-refused, reference-accepted}
 use Rattle.rules.proofs.Span.{Span, span}
 use Rattle.rules.proofs.Altered.{length-carried, identity-stays}
@@ -64,6 +64,41 @@ module _ (w : Swap) (s : List ℕ) (inside : w .from ≤ length s) where
       ∙ drop-append-add (w .put) (drop (w .to) s) n
       ∙ drop-drop n (w .to) s
       ∙ ap (λ (k : ℕ). drop k s) old
+
+-- the letters from a place before a swap on: those of the list, what is put in, those of the list
+drop-take : (a n : ℕ) (s : List ℕ) → drop a (take n s) ≡ take (n - a) (drop a s)
+drop-take zero n s = let all : n ≡ n - 0 = omega arith in ap (λ (k : ℕ). take k s) all
+drop-take (suc a) zero s = let none : 0 ≡ 0 - suc a = omega arith in ap (λ (k : ℕ). take k (drop (suc a) s)) none
+drop-take (suc a) (suc n) [] = sym (take-nil (suc n - suc a))
+drop-take (suc a) (suc n) (x ∷ s) = let same : n - a ≡ suc n - suc a = omega arith in drop-take a n s ∙ ap (λ (k : ℕ). take k (drop a s)) same
+
+module _ (w : Swap) (s : List ℕ) (inside : w .from ≤ length s) (a : ℕ) (front : a ≤ w .from) where
+  pub carried-from : drop a (carried w s) ≡ part a (w .from) s ++ (w .put ++ drop (w .to) s)
+  unfolding carried part
+  carried-from =
+      let long : length (take (w .from) s) ≡ w .from = length-take-le (w .from) s inside in
+      drop-append-le a (take (w .from) s) (w .put ++ drop (w .to) s) (omega arith)
+      ∙ ap (λ (l : List ℕ). l ++ (w .put ++ drop (w .to) s)) (drop-take a (w .from) s)
+
+  -- to a place behind it
+  pub carried-part : (b c : ℕ) → w .to ≤ c → b + w .to ≡ c + (w .from + length (w .put)) → part a b (carried w s) ≡ part a (w .from) s ++ (w .put ++ part (w .to) c s)
+  unfolding part
+  carried-part b c h at =
+      let X = part a (w .from) s in
+      let k : ℕ = c - w .to in
+      let long : length X ≡ w .from - a = length-part a (w .from) s inside in
+      let many : b - a ≡ length X + (length (w .put) + k) = omega arith in
+      ap (take (b - a)) carried-from
+      ∙ ap (λ (n : ℕ). take n (X ++ (w .put ++ drop (w .to) s))) many
+      ∙ take-append-add X (w .put ++ drop (w .to) s) (length (w .put) + k)
+      ∙ ap (λ (l : List ℕ). X ++ l) (take-append-add (w .put) (drop (w .to) s) k)
+
+-- a part of what stands behind the first letters
+part-behind : (first a b : ℕ) (s : List ℕ) → part a b (drop first s) ≡ part (first + a) (first + b) s
+unfolding part
+part-behind first a b s =
+    let many : first + b - (first + a) ≡ b - a = omega arith in
+    rw (drop-drop a first s, many)
 
 -- without exceptions none are moved
 none-moved : (r : Reference) (new : List ℕ) → r .exceptions ≡ [] → movedExceptions r new ≡ []
@@ -446,6 +481,29 @@ module _ (m : Limits) (r : Reference) (e : Asked) (h : refusal m r e ≡ 0) (non
       ∙ omega (arith, length-take-le (headOf r e) R (pieces-fit .head), ap (λ (l : List ℕ). length l) (through-all (middle r e) s), length-middle l, pieces-fit .rises l) in
       ap (drop (tailOf r e)) (pieces-resumed l s ∙ sym (append-assoc (take (headOf r e) R) (throughStop (middle r e)) (drop (backOf r e) R)))
       ∙ drop-at front (drop (backOf r e) R) (tailOf r e) long
+
+-- the letters that are read: of the reference up to the edit, what goes in, of the reference behind it, as far as codon `back`
+module _ (m : Limits) (r : Reference) (e : Asked) (h : refusal m r e ≡ 0) (q : keepsAll r e ≡ false) where
+  starts : r .cs - 1 + headOf r e * 3 ≤ cutSwap r e .from
+  starts = reads-if m r e h q .before
+
+  ends : cutSwap r e .from ≤ size r
+  ends = let v = cut-span m r e h in omega (arith, v .rising, v .ends)
+
+  pub read-letters : drop (headOf r e * 3) (alteredCoding r e) ≡ part (r .cs - 1 + headOf r e * 3) (cutSwap r e .from) (r .letters) ++ (cutSwap r e .put ++ drop (cutSwap r e .to) (r .letters))
+  unfolding alteredCoding alteredTranscript size
+  read-letters =
+      drop-drop (headOf r e * 3) (r .cs - 1) (alteredTranscript r e) ∙ carried-from (cutSwap r e) (r .letters) ends (r .cs - 1 + headOf r e * 3) starts
+
+  pub middle-letters : isLevel r e ≡ true
+      → part (headOf r e * 3) (tailOf r e * 3) (alteredCoding r e)
+      ≡ part (r .cs - 1 + headOf r e * 3) (cutSwap r e .from) (r .letters) ++ (cutSwap r e .put ++ part (cutSwap r e .to) (r .cs - 1 + backOf r e * 3) (r .letters))
+  unfolding alteredCoding alteredTranscript size
+  middle-letters l =
+      let y = resumes-if m r e h q l in
+      let first = r .cs - 1 in
+      part-behind first (headOf r e * 3) (tailOf r e * 3) (alteredTranscript r e)
+      ∙ carried-part (cutSwap r e) (r .letters) ends (first + headOf r e * 3) starts (first + tailOf r e * 3) (first + backOf r e * 3) (omega (arith, y .at, y .behind)) (y .at)
 
 -- an edit that isn't Unknown has an R with at most one stop
 pub known-once : (r : Reference) (e : Asked) → isUnknown r e ≡ false → count (byte "*") (referenceProtein r) ≤ 1

@@ -2,7 +2,7 @@
 -- Assumes nothing.
 use mathlib.Core.Path.{_≡_, refl, sym, ap, _∙_}
 use mathlib.Core.Bool.{Bool, true, false, _&&_, not}
-use mathlib.Core.List.{List, [], _∷_}
+use mathlib.Core.List.{List, []}
 use Prim.Native.Nat.{ℕ, zero, suc, _+_, _-_, _*_, _/_, _≤_, _<_, min, zero-le}
 use native.Mathlib.Decide.{decLe, decLt}
 use native.Mathlib.Omega.{arith}
@@ -14,7 +14,7 @@ use Rattle.rules.specs.declared.Kind.the-variants.{Substitution, Deletio
 use Rattle.rules.specs.Bytes.{byte, if_then_else_, all}
 use Rattle.rules.specs.Letters.{isLetter}
 use Rattle.rules.specs.Translation.{translated}
-use Rattle.rules.specs.Reference.{Reference, atStop, size, cdsSize, codons}
+use Rattle.rules.specs.Reference.{Reference, atStop, cdsSize, codons}
 use Rattle.rules.specs.Edit.{Asked, is, kindOf, startIndex, endIndex, areNewBases, fitBases}
 use Rattle.rules.specs.Altered.{swapBy, swap, kept, cutSwap}
 use Rattle.rules.specs.Protein.{alteredProtein}
