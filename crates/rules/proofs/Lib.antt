@@ -20,6 +20,8 @@ pub mod Copies
 pub mod Checks
 pub mod Protein
 pub mod Silent
+pub mod Carried
+pub mod Kept
 pub mod Pieces
 pub mod Looked
 pub mod Substituted

@@ -26,7 +26,8 @@ use Rattle.rules.proofs.Tests.{and-left, and-right, or-left}
 use Rattle.rules.proofs.Translation.{through-le}
 use Rattle.rules.proofs.Plain.{through-all}
 use Rattle.rules.proofs.Refusal.{none-refused, reference-accepted}
-use Rattle.rules.proofs.Pieces.{or-cases, cut-ends, cut-span, length-coding, identity-coding, CodonsFit, codons-fit, reads-if, Resumes, resumes-if, pieces-fit, length-middle, all-kept, pieces-read, pieces-stopped, pieces-resumed}
+use Rattle.rules.proofs.Kept.{or-cases, cut-ends, cut-span, length-coding, identity-coding, CodonsFit, codons-fit}
+use Rattle.rules.proofs.Pieces.{reads-if, Resumes, resumes-if, pieces-fit, length-middle, all-kept, pieces-read, pieces-stopped, pieces-resumed}
 
 -- the numbers from a to b pass, and no others below n
 record Between (p : ℕ → Bool) (a b n : ℕ) : Type 0 where

@@ -26,7 +26,7 @@ use Rattle.rules.proofs.Translation.{length-through}
 use Rattle.rules.proofs.Plain.{before-at}
 use Rattle.rules.proofs.Refusal.{none-refused, reference-accepted, edit-allowed}
 use Rattle.rules.proofs.Span.{indexes}
-use Rattle.rules.proofs.Pieces.{read-plain, cut-ends, length-coding}
+use Rattle.rules.proofs.Kept.{read-plain, cut-ends, length-coding}
 use Rattle.rules.proofs.Looked.{looks, none-below, reused-before, reused-behind}
 
 -- where only the number m may pass, at most one does
