@@ -1,4 +1,4 @@
-"""A second account of documents 01 and 02 (E7, E8), in Python, written from their text and not from the definitions or the code.
+"""A second account of documents 01 and 02 (E2, E5, E7, E8), in Python, written from their text and not from the definitions or the code.
 
 What the programs print is compared with it. It is only as good as its reading of the documents: where it and the proved module differ, one of
 the two is wrong. `python3 account.py < input` prints what the text program prints, `python3 account.py records < input` what check-records does.
@@ -10,6 +10,7 @@ LETTERS = {"A": "A", "C": "C", "G": "G", "T": "T", "R": "AG", "Y": "CT", "S": "C
 COMPLEMENTS = dict(zip("ACGTRYKMBVDHSWN", "TGCAYRMKVBHDSWN"))
 TABLE_0 = "FFLLSSSSYY**CC*WLLLLPPPPHHQQRRRRIIIMTTTTNNKKSSRRVVVVAAAADDEEGGGG"
 OTHER_CODONS = [{}, {"TGA": "U"}, {"TGA": "W", "ATA": "M", "AGA": "*", "AGG": "*"}]
+MIXES = {"DN": "B", "EQ": "Z"}
 KINDS = ["substitution", "deletion", "delins", "insertion", "duplication", "inversion", "identity"]
 WITH_BASES = ["substitution", "delins", "insertion"]
 LONGEST, MOST_BASES, MOST_EXCEPTIONS, LONGEST_LINE = 16384, 4096, 16, 20480
@@ -41,8 +42,8 @@ codons = {}
 def residue(table, codon):
     if (table, codon) not in codons:
         a, b, c = (LETTERS[letter] for letter in codon)
-        found = {plain_codon(table, x + y + z) for x in a for y in b for z in c}
-        codons[table, codon] = found.pop() if len(found) == 1 else "X"
+        found = "".join(sorted({plain_codon(table, x + y + z) for x in a for y in b for z in c}))
+        codons[table, codon] = found if len(found) == 1 else MIXES.get(found, "X")
     return codons[table, codon]
 
 

@@ -1407,7 +1407,7 @@ static void plain(void)
         T("TGATGGATAAGAAGG", 0, 0, "", 5, 0, "*WIRR"),
         T("TGATGGATAAGAAGG", 1, 0, "", 5, 0, "UWIRR"),
         T("TGATGGATAAGAAGG", 2, 0, "", 5, 0, "WWM**"),
-        T("TARMGRRAYATHNNN", 0, 0, "", 5, 0, "*RXIX"),
+        T("TARMGRRAYATHNNN", 0, 0, "", 5, 0, "*RBIX"),
         T("GCNyarBAC", 0, 0, "", 3, 0, "AXX"),
         T("ATGA", 0, 0, "", 2, 0, "MX"),
         T("ATG-", 0, 0, "", 2, 0, "MX"),

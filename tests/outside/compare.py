@@ -1,7 +1,8 @@
-"""Compares the lines `code TABLE RESIDUES` and `ambiguous TABLE RESIDUES` of a file with NCBI's gc.prt and with seqkit's translations.
+"""Compares the lines `code TABLE RESIDUES` and `ambiguous TABLE RESIDUES` of a file with NCBI's gc.prt and with BioPerl's and seqkit's translations.
 
-codons OUT         writes the 3,375 codons of the fifteen letters as FASTA, each a record of its own
-compare OURS GC SEQKIT1 SEQKIT2
+codons OUT         writes the 3,375 codons of the fifteen letters, one a line
+fasta OUT          the same as FASTA, each a record of its own
+compare OURS GC BIOPERL1 SEQKIT1 BIOPERL2 SEQKIT2
 """
 import itertools
 import re
@@ -11,6 +12,8 @@ LETTERS = "ACGTRYSWKMBDHVN"
 CODONS = ["".join(c) for c in itertools.product(LETTERS, repeat=3)]
 # NCBI's codes 1 and 2 are tables 0 and 2
 TABLES = {1: "0", 2: "2"}
+# the mixes of D with N and of E with Q, which BioPerl reads as B and Z and seqkit as X
+MIXES = {"RAC": "B", "RAT": "B", "RAY": "B", "SAA": "Z", "SAG": "Z", "SAR": "Z"}
 
 
 def lines(path, word):
@@ -44,30 +47,37 @@ def seqkit(path):
     return answers
 
 
-def compare(ours, gc, *seqkits):
+def bioperl(path):
+    with open(path, encoding="ascii") as f:
+        return dict(zip(CODONS, f.read().split(), strict=True))
+
+
+def compare(ours, gc, *paths):
     faults = 0
     plain = lines(ours, "code")
     mixed = lines(ours, "ambiguous")
     codes = ncbi(gc)
-    for (code, table), path in zip(TABLES.items(), seqkits):
+    for (code, table), theirs, others in zip(TABLES.items(), map(bioperl, paths[::2]), map(seqkit, paths[1::2])):
         if plain.get(table) != codes[code]:
             print(f"code {code}: ours {plain.get(table)}, NCBI's {codes[code]}")
             faults += 1
-        theirs = seqkit(path)
         answers = mixed.get(table, "")
-        if len(answers) != len(CODONS) or len(theirs) != len(CODONS):
-            print(f"code {code}: {len(answers)} answers of ours and {len(theirs)} of seqkit's, not {len(CODONS)}")
+        if len(answers) != len(CODONS) or len(others) != len(CODONS):
+            print(f"code {code}: {len(answers)} answers of ours and {len(others)} of seqkit's, not {len(CODONS)}")
             return 1
         for codon, residue in zip(CODONS, answers):
             if theirs[codon] != residue:
-                print(f"code {code}, {codon}: ours {residue}, seqkit's {theirs[codon]}")
+                print(f"code {code}, {codon}: ours {residue}, BioPerl's {theirs[codon]}")
                 faults += 1
-        print(f"code {code}: 64 codons held to NCBI's, {len(CODONS)} ambiguous ones to seqkit's")
+            if (residue, others[codon]) != ((MIXES[codon], "X") if codon in MIXES else (residue, residue)):
+                print(f"code {code}, {codon}: ours {residue}, seqkit's {others[codon]}")
+                faults += 1
+        print(f"code {code}: 64 codons held to NCBI's, {len(CODONS)} to BioPerl's and to seqkit's, which reads X for six: {', '.join(MIXES)}")
     return 1 if faults else 0
 
 
-if sys.argv[1] == "codons":
+if sys.argv[1] in ("codons", "fasta"):
     with open(sys.argv[2], "w", encoding="ascii") as f:
-        f.writelines(f">{c}\n{c}\n" for c in CODONS)
+        f.writelines(f">{c}\n{c}\n" if sys.argv[1] == "fasta" else f"{c}\n" for c in CODONS)
 else:
     sys.exit(compare(*sys.argv[2:]))

@@ -1,6 +1,6 @@
 -- Laws of `specs/Expansion.antt`, for the turns of the plain codon reader. Assumes nothing.
 use mathlib.Core.List.{List, [], _∷_, _++_}
-use mathlib.Core.Bool.{Bool, true, false}
+use mathlib.Core.Bool.{Bool, true, false, _&&_, _||_, not}
 use mathlib.Core.Path.{_≡_, refl, sym, _∙_}
 use Prim.Native.Nat.{ℕ, zero, suc, _+_, _-_, _*_, _/_, _%_, _<_, _≤_}
 use native.Mathlib.Nat.{suc-sub-suc, le-of-suc-le-suc, not-suc-le-zero}
@@ -8,10 +8,10 @@ use native.Mathlib.Numerals.{add-one, sub-one}
 use native.Mathlib.Omega.{arith}
 use lib.Dec.{eqb}
 use lib.ListN.{length, getD}
-use borrow.Author.Tests.{eq-eqb, ne-eqb}
-use Rattle.rules.specs.Letters.{pick}
-use Rattle.rules.specs.Codons.{residueX, geneticCode, bitOf, withBase, forEach}
-use Rattle.codons.specs.Expansion.{codonCount, expanded, joined, joinedAll}
+use borrow.Author.Tests.{eq-eqb, eqb-true, ne-eqb}
+use Rattle.rules.specs.Bytes.{byte, if_then_else_}
+use Rattle.rules.specs.Codons.{residueX, geneticCode, bitOf, withBase, basesOf, forEach}
+use Rattle.codons.specs.Expansion.{codonCount, expanded, isAsx, isGlx, mixedWith, joined, joinedAll}
 
 -- within a list it does not matter what stands past its end
 any-default : (xs : List ℕ) (k d e : ℕ) → k < length xs → getD xs k d ≡ getD xs k e
@@ -27,18 +27,21 @@ code-at t table place is h = rw is (any-default (geneticCode t) place 0 residueX
 pub joined-first : (found x : ℕ) → found ≡ 0 → x ≡ joined found x
 joined-first found x e = rw (eq-eqb found 0 e)
 
-joined-case : (b : Bool) (found x : ℕ) → pick b found residueX ≡ pick (elim b [ true ↦ true | false ↦ false ]) found residueX
-joined-case true found x = refl
-joined-case false found x = refl
-
-joined-next : (found x : ℕ) → (found ≡ 0 → ⊥) → pick (eqb x found) found residueX ≡ joined found x
-joined-next found x n = rw (ne-eqb found 0 n) (joined-case (eqb x found) found x)
-
 pub joined-again : (found x : ℕ) → (found ≡ 0 → ⊥) → x ≡ found → found ≡ joined found x
-joined-again found x n e = rw (eq-eqb x found e) at (joined-next found x n)
+joined-again found x n e = rw (ne-eqb found 0 n, eq-eqb x found e)
 
-pub joined-other : (found x : ℕ) → (found ≡ 0 → ⊥) → (x ≡ found → ⊥) → residueX ≡ joined found x
-joined-other found x n d = rw (ne-eqb x found d) at (joined-next found x n)
+pub joined-other : (found x : ℕ) → (found ≡ 0 → ⊥) → (x ≡ found → ⊥) → mixedWith found x ≡ joined found x
+joined-other found x n d = rw (ne-eqb found 0 n, ne-eqb x found d)
+
+-- two residues mix to B, to Z, to X, by the tests of each
+pub mixed-asx : (found x : ℕ) (a b : Bool) → a ≡ isAsx found → b ≡ isAsx x → a && b ≡ true → byte "B" ≡ mixedWith found x
+mixed-asx found x a b ea eb t = rw (rw (ea, eb) at t)
+
+pub mixed-glx : (found x : ℕ) (a b c d : Bool) → a ≡ isAsx found → b ≡ isAsx x → a && b ≡ false → c ≡ isGlx found → d ≡ isGlx x → c && d ≡ true → byte "Z" ≡ mixedWith found x
+mixed-glx found x a b c d ea eb n ec ed t = rw (rw (ea, eb) at n, rw (ec, ed) at t)
+
+pub mixed-other : (found x : ℕ) (a b c d : Bool) → a ≡ isAsx found → b ≡ isAsx x → a && b ≡ false → c ≡ isGlx found → d ≡ isGlx x → c && d ≡ false → residueX ≡ mixedWith found x
+mixed-other found x a b c d ea eb n ec ed t = rw (rw (ea, eb) at n, rw (ec, ed) at t)
 
 -- the bases of a set from the number i on, n numbers
 abbrev pub basesFrom : ℕ → ℕ → ℕ → List ℕ
@@ -64,6 +67,38 @@ pub turn-out : (s i found whole : ℕ) (f : ℕ → List ℕ) → i < 4 → (s /
 turn-out s i found whole f h n is =
     let e : s / bitOf i % 2 ≡ 0 = omega (arith, n) in
     rw add-one (rw (one-less i h, e) at is)
+
+-- the bases of a set one by one: what is joined for each that it has
+base-joined : (b i found : ℕ) (is : List ℕ) (f : ℕ → List ℕ) → b < 2
+    → joinedAll found (forEach (withBase b i is) f) ≡ joinedAll (if eqb b 1 then joinedAll found (f i) else found) (forEach is f)
+base-joined zero i found is f h = refl
+base-joined (suc zero) i found is f h = joined-append found (f i) (forEach is f)
+base-joined (suc (suc b)) i found is f h = absurd (omega arith)
+
+pub joined-bases : (s found t tc tca all : ℕ) (f : ℕ → List ℕ)
+    → t ≡ (if eqb (s / 8 % 2) 1 then joinedAll found (f 0) else found)
+    → tc ≡ (if eqb (s / 2 % 2) 1 then joinedAll t (f 1) else t)
+    → tca ≡ (if eqb (s % 2) 1 then joinedAll tc (f 2) else tc)
+    → all ≡ (if eqb (s / 4 % 2) 1 then joinedAll tca (f 3) else tca)
+    → all ≡ joinedAll found (forEach (basesOf s) f)
+unfolding joinedAll
+joined-bases s found t tc tca all f et etc etca eall =
+    let one : s / 1 ≡ s = omega arith in
+    sym
+    (base-joined (s / 8 % 2) 0 found _ f (omega arith)
+    ∙ rw (sym et) (base-joined (s / 2 % 2) 1 t _ f (omega arith)
+    ∙ rw (sym etc) (rw one (base-joined (s % 2) 2 tc _ f (omega arith)
+    ∙ rw (sym etca) (base-joined (s / 4 % 2) 3 tca [] f (omega arith) ∙ sym eall)))))
+
+-- nothing to join, or X already; and something to join
+pub unchanged : (there : Bool) (found : ℕ) (rs : List ℕ) → not there || eqb found residueX ≡ true → joinedAll residueX rs ≡ residueX
+    → found ≡ (if there then joinedAll found rs else found)
+unchanged true found rs is stays = rw (eqb-true found residueX is) (sym stays)
+unchanged false found rs is stays = refl
+
+pub changed : (there : Bool) (found all whole : ℕ) → not there || eqb found residueX ≡ false → all ≡ whole → all ≡ (if there then whole else found)
+changed true found all whole n e = e
+changed false found all whole n e = cc
 
 -- no base has the bit 0
 pub bit-some : (i : ℕ) → i < 4 → 0 < bitOf i

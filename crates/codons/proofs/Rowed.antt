@@ -18,17 +18,17 @@ use Rattle.codons.proofs.Listed.{listed, listed-at, at-each}
 unfoldable pub rowAt : ℕ → ℕ → ℕ
 rowAt t j = numberRule t (pairAt (j / 16) / 16) (pairAt (j / 16) % 16) (j % 16)
 
-pub holds-rows : (t table : ℕ) → table ≡ t → HoldsRows table (listed (rowAt t) 0 320)
+pub holds-rows : (t table : ℕ) → table ≡ t → HoldsRows table (listed (rowAt t) 0 352)
 unfolding rowAt
 holds-rows t table is =
     record {
       entry = λ k c h l.
           let ek : (k * 16 + c) / 16 ≡ k = omega arith in
           let ec : (k * 16 + c) % 16 ≡ c = omega arith in
-          rw is (rw (ek, ec) at (listed-at 0 (rowAt t) 320 (k * 16 + c) (omega arith)));
+          rw is (rw (ek, ec) at (listed-at 0 (rowAt t) 352 (k * 16 + c) (omega arith)));
     }
 
--- the row of a pair is one of the twenty
+-- the row of a pair is one of the twenty-two
 row-small : (k pair : ℕ) → rowIn (suc k) pair < suc k
 unfolding rowIn
 row-small zero pair = at (eqb pair (pairAt 0))
@@ -48,9 +48,9 @@ among p [] = false
 among p (q ∷ qs) = elim (eqb p q) [ true ↦ true | false ↦ among p qs ]
 
 -- the row of a pair has that pair, or is the first, which antt computes
-own-row : (p : ℕ) → p < 256 → (if among p pairs then pairAt (rowIn 20 p) else rowIn 20 p) ≡ (if among p pairs then p else 0)
+own-row : (p : ℕ) → p < 256 → (if among p pairs then pairAt (rowIn 22 p) else rowIn 22 p) ≡ (if among p pairs then p else 0)
 unfolding rowIn
-own-row p h = at-each 256 0 (λ (k : ℕ). if among k pairs then pairAt (rowIn 20 k) else rowIn 20 k) (λ (k : ℕ). if among k pairs then k else 0) refl p h
+own-row p h = at-each 256 0 (λ (k : ℕ). if among k pairs then pairAt (rowIn 22 k) else rowIn 22 k) (λ (k : ℕ). if among k pairs then k else 0) refl p h
 
 -- in a code, what a pair with no row of its own reads at a place
 abbrev otherAt : ℕ → ℕ → ℕ
@@ -65,13 +65,13 @@ others (suc (suc zero)) h j l = at-each 4096 0 (otherAt 2) (λ (k : ℕ). residu
 others (suc (suc (suc t))) h j l = absurd (omega arith)
 
 -- a pair reads as its row's pair does
-same-case : (t p c : ℕ) (o : Bool) → (if o then pairAt (rowIn 20 p) else rowIn 20 p) ≡ (if o then p else 0) → (if o then residueX else numberRule t (p / 16) (p % 16) c) ≡ residueX
-    → numberRule t (pairAt (rowIn 20 p) / 16) (pairAt (rowIn 20 p) % 16) c ≡ numberRule t (p / 16) (p % 16) c
+same-case : (t p c : ℕ) (o : Bool) → (if o then pairAt (rowIn 22 p) else rowIn 22 p) ≡ (if o then p else 0) → (if o then residueX else numberRule t (p / 16) (p % 16) c) ≡ residueX
+    → numberRule t (pairAt (rowIn 22 p) / 16) (pairAt (rowIn 22 p) % 16) c ≡ numberRule t (p / 16) (p % 16) c
 unfolding codonRule
 same-case t p c true own other = rw own
 same-case t p c false own other = rw own (sym other)
 
-same-row : (t : ℕ) → t < 3 → (a b c : ℕ) → a < 16 → b < 16 → c < 16 → numberRule t (pairAt (rowIn 20 (a * 16 + b)) / 16) (pairAt (rowIn 20 (a * 16 + b)) % 16) c ≡ numberRule t a b c
+same-row : (t : ℕ) → t < 3 → (a b c : ℕ) → a < 16 → b < 16 → c < 16 → numberRule t (pairAt (rowIn 22 (a * 16 + b)) / 16) (pairAt (rowIn 22 (a * 16 + b)) % 16) c ≡ numberRule t a b c
 same-row t h a b c ha hb hc =
     let p : ℕ = a * 16 + b in
     let j : ℕ = p * 16 + c in
@@ -82,12 +82,12 @@ same-row t h a b c ha hb hc =
     same-case t p c (among p pairs) (own-row p (omega arith)) (rw (ep, ec) at (others t h j (omega arith))) ∙ rw (ea, eb)
 
 module _ (t : ℕ) (rows : List ℕ) (code : t < 3) (holds : HoldsRows t rows) where
-  row-read : (a b c : ℕ) → a < 16 → b < 16 → c < 16 → getD rows (rowIn 20 (a * 16 + b) * 16 + c) 0 ≡ numberRule t a b c
+  row-read : (a b c : ℕ) → a < 16 → b < 16 → c < 16 → getD rows (rowIn 22 (a * 16 + b) * 16 + c) 0 ≡ numberRule t a b c
   row-read a b c ha hb hc =
-      holds .entry (rowIn 20 (a * 16 + b)) c (row-small 19 (a * 16 + b)) hc ∙ same-row t code a b c ha hb hc
+      holds .entry (rowIn 22 (a * 16 + b)) c (row-small 21 (a * 16 + b)) hc ∙ same-row t code a b c ha hb hc
 
-pair-small : (k : ℕ) → k < 20 → pairAt k < 256
-pair-small k h = ltb-true (pairAt k) 256 (at-each 20 false (λ (j : ℕ). ltb (pairAt j) 256) (λ (j : ℕ). true) refl k h)
+pair-small : (k : ℕ) → k < 22 → pairAt k < 256
+pair-small k h = ltb-true (pairAt k) 256 (at-each 22 false (λ (j : ℕ). ltb (pairAt j) 256) (λ (j : ℕ). true) refl k h)
 
 -- the first k rows' residues of third letter c are put, and nothing else
 pub record Put (rows old all : List ℕ) (c k : ℕ) : Type 0 where
@@ -99,7 +99,7 @@ module _ (rows old : List ℕ) (c : ℕ) where
   pub put-none : length old ≡ 4096 → ((p : ℕ) → p < 256 → getD old (c * 256 + p) 0 ≡ getD rows (rowIn 0 p * 16 + c) 0) → Put rows old old c 0
   put-none l first = record { long = l; done = first; kept = λ d p h n. refl }
 
-  pub put-more : (all : List ℕ) (k pair : ℕ) → c < 16 → Put rows old all c k → k < 20 → pair ≡ pairAt k → Put rows old (set all (c * 256 + pair) (getD rows (k * 16 + c) 0)) c (k + 1)
+  pub put-more : (all : List ℕ) (k pair : ℕ) → c < 16 → Put rows old all c k → k < 22 → pair ≡ pairAt k → Put rows old (set all (c * 256 + pair) (getD rows (k * 16 + c) 0)) c (k + 1)
   unfolding rowIn
   put-more all k pair small w h is =
       record {
@@ -113,18 +113,18 @@ module _ (rows old : List ℕ) (c : ℕ) where
       by p l false e =
           getD-set-other all (c * 256 + pairAt k) (c * 256 + p) (getD rows (k * 16 + c) 0) 0 (λ z. eqb-false p (pairAt k) e (omega arith)) ∙ w .done p l
 
-  pub put-all : (all : List ℕ) (k : ℕ) → Put rows old all c k → k ≡ 20
-      → (d p : ℕ) → d < 16 → p < 256 → getD all (d * 256 + p) 0 ≡ (if eqb d c then getD rows (rowIn 20 p * 16 + c) 0 else getD old (d * 256 + p) 0)
+  pub put-all : (all : List ℕ) (k : ℕ) → Put rows old all c k → k ≡ 22
+      → (d p : ℕ) → d < 16 → p < 256 → getD all (d * 256 + p) 0 ≡ (if eqb d c then getD rows (rowIn 22 p * 16 + c) 0 else getD old (d * 256 + p) 0)
   put-all all k w is d p h l = by (eqb d c) refl
     where
-      by : (b : Bool) → eqb d c ≡ b → getD all (d * 256 + p) 0 ≡ (if b then getD rows (rowIn 20 p * 16 + c) 0 else getD old (d * 256 + p) 0)
+      by : (b : Bool) → eqb d c ≡ b → getD all (d * 256 + p) 0 ≡ (if b then getD rows (rowIn 22 p * 16 + c) 0 else getD old (d * 256 + p) 0)
       by true e = rw (eqb-true d c e) (w .done p l ∙ ap (λ (n : ℕ). getD rows (rowIn n p * 16 + c) 0) is)
       by false e = w .kept d p l (eqb-false d c e)
 
 -- the first n third letters are put, and the others have the first row's residues
 pub record Laid (rows all : List ℕ) (n : ℕ) : Type 0 where
   pub long : length all ≡ 4096
-  pub done : (c p : ℕ) → c < n → c < 16 → p < 256 → getD all (c * 256 + p) 0 ≡ getD rows (rowIn 20 p * 16 + c) 0
+  pub done : (c p : ℕ) → c < n → c < 16 → p < 256 → getD all (c * 256 + p) 0 ≡ getD rows (rowIn 22 p * 16 + c) 0
   pub left : (c p : ℕ) → n ≤ c → c < 16 → p < 256 → getD all (c * 256 + p) 0 ≡ getD rows (rowIn 0 p * 16 + c) 0
 
 pub laid-none : (t : ℕ) (rows : List ℕ) → HoldsRows t rows → Laid rows (replicate 4096 (byte "X")) 0
@@ -137,7 +137,7 @@ laid-none t rows holds =
     }
 
 pub laid-more : (rows all new : List ℕ) (n : ℕ) → Laid rows all n → length new ≡ 4096
-    → ((c p : ℕ) → c < 16 → p < 256 → getD new (c * 256 + p) 0 ≡ (if eqb c n then getD rows (rowIn 20 p * 16 + n) 0 else getD all (c * 256 + p) 0))
+    → ((c p : ℕ) → c < 16 → p < 256 → getD new (c * 256 + p) 0 ≡ (if eqb c n then getD rows (rowIn 22 p * 16 + n) 0 else getD all (c * 256 + p) 0))
     → Laid rows new (n + 1)
 laid-more rows all new n w long put =
     record {
@@ -146,7 +146,7 @@ laid-more rows all new n w long put =
       left = λ c p k h l. put c p h l ∙ rw (ne-eqb c n (λ e. omega arith)) (w .left c p (omega arith) h l);
     }
   where
-    by : (c p : ℕ) → c < n + 1 → c < 16 → p < 256 → (b : Bool) → eqb c n ≡ b → (if b then getD rows (rowIn 20 p * 16 + n) 0 else getD all (c * 256 + p) 0) ≡ getD rows (rowIn 20 p * 16 + c) 0
+    by : (c p : ℕ) → c < n + 1 → c < 16 → p < 256 → (b : Bool) → eqb c n ≡ b → (if b then getD rows (rowIn 22 p * 16 + n) 0 else getD all (c * 256 + p) 0) ≡ getD rows (rowIn 22 p * 16 + c) 0
     by c p k h l true e = rw (eqb-true c n e)
     by c p k h l false e = w .done c p (omega (arith, eqb-false c n e)) h l
 

@@ -3,9 +3,10 @@ ghost use mathlib.Core.Path.{_≡_};
 ghost use mathlib.Core.List.{[], _∷_};
 ghost use Prim.Native.Nat.{_-_, _<_, _≤_};
 ghost use lib.ListN.{getD};
+ghost use Rattle.rules.specs.Bytes.{if_then_else_};
 ghost use Rattle.rules.specs.Codons.{geneticCode, residueX, plainCodon, basesOf, forEach, codonRule};
 ghost use Rattle.codons.specs.Tables.{HoldsPlain};
-ghost use Rattle.codons.specs.Expansion.{codonCount, expanded, joined, joinedAll};
+ghost use Rattle.codons.specs.Expansion.{codonCount, expanded, isAsx, isGlx, mixedWith, joined, joinedAll};
 
 // What a base adds to a set, in the order T, C, A, G.
 const BITS: [usize; 4] = [8, 2, 1, 4];
@@ -31,14 +32,46 @@ fn plain_residue(table: usize, place: usize) -> u8
     }
 }
 
-// A residue beside the one found so far, which is 0 where there is none yet.
+// D, N or their mix B.
+fn is_asx(residue: u8) -> bool
+    ensures { λ r. ⌜ r ≡ isAsx residue ⌝ }
+{
+    (residue == b'D') | (residue == b'N') | (residue == b'B')
+}
+
+// E, Q or their mix Z.
+fn is_glx(residue: u8) -> bool
+    ensures { λ r. ⌜ r ≡ isGlx residue ⌝ }
+{
+    (residue == b'E') | (residue == b'Q') | (residue == b'Z')
+}
+
+// What a residue makes with another one.
+fn mix(found: u8, residue: u8) -> u8
+    ensures { λ r. ⌜ r ≡ mixedWith found residue ⌝ }
+{
+    if is_asx(found) & is_asx(residue) {
+        return b'B';
+    }
+    if is_glx(found) & is_glx(residue) {
+        b'Z'
+    } else {
+        b'X'
+    }
+}
+
+// A residue beside what was found so far, which is 0 where there is none yet.
 fn join(found: u8, residue: u8) -> u8
     ensures { λ r. ⌜ r ≡ joined found residue ⌝ }
 {
     if found == 0 {
         return residue;
     }
-    if residue == found { found } else { b'X' }
+    if residue == found {
+        found
+    } else {
+        mix(found, residue)
+    }
 }
 
 // Expands the letters left, one at a time, behind the bases that make the place, and joins the residue of each plain codon to the one found so far.
@@ -89,44 +122,57 @@ fn plain_at(table: usize, code: &[u8; 64], i: usize, j: usize, k: usize) -> u8
     code[place]
 }
 
-// Joins the residues of two bases with each base of a third letter to the one found so far.
-fn join_third(table: usize, code: &[u8; 64], i: usize, j: usize, c: usize, found: u8) -> u8
-    requires { ⌜ HoldsPlain table (now code) ⌝ }
-    requires { ⌜ (i < 4) × (j < 4) ⌝ }
-    ensures { λ r. ⌜ r ≡ joinedAll found (forEach (basesOf c) λ k. plainCodon table i j k ∷ []) ⌝ }
+// A residue beside what was found so far, where its base is one of a letter's.
+fn join_if(there: bool, found: u8, residue: u8) -> u8
+    ensures { λ r. ⌜ r ≡ (if there then joined found residue else found) ⌝ }
 {
-    if found == b'X' {
-        return found;
-    }
-    let mut all = found;
-    let mut k = 0;
-    while k < 4 {
-        if c / BITS[k] % 2 == 1 {
-            all = join(all, plain_at(table, code, i, j, k));
-        }
-        k += 1;
-    }
-    all
+    if there { join(found, residue) } else { found }
 }
 
-// The same of a base with each base of a second and a third letter.
-fn join_second(table: usize, code: &[u8; 64], i: usize, b: usize, c: usize, found: u8) -> u8
+// Joins the residues of two bases with each base of a third letter to what was found so far, where the second is one of its letter's.
+fn join_third(
+    there: bool,
+    table: usize,
+    code: &[u8; 64],
+    i: usize,
+    j: usize,
+    c: usize,
+    found: u8,
+) -> u8
     requires { ⌜ HoldsPlain table (now code) ⌝ }
-    requires { ⌜ i < 4 ⌝ }
-    ensures { λ r. ⌜ r ≡ joinedAll found (forEach (basesOf b) λ j. forEach (basesOf c) λ k. plainCodon table i j k ∷ []) ⌝ }
+    requires { ⌜ (i < 4) × (j < 4) ⌝ }
+    ensures { λ r. ⌜ r ≡ (if there then joinedAll found (forEach (basesOf c) λ k. plainCodon table i j k ∷ []) else found) ⌝ }
 {
-    if found == b'X' {
+    if !there | (found == b'X') {
         return found;
     }
-    let mut all = found;
-    let mut j = 0;
-    while j < 4 {
-        if b / BITS[j] % 2 == 1 {
-            all = join_third(table, code, i, j, c, all);
-        }
-        j += 1;
+    let t = join_if(c / 8 % 2 == 1, found, plain_at(table, code, i, j, 0));
+    let tc = join_if(c / 2 % 2 == 1, t, plain_at(table, code, i, j, 1));
+    let tca = join_if(c % 2 == 1, tc, plain_at(table, code, i, j, 2));
+    join_if(c / 4 % 2 == 1, tca, plain_at(table, code, i, j, 3))
+}
+
+// The same of a base with each base of a second and a third letter, where the first is one of its letter's.
+fn join_second(
+    there: bool,
+    table: usize,
+    code: &[u8; 64],
+    i: usize,
+    b: usize,
+    c: usize,
+    found: u8,
+) -> u8
+    requires { ⌜ HoldsPlain table (now code) ⌝ }
+    requires { ⌜ i < 4 ⌝ }
+    ensures { λ r. ⌜ r ≡ (if there then joinedAll found (forEach (basesOf b) λ j. forEach (basesOf c) λ k. plainCodon table i j k ∷ []) else found) ⌝ }
+{
+    if !there | (found == b'X') {
+        return found;
     }
-    all
+    let t = join_third(b / 8 % 2 == 1, table, code, i, 0, c, found);
+    let tc = join_third(b / 2 % 2 == 1, table, code, i, 1, c, t);
+    let tca = join_third(b % 2 == 1, table, code, i, 2, c, tc);
+    join_third(b / 4 % 2 == 1, table, code, i, 3, c, tca)
 }
 
 // The residue of a codon of three letter sets, none of them empty.
@@ -137,13 +183,8 @@ pub fn read_by_plain(table: usize, code: &[u8; 64], a: usize, b: usize, c: usize
     requires { ⌜ (0 < c) × (c < 16) ⌝ }
     ensures { λ r. ⌜ r ≡ codonRule table a b c ⌝ }
 {
-    let mut all = 0;
-    let mut i = 0;
-    while i < 4 {
-        if a / BITS[i] % 2 == 1 {
-            all = join_second(table, code, i, b, c, all);
-        }
-        i += 1;
-    }
-    all
+    let t = join_second(a / 8 % 2 == 1, table, code, 0, b, c, 0);
+    let tc = join_second(a / 2 % 2 == 1, table, code, 1, b, c, t);
+    let tca = join_second(a % 2 == 1, table, code, 2, b, c, tc);
+    join_second(a / 4 % 2 == 1, table, code, 3, b, c, tca)
 }

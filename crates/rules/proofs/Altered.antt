@@ -162,7 +162,7 @@ put-back from to s h =
 
 -- An identity that isn't refused leaves the transcript as it was.
 pub identity-stays : (m : Limits) (r : Reference) (e : Asked) → refusal m r e ≡ 0 → kindOf e ≡ Identity → alteredTranscript r e ≡ r .letters
-unfolding alteredTranscript cutSwap carried kept isInserting swap swapBy
+unfolding alteredTranscript cutSwap carried kept swap swapBy
 identity-stays m r e h k =
     let s = r .letters in
     let all : kept r e ≡ swap r e .put =

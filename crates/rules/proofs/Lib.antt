@@ -17,6 +17,7 @@ pub mod Altered
 pub mod Records
 pub mod Demand
 pub mod Copies
+pub mod Mixes
 pub mod Checks
 pub mod Protein
 pub mod Silent

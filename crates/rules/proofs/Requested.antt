@@ -1,5 +1,6 @@
 -- Inputs that decide clauses of document 02 which can be read two ways, in a single statement over the list of them, request by request.
 use mathlib.Core.Path.{_≡_, refl}
+use mathlib.Core.Bool.{false}
 use mathlib.Core.List.{List, [], _∷_, _++_, map}
 use mathlib.Core.Option.{Option, none, some}
 use Prim.Native.Nat.{ℕ}
@@ -9,6 +10,7 @@ use Rattle.rules.specs.declared.Exception.{Exception}
 use Rattle.rules.specs.declared.Check.{Check}
 use Rattle.rules.specs.declared.Check.the-variants as check
 use Rattle.rules.specs.Bytes.{bytes, if_then_else_}
+use Rattle.rules.specs.Translation.{translation}
 use Rattle.rules.specs.Reference.{Reference}
 use Rattle.rules.specs.Edit.{Asked}
 use Rattle.rules.specs.Refusal.{limits, Room}
@@ -18,7 +20,7 @@ use Rattle.rules.specs.Line.{editLine}
 use Rattle.rules.specs.Reuse.{lookedUp}
 use Rattle.rules.specs.Run.{decimal, refusedLine}
 use Rattle.rules.specs.Opened.{opened}
-use Rattle.rules.proofs.Doubtful.{Decided, _⇒_, worked, exc, edited, proteinIn}
+use Rattle.rules.proofs.Doubtful.{Decided, _⇒_, worked, exc, edited, shown, proteinIn}
 
 -- letters that are a CDS from first to last, by their end
 abbrev pub ending : ℕ → String → List Exception → Reference
@@ -182,3 +184,35 @@ lookedUpIn =
 pub looked-up-in : map (λ (d : Decided). d .computed) lookedUpIn ≡ map (λ (d : Decided). bytes (d .answer)) lookedUpIn
 unfolding opened
 looked-up-in = refl
+
+-- E2: Asx and Glx instead of X
+abbrev pub readAs : ℕ → String → List ℕ
+readAs table s = shown (translation table [] false (bytes s) 1)
+
+abbrev pub mixes : List Decided
+mixes =
+    -- both are there, and no third, in all tables
+    readAs 0 "RAY" ⇒ "B"
+    ∷ readAs 1 "RAC" ⇒ "B"
+    ∷ readAs 2 "RAT" ⇒ "B"
+    ∷ readAs 0 "SAR" ⇒ "Z"
+    ∷ readAs 1 "SAG" ⇒ "Z"
+    ∷ readAs 2 "SAA" ⇒ "Z"
+    ∷ readAs 0 "RAN" ⇒ "X"
+    ∷ readAs 0 "DAY" ⇒ "X"
+    ∷ readAs 0 "VAR" ⇒ "X"
+    -- plain translation, of either case and with U
+    ∷ readAs 0 "rau" ⇒ "B"
+    -- B and Z are residues like others
+    ∷ edited (ending 0 "ATGRAYTAA" []) "4_6inv" ⇒ "substitution 2 B X"
+    ∷ edited (ending 0 "ATGRAYTAA" []) "4R>G" ⇒ "substitution 2 B D"
+    ∷ edited (ending 0 "ATGRAYTAA" []) "4_6delinsSAR" ⇒ "substitution 2 B Z"
+    -- an exception X is X
+    ∷ edited (ending 0 "ATGRAYTAA" (exc 2 "X" ∷ [])) "6Y>C" ⇒ "substitution 2 X B"
+    -- with E5: a copy of B is a duplication
+    ∷ edited (ending 0 "RAYATGTAA" []) "1_3dup" ⇒ "duplication 2 - B 1"
+    ∷ []
+
+pub all-mixes : map (λ (d : Decided). d .computed) mixes ≡ map (λ (d : Decided). bytes (d .answer)) mixes
+unfolding opened
+all-mixes = refl

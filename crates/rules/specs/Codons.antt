@@ -68,15 +68,17 @@ abbrev pub residues : ℕ → ℕ → ℕ → ℕ → List ℕ
 residues t a b c =
     forEach (basesOf a) λ i. forEach (basesOf b) λ j. forEach (basesOf c) λ k. plainCodon t i j k ∷ []
 
--- all are x; there is an x; no third beside x and y
+-- each residue is x
 abbrev pub allAre : ℕ → List ℕ → Bool
 allAre x [] = true
 allAre x (r ∷ rs) = if eqb r x then allAre x rs else false
 
+-- one of them is x
 abbrev pub isAmong : ℕ → List ℕ → Bool
 isAmong x [] = false
 isAmong x (r ∷ rs) = if eqb r x then true else isAmong x rs
 
+-- each is x or y
 abbrev pub noThird : ℕ → ℕ → List ℕ → Bool
 noThird x y [] = true
 noThird x y (r ∷ rs) = if eqb r x || eqb r y then noThird x y rs else false
@@ -85,14 +87,14 @@ noThird x y (r ∷ rs) = if eqb r x || eqb r y then noThird x y rs else false
 abbrev pub exactly : ℕ → ℕ → List ℕ → Bool
 exactly x y rs = noThird x y rs && isAmong x rs && isAmong y rs
 
--- a mix: exactly D and N is B, exactly E and Q is Z, every other is X
+-- of residues that aren't all one (E2): exactly D and N is B, exactly E and Q is Z, every other mix is X
 abbrev pub mixed : List ℕ → ℕ
 mixed rs =
     if exactly (byte "D") (byte "N") rs then byte "B"
     else if exactly (byte "E") (byte "Q") rs then byte "Z"
     else residueX
 
--- if all plain codons give one residue that is the answer, else what their mix is
+-- if all plain codons give one residue that is the answer, else what the mix of residues gives; no codon of letters has none
 abbrev pub agreed : List ℕ → ℕ
 agreed [] = residueX
 agreed (r ∷ rs) = if allAre r rs then r else mixed (r ∷ rs)

@@ -1,62 +1,41 @@
--- `codons::reader::join_third` meets its contract. The invariant: what is left to join gives the whole. Assumes nothing.
+-- `codons::reader::join_third` meets its contract: the bases of the third letter one by one. Assumes nothing.
 use mathlib.Core.List.{List, [], _∷_}
-use mathlib.Core.Logic.{⊎-elim}
-use mathlib.Core.Path.{_≡_, refl, sym}
-use Prim.Native.Nat.{ℕ, _-_, _≤_}
-use native.Mathlib.Omega.{arith}
+use Prim.Native.Nat.{ℕ}
 use borrow.Author.Needs.{needs}
 use Rattle.rules.specs.Codons.{plainCodon, basesOf, forEach}
 use Rattle.codons.specs.Expansion.{joinedAll}
-use Rattle.codons.proofs.Expanded.{basesFrom, turn-in, turn-out, bit-some}
+use Rattle.codons.proofs.Expanded.{joined-bases, unchanged, changed}
 use Rattle.codons.proofs.Agreement.{stays-X}
 use Rattle.codons.proofs.reader.join_third.Statement.{statement}
 use Rattle.codons.proofs.reader.join_third.Tie as tie
 
-abbrev Inv-loop : tie.InvT-loop
-Inv-loop table code i j c found all₀ k₀ all k =
-    (k ≤ 4) × (joinedAll all (forEach (basesFrom c k (4 - k)) λ n. plainCodon table i j n ∷ [])
-    ≡ joinedAll found (forEach (basesOf c) λ n. plainCodon table i j n ∷ []))
+returns : tie.Need-returns
+returns c = unchanged (c .before .args .there) (c .before .args .found) _ (c .if1 .taken) (stays-X _)
 
-abbrev μ-loop : tie.MeasureT-loop
-μ-loop table code i j c found all₀ k₀ all k = 4 - k
-
-returns : tie.Need-returns Inv-loop μ-loop
-returns c = rw (c .if1 .taken) (sym (stays-X _))
-
-loop-again : tie.Need-loop-again Inv-loop μ-loop
-unfolding joinedAll
-loop-again c =
-    let at-loop = c .before .before .loop in
-    let args = c .before .before .before .before .args in
-    let rest : ℕ → List ℕ = λ n. plainCodon (args .table) (args .i) (args .j) n ∷ [] in (
-      search needs,
-      ⊎-elim
-          (λ w. rw (w .3, w .2 .ensures, w .1 .ensures) (turn-in (args .c) (at-loop .k) (at-loop .all) _ rest (c .before .loop-test .taken) (w .0 .taken) (at-loop .inv .1)))
-          (λ w. rw (w .1) (turn-out (args .c) (at-loop .k) (at-loop .all) _ rest (c .before .loop-test .taken) (w .0 .left) (at-loop .inv .1)))
-          (c .if2 .came),
-    )
-
-returns-2 : tie.Need-returns-2 Inv-loop μ-loop
+returns-2 : tie.Need-returns-2
 unfolding joinedAll
 returns-2 c =
-    let loop = c .before .loop in
-    let done : loop .k ≡ 4 = omega arith in
-    rw done at (loop .inv .1)
+    let start = c .before .before .before .before .before .before .before .before .before in
+    let args = start .args in
+    let f : ℕ → List ℕ = λ k. plainCodon (args .table) (args .i) (args .j) k ∷ [] in
+    changed (args .there) (args .found) _ (joinedAll (args .found) (forEach (basesOf (args .c)) f)) (c .before .before .before .before .before .before .before .before .if1 .left)
+    (joined-bases (args .c) (args .found) _ _ _ _ f
+    (rw (c .before .before .before .before .before .before .before .plain-at .ensures) at (c .before .before .before .before .before .before .join-if .ensures))
+    (rw (c .before .before .before .before .before .plain-at2 .ensures) at (c .before .before .before .before .join-if2 .ensures))
+    (rw (c .before .before .before .plain-at3 .ensures) at (c .before .before .join-if3 .ensures))
+    (rw (c .before .plain-at4 .ensures) at (c .join-if4 .ensures)))
 
 pub join-third-spec : {M : Type 1} → statement M
 join-third-spec =
     tie.close
     (tie.spec
-    Inv-loop
-    μ-loop
     returns
-    (λ c. (search needs, refl))
-    (λ c. search needs)
-    (λ c. search needs)
-    (λ c. bit-some (c .before .loop .k) (c .loop-test .taken))
     (λ c κs. search needs)
     (λ c κs. search needs)
-    (λ c. search needs)
-    (λ c. search needs)
-    loop-again
+    (λ c κs. search needs)
+    (λ c κs. search needs)
+    (λ c κs. search needs)
+    (λ c κs. search needs)
+    (λ c κs. search needs)
+    (λ c κs. search needs)
     returns-2)

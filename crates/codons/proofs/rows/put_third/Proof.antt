@@ -8,10 +8,10 @@ use Rattle.codons.proofs.rows.put_third.Statement.{statement}
 use Rattle.codons.proofs.rows.put_third.Tie as tie
 
 abbrev Inv-loop : tie.InvT-loop
-Inv-loop rows c all₀ pairs k₀ all k = (k ≤ 20) × Put rows all₀ all c k
+Inv-loop rows c all₀ pairs k₀ all k = (k ≤ 22) × Put rows all₀ all c k
 
 abbrev μ-loop : tie.MeasureT-loop
-μ-loop rows c all₀ pairs k₀ all k = 20 - k
+μ-loop rows c all₀ pairs k₀ all k = 22 - k
 
 loop-holds : tie.Need-loop-holds Inv-loop μ-loop
 loop-holds c =
