@@ -125,21 +125,32 @@ module _ (t : ℕ) (s A old out : List ℕ) (i : ℕ) (w : Walk t [] s A old out
       let none : drop (length out - i) (drop i out) ≡ [] = drop-of-length-le (drop i out) {i = length out - i} (rw length-drop (omega arith)) in
       simp (none, append-nil) (on part j (rw (tail-is (i * 3) s, tail-is i out) at x))
 
--- a count of codons looked up that keeps up with the codon's index: at the stop, behind the last codon, and where the walk goes on in a part
+-- a count of codons looked up that keeps up with the codon's index: at the stop, and behind the last codon
 pub counted-stop : (i looked n : ℕ) → looked ≡ i → i < n → looked + 1 ≡ min (i + 1) n
 counted-stop i looked n e h = omega arith
 
 pub counted-end : (i looked n : ℕ) → looked ≡ i → i ≡ n → looked ≡ min (n + 1) n
 counted-end i looked n e h = omega arith
 
-counted-both : (i looked m n j k : ℕ) → looked ≡ i → n ≡ i + m → k ≡ min (j + 1) m → looked + k ≡ min (i + j + 1) n
-counted-both i looked m n j k e f h = omega arith
+-- the same behind codons that were looked up already
+pub further-stop : (already i looked n : ℕ) → looked ≡ already + i → i < n → looked + 1 ≡ already + min (i + 1) n
+further-stop already i looked n e h = omega arith
 
-pub counted-on : (s : List ℕ) (i looked j k : ℕ) → i ≤ length s / 3 → looked ≡ i → k ≡ min (j + 1) (length (take (length s - i * 3) (drop (i * 3) s)) / 3) → looked + k ≡ min (i + j + 1) (length s / 3)
-counted-on s i looked j k h e is =
-    let u = take (length s - i * 3) (drop (i * 3) s) in
-    let size : length u ≡ length s - i * 3 = ap (λ (l : List ℕ). length l) (tail-is (i * 3) s) ∙ length-drop (i * 3) s in
-    counted-both i looked (length u / 3) (length s / 3) j k e (omega arith) is
+pub further-end : (already i looked n : ℕ) → looked ≡ already + i → i ≡ n → looked ≡ already + min (n + 1) n
+further-end already i looked n e h = omega arith
+
+further-both : (i looked m n j k : ℕ) → looked ≡ i → looked + m ≡ n → k ≡ looked + min (j + 1) m → k ≡ min (i + j + 1) n
+further-both i looked m n j k e f h = omega arith
+
+-- a walk that goes on in the part from codon i on
+module _ (s : List ℕ) (i looked : ℕ) (h : i ≤ length s / 3) (e : looked ≡ i) where
+  pub further-fits : looked + length (take (length s - i * 3) (drop (i * 3) s)) / 3 ≡ length s / 3
+  further-fits =
+      let size : length (take (length s - i * 3) (drop (i * 3) s)) ≡ length s - i * 3 = ap (λ (l : List ℕ). length l) (tail-is (i * 3) s) ∙ length-drop (i * 3) s in
+      omega arith
+
+  pub further-on : (j k : ℕ) → k ≡ looked + min (j + 1) (length (take (length s - i * 3) (drop (i * 3) s)) / 3) → k ≡ min (i + j + 1) (length s / 3)
+  further-on j k is = further-both i looked (length (take (length s - i * 3) (drop (i * 3) s)) / 3) (length s / 3) j k e further-fits is
 
 -- the whole codons through the first stop, where there is one and where there is none
 module _ (t : ℕ) (es : List Exception) (s : List ℕ) (stop looked : ℕ) (is : looked ≡ min (stop + 1) (length s / 3)) where

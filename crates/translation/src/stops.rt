@@ -11,7 +11,7 @@ use rules::Exceptions;
 ghost use mathlib.Core.Path.{_≡_};
 ghost use mathlib.Core.Bool.{true, false};
 ghost use mathlib.Core.List.{[]};
-ghost use Prim.Native.Nat.{_+_, _/_, _<_, _≤_, min};
+ghost use Prim.Native.Nat.{_+_, _/_, _^_, _<_, _≤_, min};
 ghost use lib.ListN.{length};
 ghost use Rattle.rules.specs.Bytes.{over};
 ghost use Rattle.rules.specs.Translation.{exceptionList, residueCount, beforeStop, throughStop, wholeCodons, foldToLetters, foldedTranslated};
@@ -167,16 +167,23 @@ fn write_to_stop(
     Ended { stop, looked }
 }
 
-// The same of bases without exceptions.
-fn write_codons_to_stop(seq: &[u8], table: usize, code: &[u8; 64], out: &mut [u8]) -> Ended
+// The same of bases without exceptions, behind codons that were looked up already.
+fn write_codons_to_stop(
+    seq: &[u8],
+    table: usize,
+    code: &[u8; 64],
+    already: usize,
+    out: &mut [u8],
+) -> Ended
     requires { ⌜ HoldsPlain table (now code) ⌝ }
     requires { ⌜ foldToBases (now seq) ≡ true ⌝ }
+    requires { ⌜ already + length (now seq) / 3 < 2 ^ 64 ⌝ }
     requires { ⌜ residueCount (length (now seq)) ≤ length (now out) ⌝ }
     ensures { λ r. ⌜ WalkedTo (throughStop (foldedTranslated table [] (now (seq .entry)))) (length (now (seq .entry))) (now (out .entry)) (now (out .exit)) (r .stop) ⌝ }
-    ensures counted { λ r. ⌜ r .looked ≡ min (r .stop + 1) (length (now (seq .entry)) / 3) ⌝ }
+    ensures counted { λ r. ⌜ r .looked ≡ already + min (r .stop + 1) (length (now (seq .entry)) / 3) ⌝ }
 {
     let whole = seq.len() / 3;
-    let mut looked = 0;
+    let mut looked = already;
     let mut i = 0;
     let stop = loop {
         if whole <= i {
@@ -207,8 +214,8 @@ fn write_plain_to_stop(seq: &[u8], table: usize, code: &[u8; 64], out: &mut [u8]
     let stop = loop {
         if seq.len() < i * 3 + 8 {
             let at = i * 3;
-            let rest = write_codons_to_stop(&seq[at..], table, code, &mut out[i..]);
-            looked += rest.looked;
+            let rest = write_codons_to_stop(&seq[at..], table, code, looked, &mut out[i..]);
+            looked = rest.looked;
             break i + rest.stop;
         }
         let pair = pair_at(seq, i);

@@ -11,7 +11,7 @@ use lib.ListN.{length, length-set}
 use Rattle.rules.specs.Translation.{residueCount, foldedTranslated, throughStop}
 use Rattle.rules.proofs.Over.{tail-is}
 use Rattle.translation.proofs.Residues.{bases-part}
-use Rattle.translation.proofs.Walks.{Walk, walk-start, walk-on, counted-stop, counted-on}
+use Rattle.translation.proofs.Walks.{Walk, walk-start, walk-on, counted-stop, further-fits, further-on}
 use Rattle.translation.proofs.PlainWalks.{place-more, place-stop}
 use Rattle.translation.proofs.stops.write_plain_to_stop.Statement.{statement}
 use Rattle.translation.proofs.stops.write_plain_to_stop.Tie as tie
@@ -33,17 +33,10 @@ write-codons-to-stop-requires c κs =
     let args = c .before .before .before .before .before .before .args in
     let loop = c .before .before .before .loop in
     let pre = c .before .before .before .before .before .before .pre in
-    (pre .0, (rw (tail-is (loop .i * 3) (args .seq .now)) (bases-part (args .seq .now) (loop .i) (loop .inv .0) (pre .1 .0)), omega (arith, loop .inv .1 .same, pre .1 .1)))
-
-add-looked : tie.Need-add-looked Inv-loop μ-loop
-add-looked c =
-    let loop = c .before .before .before .before .before .before .before .loop in
-    let rest = c .before .before .before .write-codons-to-stop in
-    let all = counted-on (c .before .before .before .before .before .before .before .before .before .before .args .seq .now) (loop .i) (loop .looked) (rest .result .stop) (rest .result .looked) (loop .inv .0) (loop .inv .2) (rest .ensures .1) in
-    omega arith
+    (pre .0, (rw (tail-is (loop .i * 3) (args .seq .now)) (bases-part (args .seq .now) (loop .i) (loop .inv .0) (pre .1 .0)), (omega (arith, further-fits (args .seq .now) (loop .i) (loop .looked) (loop .inv .0) (loop .inv .2)), omega (arith, loop .inv .1 .same, pre .1 .1))))
 
 add-stop : tie.Need-add-stop Inv-loop μ-loop
-add-stop c = omega (arith, c .before .before .before .before .write-codons-to-stop .ensures .0 .within)
+add-stop c = omega (arith, c .before .before .before .write-codons-to-stop .ensures .0 .within)
 
 slice-write-out : tie.Need-slice-write-out Inv-loop μ-loop
 unfolding residueCount
@@ -65,18 +58,18 @@ loop-again c =
 
 same-length : tie.Need-same-length Inv-loop μ-loop
 same-length c =
-    let loop = c .before .before .before .before .before .before .before .before .loop in
-    let rest = c .before .before .before .before .write-codons-to-stop in
-    same-len-mid (loop .i) (length (loop .out) - loop .i) (loop .out) (rest .last .1 .1 .1 .0) (rest .kept .1 .1 .1 .0) ∙ loop .inv .1 .same
+    let loop = c .before .before .before .before .before .before .before .loop in
+    let rest = c .before .before .before .write-codons-to-stop in
+    same-len-mid (loop .i) (length (loop .out) - loop .i) (loop .out) (rest .last .1 .1 .1 .1 .0) (rest .kept .1 .1 .1 .1 .0) ∙ loop .inv .1 .same
 
 returns : tie.Need-returns Inv-loop μ-loop
 unfolding residueCount
 returns c =
-    let args = c .before .before .before .before .before .before .before .before .before .before .before .args in
-    let loop = c .before .before .before .before .before .before .before .before .loop in
-    let rest = c .before .before .before .before .write-codons-to-stop in (
-      walk-on (args .table) (args .seq .now) _ (args .out .now) (loop .out) (loop .i) (loop .inv .1) (loop .inv .0) (omega (arith, loop .inv .1 .same, c .before .before .before .before .before .before .before .before .before .before .before .pre .1 .1)) _ (rest .result .stop) (rest .ensures .0),
-      counted-on (args .seq .now) (loop .i) (loop .looked) (rest .result .stop) (rest .result .looked) (loop .inv .0) (loop .inv .2) (rest .ensures .1),
+    let args = c .before .before .before .before .before .before .before .before .before .before .args in
+    let loop = c .before .before .before .before .before .before .before .loop in
+    let rest = c .before .before .before .write-codons-to-stop in (
+      walk-on (args .table) (args .seq .now) _ (args .out .now) (loop .out) (loop .i) (loop .inv .1) (loop .inv .0) (omega (arith, loop .inv .1 .same, c .before .before .before .before .before .before .before .before .before .before .pre .1 .1)) _ (rest .result .stop) (rest .ensures .0),
+      further-on (args .seq .now) (loop .i) (loop .looked) (loop .inv .0) (loop .inv .2) (rest .result .stop) (rest .result .looked) (rest .ensures .1),
     )
 
 same-length-2 : tie.Need-same-length-2 Inv-loop μ-loop
@@ -101,11 +94,11 @@ returns-3 c =
     let w = place-more (args .table) (args .code .now) (args .seq .now) (pre .0) (pre .1 .0) _ (args .out .now) (pre .1 .1) (loop .out) (loop .i) _ (loop .inv .1) (omega arith) (pair-at .ensures .0) (c .before .before .if2 .left) in
     (place-stop (args .table) (args .code .now) (args .seq .now) (pre .0) (pre .1 .0) _ (args .out .now) (pre .1 .1) _ (loop .i + 1) _ w (omega arith) (pair-at .ensures .1) (c .if3 .taken), counted-stop (loop .i + 1) (loop .looked + 1) (length (args .seq .now) / 3) (ap (_+ 1) (loop .inv .2)) (omega arith))
 
-add-looked-2 : tie.Need-add-looked-2 Inv-loop μ-loop
-add-looked-2 c = omega (arith, c .before .before .before .loop .inv .2)
+add-looked : tie.Need-add-looked Inv-loop μ-loop
+add-looked c = omega (arith, c .before .before .before .loop .inv .2)
 
-add-looked-3 : tie.Need-add-looked-3 Inv-loop μ-loop
-add-looked-3 c = omega (arith, c .before .before .before .before .before .loop .inv .2)
+add-looked-2 : tie.Need-add-looked-2 Inv-loop μ-loop
+add-looked-2 c = omega (arith, c .before .before .before .before .before .loop .inv .2)
 
 pub write-plain-to-stop-spec : {M : Type 1} → statement M
 unfolding residueCount
@@ -125,14 +118,13 @@ write-plain-to-stop-spec =
     (λ c. omega arith)
     (λ c. omega arith)
     write-codons-to-stop-requires
-    add-looked
     add-stop
     (λ c κs. omega arith)
     (λ c. omega arith)
-    add-looked-2
+    add-looked
     slice-write-out
     (λ c. omega arith)
-    add-looked-3
+    add-looked-2
     (λ c. omega arith)
     slice-write-out-2
     (λ c. omega arith)
