@@ -33,7 +33,8 @@ fn write_protein(
     let first = c.cs - 1;
     let moved = alt_translation_exceptions(letters, transcript, first, e);
     let plain = known.plain & all_bases(new);
-    write_through_stop(&transcript[first..], c.table, plain, moved, altered)
+    let walked = write_through_stop(&transcript[first..], c.table, plain, moved, altered);
+    walked.residues
 }
 
 // Writes the altered transcript and A, each from its buffer's start, and reports them beside R, which is lent.

@@ -34,7 +34,7 @@ returns c =
     let moved = c .before .before .before .before .before .before .before .alt-translation-exceptions in
     let wrote = c .before .before .write-through-stop in
     let is = coded (a .letters .now) (a .known) (a .e) (a .new .now) (a .transcript .now) (a .altered .now) (c .before .before .before .before .before .before .before .before .before .before .before .before .before .before .pre) (moved .result) (moved .ensures .0) in
-    (wrote .ensures .0 ∙ ap length is, wrote .ensures .1 ∙ ap (λ (l : List ℕ). over l (a .altered .now)) is)
+    (wrote .ensures .0 ∙ ap length is, wrote .ensures .1 .0 ∙ ap (λ (l : List ℕ). over l (a .altered .now)) is)
 
 pub write-protein-spec : {M : Type 1} → statement M
 write-protein-spec =
