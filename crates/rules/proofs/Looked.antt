@@ -18,7 +18,7 @@ use Rattle.rules.specs.Edit.{Asked, is, kindOf}
 use Rattle.rules.specs.Altered.{cutSwap}
 use Rattle.rules.specs.Exceptions.{inFrame, codonIndex}
 use Rattle.rules.specs.Protein.{alteredProtein}
-use Rattle.rules.specs.Reuse.{liesBefore, liesBehind, origin, isOfCds, isReused, alteredCoding, readCodons, countTo, lookedUp}
+use Rattle.rules.specs.Reuse.{liesBefore, liesBehind, origin, isOfCds, isReused, alteredCoding, codonsThroughStop, countTo, lookedUp}
 use Rattle.rules.specs.Pieces.{keepsAll, behindPut, headOf, tailOf, backOf, isLevel, middle}
 use Rattle.rules.specs.declared.Limits.{Limits}
 use Rattle.rules.specs.Refusal.{refusal, referenceRefusal}
@@ -223,22 +223,22 @@ module _ (m : Limits) (r : Reference) (e : Asked) (h : refusal m r e ≡ 0) (non
   -- all behind the edit is read: its whole codons through the first stop
   pub looked-read : isLevel r e ≡ false
       → lookedUp r e ≡ min (length (throughStop (translated (r .table) [] (drop (headOf r e * 3) (alteredCoding r e))))) (length (drop (headOf r e * 3) (alteredCoding r e)) / 3)
-  unfolding lookedUp readCodons isLevel
+  unfolding lookedUp codonsThroughStop isLevel
   looked-read l =
       let q : keepsAll r e ≡ false = or-left (keepsAll r e) _ l in
       let R = referenceProtein r in
       let u = alteredCoding r e in
       let a = headOf r e in
       let T = throughStop (translated (r .table) [] (drop (a * 3) u)) in
-      let n = readCodons r e in
+      let n = codonsThroughStop r e in
       let long : length (alteredProtein r e) ≡ a + length T = ap length (pieces-read m r e h none once l) ∙ length-append (take a R) T ∙ ap (λ (k : ℕ). k + length T) long-head in
       let read : n ≡ a + min (length T) (length (drop (a * 3) u) / 3) = omega (arith, long, length-drop (a * 3) u, pieces-fit m r e h none once .coding) in
       count-between (looks r e) a n n (omega arith) (omega arith)
       (record { below = head-reused m r e h q none; between = λ k x y. behind-read m r e h q l k x; behind = λ k x y. absurd (omega arith) }) ∙ omega arith
 
   -- nothing is read where all of R is kept
-  few-kept : keepsAll r e ≡ true → readCodons r e ≤ codons r
-  unfolding readCodons keepsAll codons cdsSize size
+  few-kept : keepsAll r e ≡ true → codonsThroughStop r e ≤ codons r
+  unfolding codonsThroughStop keepsAll codons cdsSize size
   few-kept q = by (eqb (r .end) atStop) refl
     where
       accepts : referenceRefusal (m .longest) r ≡ 0
@@ -265,7 +265,7 @@ module _ (m : Limits) (r : Reference) (e : Asked) (h : refusal m r e ≡ 0) (non
 
   none-looked : keepsAll r e ≡ true → lookedUp r e ≡ 0
   unfolding lookedUp
-  none-looked q = let few = few-kept q in none-below (looks r e) (readCodons r e) (λ k x. kept-reused q k (omega arith))
+  none-looked q = let few = few-kept q in none-below (looks r e) (codonsThroughStop r e) (λ k x. kept-reused q k (omega arith))
 
   -- R goes on behind the edit, and isn't left again
   tail-inside : keepsAll r e ≡ false → isLevel r e ≡ true → (k : ℕ) → tailOf r e ≤ k → k < tailOf r e + (length (referenceProtein r) - backOf r e) → k < length (alteredCoding r e) / 3
@@ -288,11 +288,11 @@ module _ (m : Limits) (r : Reference) (e : Asked) (h : refusal m r e ≡ 0) (non
 
   -- the codons between are read, through the first stop
   middle-stopped : keepsAll r e ≡ false → isLevel r e ≡ true → beforeStop (middle r e) < length (middle r e) → lookedUp r e ≡ length (throughStop (middle r e))
-  unfolding lookedUp readCodons
+  unfolding lookedUp codonsThroughStop
   middle-stopped q l d =
       let M = middle r e in
       let R = referenceProtein r in
-      let n = readCodons r e in
+      let n = codonsThroughStop r e in
       let fits = pieces-fit m r e h none once in
       let few : length (throughStop M) ≤ tailOf r e - headOf r e = omega (arith, through-le M, length-middle m r e h none once l) in
       let whole : length (alteredProtein r e) ≡ headOf r e + length (throughStop M) = ap length (pieces-stopped m r e h none once l d) ∙ length-append (take (headOf r e) R) (throughStop M) ∙ ap (λ (k : ℕ). k + length (throughStop M)) long-head in
@@ -302,11 +302,11 @@ module _ (m : Limits) (r : Reference) (e : Asked) (h : refusal m r e ≡ 0) (non
       (record { below = head-reused m r e h q none; between = λ k x y. middle-read m r e h q k x (omega (arith, fits .rises l)); behind = λ k x y. absurd (omega arith) }) ∙ omega arith
 
   middle-resumed : keepsAll r e ≡ false → isLevel r e ≡ true → length (middle r e) ≤ beforeStop (middle r e) → lookedUp r e ≡ length (throughStop (middle r e))
-  unfolding lookedUp readCodons
+  unfolding lookedUp codonsThroughStop
   middle-resumed q l d =
       let M = middle r e in
       let R = referenceProtein r in
-      let n = readCodons r e in
+      let n = codonsThroughStop r e in
       let fits = pieces-fit m r e h none once in
       let short : length (throughStop M) ≡ tailOf r e - headOf r e = ap length (through-all M d) ∙ length-middle m r e h none once l in
       let whole : length (alteredProtein r e) ≡ tailOf r e + (length R - backOf r e) =
@@ -339,9 +339,9 @@ module _ (m : Limits) (r : Reference) (e : Asked) (h : refusal m r e ≡ 0) (non
   identity-looks i = none-looked (rw i)
 
 -- with exceptions every whole codon through the first stop is looked up
-pub excepted-looks : (r : Reference) (e : Asked) → (length (r .exceptions) ≡ 0 → ⊥) → lookedUp r e ≡ readCodons r e
+pub excepted-looks : (r : Reference) (e : Asked) → (length (r .exceptions) ≡ 0 → ⊥) → lookedUp r e ≡ codonsThroughStop r e
 unfolding lookedUp
 excepted-looks r e d =
-    let n = readCodons r e in
+    let n = codonsThroughStop r e in
     count-between (looks r e) 0 n n (omega arith) (omega arith)
     (record { below = λ k x. absurd (omega arith); between = λ k x y. ap not (read-excepted r e k d); behind = λ k x y. absurd (omega arith) }) ∙ omega arith

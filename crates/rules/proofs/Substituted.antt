@@ -18,7 +18,7 @@ use Rattle.rules.specs.Reference.{Reference, atStop, cdsSize, codons}
 use Rattle.rules.specs.Edit.{Asked, is, kindOf, startIndex, endIndex, areNewBases, fitBases}
 use Rattle.rules.specs.Altered.{swapBy, swap, kept, cutSwap}
 use Rattle.rules.specs.Protein.{alteredProtein}
-use Rattle.rules.specs.Reuse.{isReused, alteredCoding, readCodons, countTo, lookedUp}
+use Rattle.rules.specs.Reuse.{isReused, alteredCoding, codonsThroughStop, countTo, lookedUp}
 use Rattle.rules.specs.declared.Limits.{Limits}
 use Rattle.rules.specs.Refusal.{refusal}
 use Rattle.rules.proofs.Tests.{and-left, and-right}
@@ -108,8 +108,8 @@ module _ (m : Limits) (r : Reference) (e : Asked) (h : refusal m r e ≡ 0) (non
       by (no i) = reused-behind r e k k none first (omega (arith, o .from, o .put, indexes m r e h .front)) (omega (arith, o .from, o .to, o .put)) l
 
   -- no codon behind the CDS is read
-  stays-inside : (r .end ≡ atStop → getD (translated (r .table) [] (alteredCoding r e)) (codons r - 1) 0 ≡ byte "*") → readCodons r e ≤ codons r
-  unfolding readCodons codons cdsSize
+  stays-inside : (r .end ≡ atStop → getD (translated (r .table) [] (alteredCoding r e)) (codons r - 1) 0 ≡ byte "*") → codonsThroughStop r e ≤ codons r
+  unfolding codonsThroughStop codons cdsSize
   stays-inside stop = by (eqb (r .end) atStop) refl
     where
       T : List ℕ
@@ -128,4 +128,4 @@ module _ (m : Limits) (r : Reference) (e : Asked) (h : refusal m r e ≡ 0) (non
   unfolding lookedUp
   substitution-looks stop =
       let few = stays-inside stop in
-      at-most-one (looks r e) ((startIndex r e - (r .cs - 1)) / 3) (readCodons r e) (λ k l d. ap not (beside k (omega arith) d))
+      at-most-one (looks r e) ((startIndex r e - (r .cs - 1)) / 3) (codonsThroughStop r e) (λ k l d. ap not (beside k (omega arith) d))

@@ -16,7 +16,7 @@ use Rattle.rules.specs.Letters.{folded}
 use Rattle.rules.specs.Translation.{exceptionList, excepted, foldedTranslated, beforeStop, throughStop, wholeCodons}
 use Rattle.rules.proofs.Over.{overFrom, from-start, from-end, from-turn, tail-is}
 use Rattle.rules.proofs.Reading.{restOf, before-here, before-later, through-here, through-later, through-rest, length-whole}
-use Rattle.translation.specs.Residues.{codonAt, residueAt, nextFrom, Clear, WalkedTo, lookedUp}
+use Rattle.translation.specs.Residues.{codonAt, residueAt, nextFrom, Clear, WalkedTo, codonsWalked}
 use Rattle.translation.proofs.Residues.{plain-at, leftFrom, left-all, left-more, left-rest, left-part}
 use Rattle.translation.proofs.Excepted.{next-clear, still-clear}
 
@@ -154,12 +154,12 @@ module _ (s : List ℕ) (i looked : ℕ) (h : i ≤ length s / 3) (e : looked �
 
 -- the whole codons through the first stop, where there is one and where there is none
 module _ (t : ℕ) (es : List Exception) (s : List ℕ) (stop looked : ℕ) (is : looked ≡ min (stop + 1) (length s / 3)) where
-  pub looked-stop : stop + 1 ≡ length (throughStop (foldedTranslated t es s)) → looked ≡ lookedUp t es s
-  unfolding lookedUp
+  pub looked-stop : stop + 1 ≡ length (throughStop (foldedTranslated t es s)) → looked ≡ codonsWalked t es s
+  unfolding codonsWalked
   looked-stop e = rw (← e) is
 
-  pub looked-end : length s / 3 ≤ stop → (length s + 2) / 3 ≡ length (throughStop (foldedTranslated t es s)) → looked ≡ lookedUp t es s
-  unfolding lookedUp
+  pub looked-end : length s / 3 ≤ stop → (length s + 2) / 3 ≡ length (throughStop (foldedTranslated t es s)) → looked ≡ codonsWalked t es s
+  unfolding codonsWalked
   looked-end h e = rw (← e) (omega arith)
 
 -- the first stop among the whole codons

@@ -82,8 +82,8 @@ pub record WalkedTo (A : List ℕ) (n : ℕ) (old out : List ℕ) (r : ℕ) : Ty
   pub ended : n / 3 ≤ r → ((n + 2) / 3 ≡ length A) × (overFrom (n / 3) (restOf (n % 3)) out ≡ over A old)
 
 -- the whole codons of letters, up to and with the first stop: their residues, but for the X of a rest
-unfoldable pub lookedUp : ℕ → List Exception → List ℕ → ℕ
-lookedUp t es s = min (length (throughStop (foldedTranslated t es s))) (length s / 3)
+unfoldable pub codonsWalked : ℕ → List Exception → List ℕ → ℕ
+codonsWalked t es s = min (length (throughStop (foldedTranslated t es s))) (length s / 3)
 
 -- letters that were looked at, a table, and exceptions that were judged
 pub record Reads (table : ℕ) (plain : Bool) (s : List ℕ) (e : Exceptions) : Type 0 where

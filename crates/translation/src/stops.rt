@@ -16,7 +16,7 @@ ghost use lib.ListN.{length};
 ghost use Rattle.rules.specs.Bytes.{over};
 ghost use Rattle.rules.specs.Translation.{exceptionList, residueCount, beforeStop, throughStop, wholeCodons, foldToLetters, foldedTranslated};
 ghost use Rattle.codons.specs.Tables.{HoldsCode, HoldsPlain, HoldsSets, foldedSet};
-ghost use Rattle.translation.specs.Residues.{residueAt, Clear, foldToBases, WalkedTo, lookedUp, Reads, Walks};
+ghost use Rattle.translation.specs.Residues.{residueAt, Clear, foldToBases, WalkedTo, codonsWalked, Reads, Walks};
 
 // A codon's residue, exceptions applied, and the number of the next codon with an exception.
 struct Turn {
@@ -271,7 +271,7 @@ pub fn write_through_stop(
     requires { ⌜ Walks table plain (now seq) e (now out) ⌝ }
     ensures { λ r. ⌜ r .residues ≡ length (throughStop (foldedTranslated table (exceptionList e) (now (seq .entry)))) ⌝ }
     ensures written { λ _. ⌜ now (out .exit) ≡ over (throughStop (foldedTranslated table (exceptionList e) (now (seq .entry)))) (now (out .entry)) ⌝ }
-    ensures looked { λ r. ⌜ r .looked ≡ lookedUp table (exceptionList e) (now (seq .entry)) ⌝ }
+    ensures looked { λ r. ⌜ r .looked ≡ codonsWalked table (exceptionList e) (now (seq .entry)) ⌝ }
 {
     let walk = write_walk(seq, table, plain, e, out);
     let stop = walk.stop;
