@@ -141,16 +141,16 @@ module _ (table : ℕ) (transcript protein altered : List ℕ) (q : Pieces) (pla
     module _ (n : ℕ) (d′ : List ℕ)
         (long : n ≡ length (resumed (foldedTranslated table [] (take (q .end - q .start) (drop (q .start) transcript))) (take (length protein - q .back) (drop (q .back) protein))))
         (wrote : d′ ≡ over (resumed (foldedTranslated table [] (take (q .end - q .start) (drop (q .start) transcript))) (take (length protein - q .back) (drop (q .back) protein))) (take (length d - q .head) (drop (q .head) d)))
-        where
-      pub all-long : q .head + n ≡ length (reusedBy table transcript protein q)
-      unfolding readBy part
-      all-long = omega (arith, whole-long, rw (tail-is (q .back) protein) at long)
+      where
+        pub all-long : q .head + n ≡ length (reusedBy table transcript protein q)
+        unfolding readBy part
+        all-long = omega (arith, whole-long, rw (tail-is (q .back) protein) at long)
 
-      pub all-written : putMid (q .head) (length d - q .head) d d′ ≡ over (reusedBy table transcript protein q) altered
-      unfolding reusedBy readBy part
-      all-written = lent-on-by front following altered d d′ (q .head) (sym front-long) front-room held (rw (tail-is (q .back) protein) at wrote)
+        pub all-written : putMid (q .head) (length d - q .head) d d′ ≡ over (reusedBy table transcript protein q) altered
+        unfolding reusedBy readBy part
+        all-written = lent-on-by front following altered d d′ (q .head) (sym front-long) front-room held (rw (tail-is (q .back) protein) at wrote)
 
-      pub all-behind : (k : ℕ) → k ≡ behindOf (foldedTranslated table [] (take (q .end - q .start) (drop (q .start) transcript))) (take (length protein - q .back) (drop (q .back) protein))
-          → k ≡ behindOf (foldedTranslated table [] (readBy transcript q)) (drop (q .back) protein)
-      unfolding readBy part
-      all-behind k e = rw (tail-is (q .back) protein) at e
+        pub all-behind : (k : ℕ) → k ≡ behindOf (foldedTranslated table [] (take (q .end - q .start) (drop (q .start) transcript))) (take (length protein - q .back) (drop (q .back) protein))
+            → k ≡ behindOf (foldedTranslated table [] (readBy transcript q)) (drop (q .back) protein)
+        unfolding readBy part
+        all-behind k e = rw (tail-is (q .back) protein) at e

@@ -55,26 +55,26 @@ isLevelBy c p = eqb (putEnd p % 3) (p .to % 3) && ltb (backBy c p) (codonsBy c)
 unfoldable pub piecesBy : Cds → Plan → ℕ → Pieces
 piecesBy c p residues =
     if keepsAllBy c p then
-      record {
-        head = codonsBy c;
-        start = c .cs - 1 + codonsBy c * 3;
-        end = c .cs - 1 + codonsBy c * 3;
-        back = codonsBy c;
-      }
+    record {
+      head = codonsBy c;
+      start = c .cs - 1 + codonsBy c * 3;
+      end = c .cs - 1 + codonsBy c * 3;
+      back = codonsBy c;
+    }
     else if isLevelBy c p then
-      record {
-        head = headBy c p;
-        start = c .cs - 1 + headBy c p * 3;
-        end = c .cs - 1 + tailBy c p * 3;
-        back = backBy c p;
-      }
+    record {
+      head = headBy c p;
+      start = c .cs - 1 + headBy c p * 3;
+      end = c .cs - 1 + tailBy c p * 3;
+      back = backBy c p;
+    }
     else
-      record {
-        head = headBy c p;
-        start = c .cs - 1 + headBy c p * 3;
-        end = p .length;
-        back = residues;
-      }
+    record {
+      head = headBy c p;
+      start = c .cs - 1 + headBy c p * 3;
+      end = p .length;
+      back = residues;
+    }
 
 -- a plan whose bases lie behind the first of the CDS, and whose places fit
 pub record Placed (c : Cds) (p : Plan) : Type 0 where

@@ -7,55 +7,23 @@ use Rattle.reuse.proofs.Reusing.{front-room, head-fits, resumes, all-lo
 use borrow.Author.Needs.{needs}
 use Rattle.reuse.proofs.writing.write_reusing.Statement.{statement}
 use Rattle.reuse.proofs.writing.write_reusing.Tie as tie
-use Rattle.reuse.proofs.writing.write_reusing.Reads as reads
-use Rattle.reuse.proofs.writing.write_reusing.Lts as lts
-use Rattle.bytes.proofs.copy.Reads as copy-reads
-use Rattle.reuse.proofs.writing.write_resumed.Reads as write-resumed-reads
 
--- src/writing.rt:84:17
 slice-aggregate-copy : tie.Need-slice-aggregate-copy
 slice-aggregate-copy c =
     let args = c .before .before .before .before .args in
     sym (length-take-le (args .pieces .head) (args .protein .now) (c .before .before .before .before .pre .head))
 
--- src/writing.rt:84:5
 copy-requires : tie.Need-copy-requires
 copy-requires c κs =
     let args = c .before .before .before .before .before .args in
     front-room (args .table) (args .transcript .now) (args .protein .now) (args .altered .now) (args .pieces) (args .plain) (args .none) (c .before .before .before .before .before .pre)
 
--- src/writing.rt:86:9
-sub-write-resumed : tie.Need-sub-write-resumed
-sub-write-resumed c = search needs
-
--- src/writing.rt:86:9
-part-write-resumed-start : tie.Need-part-write-resumed-start
-part-write-resumed-start c = search needs
-
--- src/writing.rt:86:9
-part-write-resumed-end : tie.Need-part-write-resumed-end
-part-write-resumed-end c = search needs
-
--- src/writing.rt:90:9
-sub-write-resumed-2 : tie.Need-sub-write-resumed-2
-sub-write-resumed-2 c = search needs
-
--- src/writing.rt:90:9
-part-write-resumed-start-2 : tie.Need-part-write-resumed-start-2
-part-write-resumed-start-2 c = search needs
-
--- src/writing.rt:90:9
-part-write-resumed-end-2 : tie.Need-part-write-resumed-end-2
-part-write-resumed-end-2 c = search needs
-
--- src/writing.rt:91:9
 sub-write-resumed-3 : tie.Need-sub-write-resumed-3
 sub-write-resumed-3 c =
     let args = c .before .before .before .before .before .before .before .before .before .before .args in
     let copy = c .before .before .before .before .copy in
     head-fits (args .table) (args .transcript .now) (args .protein .now) (args .altered .now) (args .pieces) (args .plain) (args .none) (c .before .before .before .before .before .before .before .before .before .before .pre) (copy .last .1 .0) (copy .ensures .1)
 
--- src/writing.rt:91:9
 part-write-resumed-start-3 : tie.Need-part-write-resumed-start-3
 part-write-resumed-start-3 c =
     let args = c .before .before .before .before .before .before .before .before .before .before .args in
@@ -63,18 +31,12 @@ part-write-resumed-start-3 c =
     let fits = head-fits (args .table) (args .transcript .now) (args .protein .now) (args .altered .now) (args .pieces) (args .plain) (args .none) (c .before .before .before .before .before .before .before .before .before .before .pre) (copy .last .1 .0) (copy .ensures .1) in
     search needs
 
--- src/writing.rt:91:9
-part-write-resumed-end-3 : tie.Need-part-write-resumed-end-3
-part-write-resumed-end-3 c = search needs
-
--- src/writing.rt:85:9
 write-resumed-requires : tie.Need-write-resumed-requires
 write-resumed-requires c κs =
     let args = c .before .before .before .before .before .before .before .before .before .before .before .args in
     let copy = c .before .before .before .before .before .copy in
     resumes (args .table) (args .transcript .now) (args .protein .now) (args .altered .now) (args .pieces) (args .plain) (args .none) (c .before .before .before .before .before .before .before .before .before .before .before .pre) (copy .last .1 .0) (copy .ensures .1)
 
--- src/writing.rt:94:19
 add-t13 : tie.Need-add-t13
 add-t13 c =
     let args = c .before .before .before .before .before .before .before .before .before .before .before .before .before .before .before .args in
@@ -84,11 +46,6 @@ add-t13 c =
     let short = c .before .before .before .before .before .before .before .before .before .before .before .before .before .before .before .pre .short in
     search needs
 
--- src/writing.rt:65:1
-same-length : tie.Need-same-length
-same-length c = search needs
-
--- src/writing.rt:65:1
 returns : tie.Need-returns
 unfolding readBy part
 returns c =
@@ -105,16 +62,16 @@ write-reusing-spec =
     (tie.spec
     slice-aggregate-copy
     copy-requires
-    sub-write-resumed
-    part-write-resumed-start
-    part-write-resumed-end
-    sub-write-resumed-2
-    part-write-resumed-start-2
-    part-write-resumed-end-2
+    (λ c. search needs)
+    (λ c. search needs)
+    (λ c. search needs)
+    (λ c. search needs)
+    (λ c. search needs)
+    (λ c. search needs)
     sub-write-resumed-3
     part-write-resumed-start-3
-    part-write-resumed-end-3
+    (λ c. search needs)
     write-resumed-requires
     add-t13
-    same-length
+    (λ c. search needs)
     returns)
