@@ -10,8 +10,8 @@
 #include <string.h>
 
 /* The three buffers, in a row and each longer than any room that is lent, and what they hold before a call: it differs from place to place. */
-enum { TRANSCRIPT = 20, REFERENCE = 5, ALTERED = 8, ALL = TRANSCRIPT + REFERENCE + ALTERED };
-static const uint8_t before[] = "abcdefghijklmnopqrst" "abcde" "abcdefgh";
+enum { TRANSCRIPT = 28, REFERENCE = 5, ALTERED = 11, ALL = TRANSCRIPT + REFERENCE + ALTERED };
+static const uint8_t before[] = "abcdefghijklmnopqrstuvwxyz{|" "abcde" "abcdefghijk";
 static uint8_t lent[ALL], in[1 << 16], out[1 << 16];
 static size_t in_at, in_len, out_len;
 
