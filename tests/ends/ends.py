@@ -159,17 +159,20 @@ seen = set()  # whether the reference is cut short, and the refusal, the word of
 
 
 def answered(ref, edit, turn):
-    """The rooms that are lent, and what garumbott_record and garumbott_edit answer and write: exact room twice as often as plenty, and a byte too little
-    in each buffer."""
+    """The rooms that are lent, what garumbott_record and garumbott_edit answer and write, and the codons looked up with room enough: exact room twice as often
+    as plenty, and a byte too little in each buffer."""
     try:
         record, altered = account.answer(ref, edit)
     except account.Refused as refusal:
         seen.add((ref.end != 0, refusal.number))
         no = alone(0, refusal.number) + NOTHING
-        return NONE if turn % 2 else PLENTY, no, no
+        return NONE if turn % 2 else PLENTY, no, no, 0
     seen.add((ref.end != 0, record.word))
     if not altered:
-        return NONE if turn % 2 else PLENTY, alone(1) + NOTHING, alone(1) + NOTHING
+        return NONE if turn % 2 else PLENTY, alone(1) + NOTHING, alone(1) + NOTHING, 0
+    codons = altered.looked_up(ref)
+    if not ref.exceptions:
+        counts[codons] = counts.get(codons, 0) + 1
     if record.number > len(ref.protein):
         seen.add((ref.end != 0, "begun"))
     texts = altered.transcript, ref.protein, altered.protein
@@ -185,11 +188,8 @@ def answered(ref, edit, turn):
     except account.Refused as refusal:
         seen.add((ref.end != 0, refusal.number))
         no = alone(0, refusal.number) + NOTHING
-        return room, no, no if refusal.number == 11 else edits
-    codons = altered.looked_up(ref)
-    if not ref.exceptions:
-        counts[codons] = counts.get(codons, 0) + 1
-    return room, told(record, altered.flag, sizes, codons) + buffers(texts), edits
+        return room, no, no if refusal.number == 11 else edits, codons
+    return room, told(record, altered.flag, sizes, codons) + buffers(texts), edits, codons
 
 
 def stored(data, exceptions):
@@ -216,9 +216,9 @@ def block(done, letters, cs, ce, table, exceptions, end, edits):
         ref, no = None, alone(0, refusal.number) + NOTHING
         seen.add((end != 0, refusal.number))
     for turn, (edit, given) in enumerate(edits, done):
-        room, records, alones = answered(ref, edit, turn) if ref else (NONE if turn % 2 else PLENTY, no, no)
+        room, records, alones, codons = answered(ref, edit, turn) if ref else (NONE if turn % 2 else PLENTY, no, no, 0)
         call += [given, bytes(room)]
-        want += [records, alones, records, b"\1"] if read else [records, alones, b"\1"]
+        want += [records, alones] + [records] * read + [bytes([1, codons])]
     return b"".join(call), b"".join(want)
 
 
@@ -232,11 +232,13 @@ def differs(number, want, got):
     if want[:9] != got[:9]:
         return f"{said}: garumbott_read_stored {list(got[:9])}, not {list(want[:9])}"
     at = next(i for i, pair in enumerate(itertools.zip_longest(want, got)) if pair[0] != pair[1])
-    number, rest = divmod(at - 9, calls * size + 1)
+    number, rest = divmod(at - 9, calls * size + 2)
     edit, call, first = edits[number][0], rest // size, at - rest % size
     said = f"{said}, {edit.kind} {''.join(map(str, edit.start))}_{''.join(map(str, edit.end))} {edit.bases}"
-    if call == calls:
+    if rest == calls * size:
         return f"{said}: garumbott_check doesn't fit what garumbott_record answers"
+    if rest > calls * size:
+        return f"{said}: garumbott_record looks up {got[at]} codons, not {want[at]}"
     name = ("garumbott_record", "garumbott_edit", "garumbott_record of the stored form")[call]
     shown = [f"{list(part[:NUMBERS])} {part[NUMBERS:].decode('latin-1')}" for part in (got[first:first + size], want[first:first + size])]
     return f"{said}: {name} {shown[0]}, not {shown[1]}"
@@ -250,7 +252,7 @@ def main(folder, command):
             out.write(call)
             wants.append(want)
             done += len(reference[-1])
-            calls += 1 + len(reference[-1]) * (4 if want[0] == 0 else 3)
+            calls += 1 + len(reference[-1]) * (5 if want[0] == 0 else 4)
             if want[0] == 0:
                 ends[reference[5]] = ends.get(reference[5], 0) + 1
     with open(f"{folder}/input", "rb") as given:

@@ -1,7 +1,7 @@
 /* fuzz SECONDS SEED: for so long, and on 10,000 inputs at least, calls every entry point on random bytes, on good input and on damaged copies of
  * it, through fenced memory, and holds each answer to what can be told without a second account of the rules: no byte changes that shouldn't,
- * every number is in its range, the answers of different entry points fit together, the altered transcript is what the edit makes of the letters,
- * the record carried out on either protein gives the other, a proposed record gets its two answers by carrying it out on R, and a stored reference is what
+ * every number is in its range, the answers of different entry points fit together, the altered transcript is what the edit makes of the letters, the codons
+ * looked up are those that the edit doesn't leave alone, the record carried out on either protein gives the other, a proposed record gets its two answers by carrying it out on R, and a stored reference is what
  * its fields, read plainly, and garumbott_record make of it. In the end every answer, class, refusal and end of a CDS must have come up. Prints the call's seed where a check fails, and exits 1. */
 #define _DEFAULT_SOURCE
 #include "../host/fence.h"
@@ -529,7 +529,9 @@ static void fuzz_edit(void)
     check(wide.a.transcript_len <= garumbott_transcript_room(ref.letters_len, edit.kind, edit.bases_len), "garumbott_transcript_room");
     check(plain_transcript(plain) == wide.a.transcript_len && memcmp(plain, wide.t, wide.a.transcript_len) == 0, "the altered transcript");
     check(plain_codons(wide.a.transcript_len, wide.a.altered_len) == wide.a.codons, "codons looked up");
-    if (edit.kind == GARUMBOTT_SUBSTITUTION && ref.exceptions_len == 0 && wide.a.codons > 1) check(wide.a.altered_len >= wide.a.reference_len && ref.end == GARUMBOTT_END_STOP && wide.p[wide.a.reference_len - 1] != '*', "a substitution looks up more than one codon");
+    if (edit.kind == GARUMBOTT_SUBSTITUTION && ref.exceptions_len == 0 && wide.a.codons > 1)
+        check(ref.end == GARUMBOTT_END_STOP && wide.a.altered_len >= wide.a.reference_len && wide.p[wide.a.reference_len - 1] != '*',
+              "a substitution that keeps the final stop looks up two codons");
     check_proteins(&wide);
     fuzz_check(most, &wide, refusal);
 }
