@@ -188,7 +188,7 @@ struct garumbott_answer {
     uint64_t inserted_at;  /* the residues of A that come: A[inserted_at] .. A[inserted_at + inserted_len - 1] */
     uint64_t inserted_len; /* may be 0 */
     uint64_t first;        /* duplication: the number of the first residue that is repeated, else 0 */
-    uint64_t codons;       /* codons of the altered transcript that were looked up in the table to read A: see garumbott_record */
+    uint64_t codons;       /* how many codons of the altered transcript were looked up in the table, to read A: see garumbott_record */
 };
 
 /* What garumbott_check answers. A yes is 1, a no 0.
@@ -264,11 +264,12 @@ struct garumbott_stored {
  *     X, though a base changed, and the flag may be set.
  *   A is read from base 1 of the CDS through the first '*', to the transcript's end where there is none, with 'X' for one or two bases that are
  *     left. An exception stays with its codon where the edit leaves that codon as it was and in frame, and is dropped otherwise.
- *   A codon that the edit leaves alone isn't looked up in the table again: its residue is R's. Such a codon lies wholly before the edit, or wholly behind it and is,
- *     in the reference, a codon of the CDS in its frame. The edit is its range, changed or not, and the gap in an insertion or a duplication; an identity leaves
- *     every codon of the CDS alone. With exceptions none is reused. codons counts the others: the whole codons, through A's stop, that were looked up. It tells what an edit
- *     cost, and says nothing of R: for a substitution in the CDS, without exceptions, it is at most 1 unless it changes R's final stop. In the example above it is 1 of A's five
- *     codons; "4=" has 0, "5del" 5 (a frameshift: no codon behind it is in the reference's frame), "13T>C" 3 (it reads on behind the CDS).
+ *   A codon that the edit leaves alone isn't looked up in the table again: its residue is taken from R. It lies wholly before the edit, or wholly behind it and is, in the
+ *     reference, a codon of the CDS in its frame. The edit is its range, whether its bases change or not, and in an insertion or a duplication the gap where bases go
+ *     in; an identity leaves every codon of the CDS alone. With exceptions none is left alone. The answer's codons are the others: the whole codons, up to and with A's
+ *     stop, that were looked up. They tell what the edit cost, not what it changed: for a substitution in the CDS, without exceptions, 1 at most, unless R's final
+ *     stop changes. In the example above 1 of A's five codons is looked up. "4=" has 0, "4_6dup" 1, "10_12del" 0, "5del" 5 (behind a frameshift all are), "13T>C" 3
+ *     (A goes on behind the CDS).
  *
  * Refusals 1 to 12, the lowest that applies, 28 in 6's place where the CDS doesn't end at a stop; but Unknown is decided before 11, so that it needs no room. Refused and Unknown write nothing;
  * every other answer writes all three buffers. */
