@@ -17,7 +17,8 @@ use Rattle.rules.specs.Refusal.{limits, Room}
 use Rattle.rules.specs.Check.{Proposal, checkOutcome}
 use Rattle.rules.specs.Stored.{storedReference}
 use Rattle.rules.specs.Line.{editLine}
-use Rattle.rules.specs.Reuse.{lookedUp}
+use Rattle.rules.specs.Answer.{outcome}
+use Rattle.rules.specs.Values.{valuesOf}
 use Rattle.rules.specs.Run.{decimal, refusedLine}
 use Rattle.rules.specs.Opened.{opened}
 use Rattle.rules.proofs.Doubtful.{Decided, _⇒_, worked, exc, edited, shown, proteinIn}
@@ -140,10 +141,10 @@ pub copied-from-one : map (λ (d : Decided). d .computed) copiedFromOne ≡ map 
 unfolding opened
 copied-from-one = refl
 
--- how many codons an edit line looks up
+-- how many codons the answer to an edit line has looked up
 abbrev pub lookedOf : Reference → Option Asked → List ℕ
 lookedOf r none = refusedLine 30
-lookedOf r (some e) = decimal (lookedUp r e)
+lookedOf r (some e) = decimal (valuesOf (outcome limits r e ample .answer) .codons)
 
 abbrev pub looked : Reference → String → List ℕ
 looked r edit = lookedOf r (editLine (bytes edit))
@@ -171,8 +172,13 @@ lookedUpIn =
     ∷ looked worked "10_12del" ⇒ "0"
     -- behind a frameshift all are read; a rest of one or two bases isn't counted
     ∷ looked worked "5del" ⇒ "5"
-    -- no protein
+    -- a gap behind the CDS: A has ended before it
+    ∷ looked worked "4_*6dup" ⇒ "0"
+    -- no protein; an Unknown, though one codon of M** has changed; a refusal
     ∷ looked worked "1_*6del" ⇒ "0"
+    ∷ looked worked "1_*7del" ⇒ "0"
+    ∷ looked (ending 0 "ATGTAATAA" []) "1A>G" ⇒ "0"
+    ∷ looked worked "16del" ⇒ "0"
     -- none is reused with exceptions, not even by an identity
     ∷ looked excepting "9A>G" ⇒ "3"
     ∷ looked excepting "1=" ⇒ "3"
