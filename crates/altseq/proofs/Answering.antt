@@ -65,13 +65,13 @@ module _ (s : List ℕ) (c : Cds) (e : Exceptions) (a : Asked) where
   past-bare = refl
 
 -- the outcome of a plan that goes is all that document 01 writes
-module _ (m : Limits) (r : Reference) (a : Asked) (allowed : refusal m r a ≡ 0) (p : Plan) (is : p ≡ planOf r a) (known : isUnknown r a ≡ false) where
+module _ (r : Reference) (a : Asked) (p : Plan) (is : p ≡ planOf r a) (known : isUnknown r a ≡ false) where
   pub protein-is : proteinBy r p (a .new) ≡ alteredProtein r a
   protein-is = rw is (protein-of r a)
 
-  pub goes-all : decidedOutcome r (decision.Goes p) (a .new) ≡ writesAll r a
+  pub goes-all : (m : Limits) → refusal m r a ≡ 0 → decidedOutcome r (decision.Goes p) (a .new) ≡ writesAll r a
   unfolding decidedOutcome writesAll fullReport reportBy planOf
-  goes-all =
+  goes-all m allowed =
       let flag : p .shift ≡ frameshift r a = ap (λ (p : Plan). p .shift) is in
       let number : p .number ≡ silentNumber r a = ap (λ (p : Plan). p .number) is in
       let carried : carriedBy p (r .letters) (a .new) ≡ alteredTranscript r a = rw is (carried-by-is r a) in
@@ -115,7 +115,7 @@ module _ (m : Limits) (s : List ℕ) (k : Known) (e : Exceptions) (protein : Lis
     room-goes room = by (roomBy (k .cds) (p .length) room) (room-is room)
       where
         by : (n : ℕ) → roomRefusal (referenceOf s (k .cds) e) a room ≡ n → outcome m (referenceOf s (k .cds) e) a room ≡ decidedOutcome (referenceOf s (k .cds) e) (goesBy n p) (a .new)
-        by zero h = all-by m (referenceOf s (k .cds) e) a room none-refused not-unknown h ∙ sym (goes-all m (referenceOf s (k .cds) e) a none-refused p plan-is not-unknown)
+        by zero h = all-by m (referenceOf s (k .cds) e) a room none-refused not-unknown h ∙ sym (goes-all (referenceOf s (k .cds) e) a p plan-is not-unknown m none-refused)
         by (suc n) h = room-by m (referenceOf s (k .cds) e) a room n none-refused not-unknown h
 
   -- what was decided, with room or without, is the outcome
