@@ -10,7 +10,7 @@
 #include <string.h>
 #include <time.h>
 
-enum { PASSES = 10, ROUNDS = 100, SAMPLE_NS = 20000, MOST = 20000, CALLS = 5, ROWS = 40 };
+enum { PASSES = 10, ROUNDS = 100, SAMPLE_NS = 20000, MOST = 20000, CALLS = 5, ROWS = 64 };
 
 static double now(void)
 {
@@ -225,7 +225,7 @@ static const double *best_of(const call *calls, int count)
 static void cell(double ns)
 {
     if (ns > 0)
-        printf("%10.0f", ns);
+        printf("%10.*f", ns < 100, ns);
     else
         printf("%10s", "-");
 }
@@ -418,18 +418,38 @@ static void translations(uint64_t len, int strewn)
 #endif
 }
 
-static void prefixes(uint64_t len)
+/* Two strings of a length that are equal, or differ in the byte at a place, from 0, below it. */
+static void prefix(uint64_t len, uint64_t place)
 {
+    char what[64];
+    uint64_t shared = place < len ? place : len;
     make_letters(len);
     memcpy(other, letters, len);
-    if (oracle_prefix(letters, len, other, len) != len || base_prefix(letters, len, other, len) != len)
+    if (place < len) {
+        other[place] ^= 1;
+        snprintf(what, sizeof what, "%lu bytes, a difference at %lu", (unsigned long)len, (unsigned long)place);
+    } else {
+        snprintf(what, sizeof what, "prefix of two equal strings, %lu", (unsigned long)len);
+    }
+    if (oracle_prefix(letters, len, other, len) != shared || base_prefix(letters, len, other, len) != shared)
         fail("prefix");
 #ifdef OURS
-    if (garumbott_common_prefix(letters, len, other, len) != len)
+    if (garumbott_common_prefix(letters, len, other, len) != shared)
         fail("prefix, ours");
 #endif
     const double *best = best_of((call[]){ours_prefix, rust_prefix, c_prefix}, 3);
-    row("prefix of two equal strings, 16384", best[0], best[1], 0, best[2]);
+    row(what, best[0], best[1], 0, best[2]);
+}
+
+static void prefixes(void)
+{
+    static const uint64_t places[] = {7, 8, 63, 64, 100, 5000};
+    prefix(16384, 16384);
+    prefix(5461, 5461);
+    for (unsigned k = 0; k < sizeof places / sizeof *places; k++)
+        prefix(5461, places[k]);
+    for (uint64_t len = 0; len <= 20; len++)
+        prefix(len, len);
 }
 
 static const struct {
@@ -518,7 +538,7 @@ int main(void)
             for (int k = 0; k < 3; k++)
                 translations(lengths[k], strewn);
         head("common prefix");
-        prefixes(16384);
+        prefixes();
         head("edits with their record");
         edits(3000);
         edits(16384);

@@ -1521,6 +1521,47 @@ static void tables(void)
         plain_case(TRANSLATE, names[i], bytes(codons), sizeof codons - 1, all[i], 1, NULL, 0, 5, 0, names[i], 5);
 }
 
+/* The prefix of two fenced strings, either first, as a plain loop counts it. */
+static void prefix_case(const uint8_t *a, size_t m, const uint8_t *b, size_t n, const char *what)
+{
+    size_t i = 0;
+    while (i < m && i < n && a[i] == b[i]) i++;
+    check(garumbott_common_prefix(a, m, b, n) == i && garumbott_common_prefix(b, n, a, m) == i, "common prefix", what);
+}
+
+/* Every pair of strings of up to three letters over two letters. */
+static void prefixes_of_two_letters(enum fence_side side)
+{
+    static const char *const all[] = {"", "A", "B", "AA", "AB", "BA", "BB", "AAA", "AAB", "ABA", "ABB", "BAA", "BAB", "BBA", "BBB"};
+    for (size_t i = 0; i < sizeof all / sizeof *all; i++) {
+        for (size_t j = 0; j < sizeof all / sizeof *all; j++) {
+            size_t m = strlen(all[i]), n = strlen(all[j]);
+            prefix_case(fence_fill(&fences[LETTERS], side, all[i], m), m, fence_fill(&fences[BASES], side, all[j], n), n, "two letters");
+        }
+    }
+}
+
+/* Strings of 0 to 130 bytes: equal, cut at each place, and with each bit of each byte turned. */
+static void prefixes_of_lengths(enum fence_side side)
+{
+    uint8_t s[130];
+    for (size_t i = 0; i < sizeof s; i++) s[i] = (uint8_t)(i * 37 + 11);
+    for (size_t len = 0; len <= sizeof s; len++) {
+        const uint8_t *a = fence_fill(&fences[LETTERS], side, s, len);
+        uint8_t *b = fence_fill(&fences[BASES], side, s, len);
+        prefix_case(a, len, b, len, "equal");
+        for (size_t i = 0; i < len; i++) {
+            prefix_case(a, len, b, i, "cut");
+            for (unsigned bit = 1; bit < 256; bit *= 2) {
+                b[i] ^= (uint8_t)bit;
+                prefix_case(a, len, b, len, "one bit");
+                b[i] = s[i];
+            }
+        }
+        check(fence_check(&fences[LETTERS], NULL, 0) && fence_check(&fences[BASES], NULL, 0), "common prefix", "input changed");
+    }
+}
+
 static void trims(void)
 {
     static const struct {
@@ -1529,6 +1570,7 @@ static void trims(void)
     } all[] = {
         {"", "", 0, 0}, {"A", "", 0, 0}, {"", "A", 0, 0}, {"A", "A", 1, 1}, {"A", "C", 0, 0}, {"MAKW*", "MARW*", 2, 2},
         {"MA", "MAMA", 2, 2}, {"MAMA", "MA", 2, 2}, {"AAAA", "AAA", 3, 3}, {"ABC", "XBC", 0, 2}, {"ABC", "ABX", 2, 0}, {"Aa", "aA", 0, 0},
+        {"ABCDEFGH", "ABCDEFGX", 7, 0}, {"ABCDEFGHI", "ABCDEFGH", 8, 0},
     };
     for (size_t i = 0; i < sizeof all / sizeof *all; i++) {
         size_t m = strlen(all[i].a), n = strlen(all[i].b);
@@ -1542,6 +1584,12 @@ static void trims(void)
     }
     check(garumbott_common_prefix(NULL, 0, NULL, 0) == 0 && garumbott_common_suffix(NULL, 0, NULL, 0) == 0, "trims", "NULL slices");
     check(garumbott_common_prefix(NULL, 0, bytes("A"), 1) == 0 && garumbott_common_suffix(bytes("A"), 1, NULL, 0) == 0, "trims", "one NULL slice");
+    fences = small;
+    for (int side = FENCE_END; side <= FENCE_START; side++) {
+        prefixes_of_two_letters((enum fence_side)side);
+        prefixes_of_lengths((enum fence_side)side);
+    }
+    fences = large;
 }
 
 /* The text program over memory. */

@@ -1,2 +1,3 @@
--- Laws of trims by blocks.
+-- Laws of trims by blocks and by eights.
 pub mod Blocks
+pub mod Eights

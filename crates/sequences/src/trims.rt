@@ -1,7 +1,8 @@
 // The number of equal first, or equal last, bytes of two byte strings, and whether they are the same.
+use numbers::eight_at;
 use numbers::least;
 ghost use mathlib.Core.Path.{_≡_};
-ghost use Prim.Native.Nat.{_+_, _-_, _≤_};
+ghost use Prim.Native.Nat.{_+_, _-_, _<_, _≤_, min};
 ghost use lib.Dec.{eqb};
 ghost use lib.ListN.{length, take, drop};
 ghost use Rattle.rules.specs.Bytes.{same};
@@ -27,6 +28,28 @@ fn same_block(a: &[u8], b: &[u8]) -> bool
     good
 }
 
+// Whether the eight bytes from place k on are the same.
+fn same_eight(a: &[u8], b: &[u8], k: usize) -> bool
+    requires { ⌜ (k + 8 ≤ length (now a)) × (k + 8 ≤ length (now b)) ⌝ }
+    ensures { λ r. ⌜ r ≡ same (take 8 (drop k (now (a .entry)))) (take 8 (drop k (now (b .entry)))) ⌝ }
+{
+    eight_at(a, k) == eight_at(b, k)
+}
+
+// Whether two blocks of 64 are the same, eight bytes at a time. It looks at all of both, as `same_block` does.
+fn same_eights(a: &[u8], b: &[u8]) -> bool
+    requires { ⌜ (length (now a) ≡ 64) × (length (now b) ≡ 64) ⌝ }
+    ensures { λ r. ⌜ r ≡ same (now (a .entry)) (now (b .entry)) ⌝ }
+{
+    let mut good = true;
+    let mut i = 0;
+    while i < 8 {
+        good = good & same_eight(a, b, i * 8);
+        i += 1;
+    }
+    good
+}
+
 // How many first bytes are equal, in whole blocks.
 fn equal_first_blocks(a: &[u8], b: &[u8], n: usize) -> usize
     requires { ⌜ (n ≤ length (now a)) × (n ≤ length (now b)) ⌝ }
@@ -36,10 +59,27 @@ fn equal_first_blocks(a: &[u8], b: &[u8], n: usize) -> usize
     let mut i = 0;
     while 64 <= n - i {
         let end = i + 64;
-        if !same_block(&a[i..end], &b[i..end]) {
+        if !same_eights(&a[i..end], &b[i..end]) {
             return i;
         }
         i = end;
+    }
+    i
+}
+
+// The same where the first k are equal, in eights from there on. Fewer than eight equal bytes are left.
+fn equal_first_eights(a: &[u8], b: &[u8], k: usize, n: usize) -> usize
+    requires { ⌜ (k ≤ n) × (n ≡ min (length (now a)) (length (now b))) ⌝ }
+    ensures { λ r. ⌜ r ≤ n ⌝ }
+    ensures { λ r. ⌜ k + commonPrefix (drop k (now (a .entry))) (drop k (now (b .entry))) ≡ r + commonPrefix (drop r (now (a .entry))) (drop r (now (b .entry))) ⌝ }
+    ensures few { λ r. ⌜ commonPrefix (drop r (now (a .entry))) (drop r (now (b .entry))) < 8 ⌝ }
+{
+    let mut i = k;
+    while 8 <= n - i {
+        if !same_eight(a, b, i) {
+            return i;
+        }
+        i += 8;
     }
     i
 }
@@ -68,7 +108,8 @@ pub fn common_prefix_len(a: &[u8], b: &[u8]) -> usize
     ensures { λ r. ⌜ r ≡ commonPrefix (now (a .entry)) (now (b .entry)) ⌝ }
 {
     let n = least(a.len(), b.len());
-    let mut i = equal_first_blocks(a, b, n);
+    let blocks = equal_first_blocks(a, b, n);
+    let mut i = equal_first_eights(a, b, blocks, n);
     while i < n {
         if a[i] != b[i] {
             return i;

@@ -12,7 +12,8 @@ use Rattle.rules.specs.Translation.{foldToLetters}
 use Rattle.codons.specs.Rows.{letterNumber, numberRule, HoldsLetters}
 use Rattle.codons.proofs.Listed.{at-byte}
 use Rattle.codons.proofs.Sets.{letter-number}
-use Rattle.translation.specs.Residues.{codonAt, entryAt, entriesOf, threeAt, eightAt}
+use Rattle.numbers.specs.Packed.{eightAt}
+use Rattle.translation.specs.Residues.{codonAt, entryAt, entriesOf, threeAt}
 use Rattle.translation.proofs.Six.{six, sixIn, sixfold, six-masked, three-six, eight-six}
 use Rattle.translation.proofs.Residues.{codon-sets, letter-at}
 

@@ -10,7 +10,8 @@ use lib.ListN.{length, getD}
 use Rattle.rules.specs.Letters.{folded}
 use Rattle.codons.specs.Tables.{HoldsPlain, foldsToBase}
 use Rattle.codons.proofs.Sets.{and-left, and-right, base-set}
-use Rattle.translation.specs.Residues.{codonAt, numberOf, placeAt, foldToBases, eightAt}
+use Rattle.numbers.specs.Packed.{eightAt}
+use Rattle.translation.specs.Residues.{codonAt, numberOf, placeAt, foldToBases}
 use Rattle.translation.proofs.Six.{six, six-masked, eight-six}
 use Rattle.translation.proofs.Residues.{codon-sets, base-at}
 

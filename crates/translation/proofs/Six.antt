@@ -6,7 +6,8 @@ use native.Mathlib.Nat.{zero-add}
 use native.Mathlib.Omega.{arith}
 use lib.Bits.{bitAnd, and-block, and-zero-r}
 use lib.ListN.{getD}
-use Rattle.translation.specs.Residues.{threeAt, eightAt}
+use Rattle.numbers.specs.Packed.{eightAt}
+use Rattle.translation.specs.Residues.{threeAt}
 
 abbrev pub six : ℕ → ℕ → ℕ → ℕ → ℕ → ℕ → ℕ
 six b₀ b₁ b₂ b₃ b₄ b₅ = ((((b₅ * 256 + b₄) * 256 + b₃) * 256 + b₂) * 256 + b₁) * 256 + b₀

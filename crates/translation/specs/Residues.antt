@@ -68,13 +68,6 @@ foldToBases s = all foldsToBase (wholeCodons s)
 abbrev pub threeAt : List ℕ → ℕ → ℕ
 threeAt s k = getD s k 0 + getD s (k + 1) 0 * 256 + getD s (k + 2) 0 * 65536
 
--- four bytes from place k on as one number, the first lowest, and eight
-abbrev pub fourAt : List ℕ → ℕ → ℕ
-fourAt s k = getD s k 0 + getD s (k + 1) 0 * 256 + getD s (k + 2) 0 * 65536 + getD s (k + 3) 0 * 16777216
-
-abbrev pub eightAt : List ℕ → ℕ → ℕ
-eightAt s k = fourAt s k + fourAt s (k + 4) * 4294967296
-
 -- a walk over n bases that ended at the stop codon r has written the protein A; one that met none has still to write the X for a rest
 pub record WalkedTo (A : List ℕ) (n : ℕ) (old out : List ℕ) (r : ℕ) : Type 0 where
   pub within : r ≤ n / 3

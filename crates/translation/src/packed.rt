@@ -1,31 +1,17 @@
 // The places of codons in the tables by the numbers of letters, from several bytes in one number.
+use numbers::eight_at;
 use numbers::wide;
 ghost use mathlib.Core.Path.{_≡_};
 ghost use Prim.Native.Nat.{_+_, _*_, _/_, _%_, _<_, _≤_};
 ghost use lib.ListN.{length};
-ghost use Rattle.translation.specs.Residues.{placeAt, entryAt, entriesOf, threeAt, fourAt, eightAt};
+ghost use Rattle.translation.specs.Residues.{placeAt, entryAt, entriesOf, threeAt};
 
-// Three bytes from place k on as one number, the first lowest; four; and eight.
+// Three bytes from place k on as one number, the first lowest.
 fn three_at(s: &[u8], k: usize) -> usize
     requires { ⌜ k + 3 ≤ length (now s) ⌝ }
     ensures { λ r. ⌜ r ≡ threeAt (now (s .entry)) k ⌝ }
 {
     wide(s[k]) + wide(s[k + 1]) * 256 + wide(s[k + 2]) * 65536
-}
-
-fn four_at(s: &[u8], k: usize) -> usize
-    requires { ⌜ k + 4 ≤ length (now s) ⌝ }
-    ensures { λ r. ⌜ r ≡ fourAt (now (s .entry)) k ⌝ }
-    ensures small { λ r. ⌜ r < 4294967296 ⌝ }
-{
-    wide(s[k]) + wide(s[k + 1]) * 256 + wide(s[k + 2]) * 65536 + wide(s[k + 3]) * 16777216
-}
-
-fn eight_at(s: &[u8], k: usize) -> usize
-    requires { ⌜ k + 8 ≤ length (now s) ⌝ }
-    ensures { λ r. ⌜ r ≡ eightAt (now (s .entry)) k ⌝ }
-{
-    four_at(s, k) + four_at(s, k + 4) * 4294967296
 }
 
 // The places of plain codons i and i + 1 among the 64: from bit 17 on, and from bit 41 on, six bits each. The mask keeps each letter's number

@@ -13,7 +13,7 @@ use Rattle.rules.specs.Bytes.{same}
 use Rattle.rules.specs.Trims.{commonPrefix, commonSuffix}
 use Rattle.rules.proofs.Trims.{cp-append, cs-append}
 
-and-and : (a b c : Bool) → a && b && c ≡ a && (b && c)
+pub and-and : (a b c : Bool) → a && b && c ≡ a && (b && c)
 and-and true b c = refl
 and-and false b c = refl
 
@@ -31,6 +31,10 @@ pub was-true : (b : Bool) → not b ≡ false → b ≡ true
 was-true true e = refl
 was-true false e = sym e
 
+pub was-false : (b : Bool) → not b ≡ true → b ≡ false
+was-false true e = sym e
+was-false false e = refl
+
 same-true : (a b : List ℕ) → same a b ≡ true → a ≡ b
 unfolding same
 same-true [] [] e = refl
@@ -46,16 +50,20 @@ same-true (x ∷ a) (y ∷ b) e =
     let both = and-eq-true-iff (eqb x y) (same a b) .0 e in
     ap₂ _∷_ (eqb-true x y (both .0)) (same-true a b (both .1))
 
--- two equal blocks from place i on
+-- k equal bytes from place i on
+pub first-part : (a b : List ℕ) (i k : ℕ) → i + k ≤ length a → i + k ≤ length b → same (take k (drop i a)) (take k (drop i b)) ≡ true → commonPrefix (drop i a) (drop i b) ≡ k + commonPrefix (drop (i + k) a) (drop (i + k) b)
+first-part a b i k ha hb e =
+    let p = take k (drop i a) in
+    let long : length p ≡ k = length-take-le k (drop i a) (simp length-drop (omega arith)) in
+    let left : drop i a ≡ p ++ drop (i + k) a = sym (take-append-drop k (drop i a)) ∙ rw (drop-drop k i a) in
+    let right : drop i b ≡ p ++ drop (i + k) b = sym (take-append-drop k (drop i b)) ∙ rw (drop-drop k i b, ← same-true p (take k (drop i b)) e) in
+    ap₂ commonPrefix left right ∙ cp-append p (drop (i + k) a) (drop (i + k) b) ∙ ap (_+ commonPrefix (drop (i + k) a) (drop (i + k) b)) long
+
+-- a block of them
 pub first-block : (a b : List ℕ) (i end : ℕ) → i ≤ end → end ≤ length a → end ≤ length b → same (take (end - i) (drop i a)) (take (end - i) (drop i b)) ≡ true → commonPrefix (drop i a) (drop i b) ≡ (end - i) + commonPrefix (drop end a) (drop end b)
 first-block a b i end h ha hb e =
-    let k = end - i in
-    let p = take k (drop i a) in
-    let at : i + k ≡ end = omega arith in
-    let long : length p ≡ k = length-take-le k (drop i a) (simp length-drop (omega arith)) in
-    let left : drop i a ≡ p ++ drop end a = sym (take-append-drop k (drop i a)) ∙ rw (drop-drop k i a, at) in
-    let right : drop i b ≡ p ++ drop end b = sym (take-append-drop k (drop i b)) ∙ rw (drop-drop k i b, at, ← same-true p (take k (drop i b)) e) in
-    ap₂ commonPrefix left right ∙ cp-append p (drop end a) (drop end b) ∙ ap (_+ commonPrefix (drop end a) (drop end b)) long
+    let at : i + (end - i) ≡ end = omega arith in
+    first-part a b i (end - i) (omega arith) (omega arith) e ∙ ap (λ (k : ℕ). (end - i) + commonPrefix (drop k a) (drop k b)) at
 
 last-at : (a b : List ℕ) (k m n : ℕ) → m + k ≤ length a → n + k ≤ length b → same (take k (drop m a)) (take k (drop n b)) ≡ true → commonSuffix (take (m + k) a) (take (n + k) b) ≡ k + commonSuffix (take m a) (take n b)
 last-at a b k m n h g e =

@@ -22,7 +22,7 @@ loop-again : tie.Need-loop-again Inv-loop μ-loop
 loop-again c =
     let at-loop = c .before .before .before .before .before in
     let args = at-loop .before .before .before .args in
-    let same = sym (c .before .same-block .ensures) ∙ was-true (c .before .same-block .result) (c .if1 .left) in
+    let same = sym (c .before .same-eights .ensures) ∙ was-true (c .before .same-eights .result) (c .if1 .left) in
     let more = first-block (args .a .now) (args .b .now) (at-loop .loop .i) (at-loop .loop .i + 64) (omega arith) (omega arith) (omega arith) same in
     (omega arith, omega arith, omega arith, omega (arith, more))
 

@@ -1,0 +1,2 @@
+-- Several bytes as one number.
+pub mod Packed
