@@ -456,7 +456,12 @@ static const struct {
     const char *name;
     uint64_t kind;
     int64_t more;
-} kinds[] = {{"substitution", 1, 0}, {"deletion of one", 2, 0}, {"duplication of three", 5, 2}};
+    const char *bases;
+} kinds[] = {{"substitution", 1, 0, NULL},
+             {"deletion of one", 2, 0, ""},
+             {"duplication of three", 5, 2, ""},
+             {"deletion of three", 2, 2, ""},
+             {"insertion of three", 4, 1, "GCC"}};
 
 /* The edit of that kind in the middle of a transcript, and its name. */
 static void make_middle(unsigned k, uint64_t len, char what[64])
@@ -464,7 +469,7 @@ static void make_middle(unsigned k, uint64_t len, char what[64])
     make_reference(len);
     int64_t middle = (int64_t)(ref.ce - ref.cs + 1) / 6 * 3 + 2;   /* the second base of a codon */
     const char *base = letters[ref.cs - 1 + middle - 1] == 'C' ? "G" : "C";
-    make_edit(kinds[k].kind, middle, middle + kinds[k].more, kinds[k].kind == 1 ? base : "");
+    make_edit(kinds[k].kind, middle, middle + kinds[k].more, kinds[k].bases ? kinds[k].bases : base);
     check_edit();
     snprintf(what, 64, "%lu %s", (unsigned long)len, kinds[k].name);
 }
@@ -513,7 +518,7 @@ static void checks(uint64_t len)
 
 static void edits(uint64_t len)
 {
-    for (unsigned k = 0; k < 3; k++) {
+    for (unsigned k = 0; k < sizeof kinds / sizeof *kinds; k++) {
         char what[64];
         make_middle(k, len, what);
         const double *best = best_of((call[]){ours_anew, rust_anew, rust_anew_until, c_anew, ours_check}, 5);

@@ -79,8 +79,8 @@ fn write_altered(
     let c = known.cds;
     let pieces = pieces_of(c, plan, protein.len());
     let ahead = pieces.head;
-    let plain = known.plain & all_bases(new);
-    let reused = write_reusing(transcript, c.table, plain, e, protein, pieces, altered);
+    let bases = known.plain & all_bases(new);
+    let reused = write_reusing(transcript, c.table, bases, e, protein, pieces, altered);
     Made {
         residues: reused.residues,
         looked: reused.looked,
