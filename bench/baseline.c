@@ -9,6 +9,18 @@ static uint8_t sets[256];           /* plain translation: either case, U as T; 0
 static uint8_t complements[256];
 static uint8_t residues[3][4096];   /* by three letter sets of four bits */
 
+/* A residue beside what was found so far: D and N are B, E and Q are Z (request E2), every other mix is X. */
+static uint8_t joined(uint8_t found, uint8_t residue)
+{
+    static const char *const mixes[] = {"BDN", "ZEQ"};
+    if (!found || found == residue)
+        return residue;
+    for (int k = 0; k < 2; k++)
+        if (strchr(mixes[k], found) && strchr(mixes[k], residue))
+            return mixes[k][0];
+    return 'X';
+}
+
 void base_init(void)
 {
     static const char letters[] = "ACGTURYSWKMBDHVN";
@@ -30,7 +42,7 @@ void base_init(void)
             uint8_t all = 0;
             for (int p = 0; p < 64; p++)
                 if ((order[p / 16] & s >> 8) && (order[p / 4 % 4] & s >> 4) && (order[p % 4] & s))
-                    all = !all || all == codes[t][p] ? codes[t][p] : 'X';
+                    all = joined(all, codes[t][p]);
             residues[t][s] = all ? all : 'X';
         }
 }

@@ -331,11 +331,20 @@ static void make_edit(uint64_t kind, int64_t start, int64_t end, const char *bas
 
 /* ---- the answers are equal ---- */
 
+/* The Rust reads X where ours and C read B or Z (docs/DIFFERENCES.md). */
+static int is_the_rusts(const uint8_t *theirs, uint64_t n)
+{
+    for (uint64_t i = 0; i < n; i++)
+        if (theirs[i] != (out[i] == 'B' || out[i] == 'Z' ? 'X' : out[i]))
+            return 0;
+    return 1;
+}
+
 static void check_translation(void)
 {
     static uint8_t theirs[MOST];
     uint64_t n = base_translate(letters, ref.len, 0, 0, NULL, 0, out, sizeof out).len;
-    if (n != (ref.len + 2) / 3 || oracle_translate(letters, ref.len, 0, 0, theirs, sizeof theirs) != (int64_t)n || memcmp(out, theirs, n))
+    if (n != (ref.len + 2) / 3 || oracle_translate(letters, ref.len, 0, 0, theirs, sizeof theirs) != (int64_t)n || !is_the_rusts(theirs, n))
         fail("translation, the Rust");
 #ifdef OURS
     memset(theirs, 0, sizeof theirs);

@@ -44,11 +44,12 @@
  *   Bytes written stand at a buffer's start. What stands behind them is as it was before the call.
  *   Numbers from the caller that are too large for their meaning are refused like any other wrong number; none is cut down to fewer bits.
  *   Letters are IUPAC's for bases and sets of bases, ACGTRYSWKMBDHVN, in upper case but for garumbott_translate. Letters and residues are bytes of
- *     ASCII. A stop is '*', a residue that isn't known 'X'.
+ *     ASCII. A stop is '*', a residue that is D or N 'B', one that is E or Q 'Z', any other that isn't known 'X'.
  *   Versions. Later versions add members at the ends of the structs; 0 in a new member means what is done today. The functions over slices and numbers
  *     gain parameters; those over structs keep theirs. New in 2.0.0: cds_end in garumbott_record and garumbott_edit, behind exceptions_len,
- *     garumbott_check, and codons in struct garumbott_answer. The archive can't tell which header its caller was compiled with: compile all of a host with the header that came with the
- *     archive, and anew whenever they change.
+ *     garumbott_check, and codons in struct garumbott_answer. Other answers than in 1: a copy of the first residues is a duplication, and a
+ *     codon of D and N, or of E and Q, is 'B' or 'Z'. The archive can't tell which header its caller was compiled with: compile all of a host
+ *     with the header that came with the archive, and anew whenever they change.
  *
  * The archive is compiled for Linux on x86-64 (System V calling convention). It wants memcpy and memset of the C library and nothing else,
  * and links into programs and shared objects alike. The header is C11, and C++ as well.
@@ -358,7 +359,8 @@ struct garumbott_length garumbott_run(const uint8_t *input, uint64_t input_len, 
 /* ---- Byte strings ------------------------------------------------------------------------------------------------------------------- */
 
 /* Translates codon by codon: one residue a codon, then one 'X' if one or two bytes remain. Letters may be of either case, and U is T. A codon
- * of ambiguous letters reads as its residue if all its plain codons agree, else 'X'. A remaining byte isn't looked at.
+ * of ambiguous letters reads as its residue if all its plain codons agree, as 'B' if they give exactly D and N, as 'Z' if exactly E and Q, else
+ * as 'X'. A remaining byte isn't looked at.
  *   full         not 0: a length that isn't divisible by 3 is refused (14)
  *   table        GARUMBOTT_TABLE_.. (4)
  *   exceptions   as in garumbott_record, but codon numbers may come in any order, and the last one for a codon counts; one behind the whole codons

@@ -5,9 +5,9 @@
  *   beside cut LETTERS MOST      every kind at every one and two positions of every reference cut short that has at most MOST letters, of LETTERS
  *   beside replay FILE           answers as above, with no Rust at hand
  *
- * Altered transcript, altered protein (the Rust's cut at its first stop), Unknown, flag, number and parts are held equal; for references cut short, class
- * and reference protein too. A difference that docs/DIFFERENCES.md has a row for is counted under that row; any other is printed, and the exit status
- * is 1. The two sorts of reference are counted apart; `cut` shows each row's smallest input. */
+ * Altered transcript, altered protein (the Rust's cut at its first stop), Unknown, flag, number and parts are held equal, and where the Rust is at hand the
+ * reference protein; for references cut short, class and reference protein always. A difference that docs/DIFFERENCES.md has a row for is counted under
+ * that row; any other is printed, and the exit status is 1. The two sorts of reference are counted apart; `cut` shows each row's smallest input. */
 #include "garumbott.h"
 #ifndef REPLAY_ONLY
 #include "oracle.h"
@@ -45,18 +45,19 @@ static struct reference ref;
 static struct edit edit;
 static struct answer rust;
 static uint8_t tx[ROOM], rp[ROOM], ap[ROOM], rust_tx[ROOM], rust_ap[ROOM];
-static uint64_t edits, equal, unexplained, refusals[64], unknowns, ends, plain_calls;
+static uint64_t edits, equal, unexplained, refusals[64], unknowns, ends, plain_calls, plain_mixes;
 
 /* ---- differences ---- */
 
 enum row {
-    SILENT_NUMBER, DELETION_TO_THE_END, INSERTION_BEHIND,
+    SILENT_NUMBER, DELETION_TO_THE_END, INSERTION_BEHIND, MIXES,
     CUT_BEHIND, CUT_PAST, CUT_NO_CODON, CUT_NO_PROTEIN, CUT_PARTS, CUT_X_ALONE, CUT_SILENT_AT_1, CUT_COPY, CUT_COMPLETED, ROWS
 };
 static const char *const rows[ROWS] = {
     "silent number",
     "flag of a deletion that ends with the CDS",
     "flag of an insertion right behind the CDS",
+    "Asx and Glx",
     "cut short: unknown, since the edit could lie behind the CDS",
     "cut short: unknown, since the change begins behind R",
     "cut short: unknown, since a frameshift brings no whole codon",
@@ -164,6 +165,59 @@ static struct garumbott_answer ours_now(void)
     return ours;
 }
 
+/* ---- Asx and Glx: a codon of D and N, or of E and Q, is B or Z by request E2, and X in the Rust, by document 01 ---- */
+
+/* The residue of a codon that is such a mix, 0 for others; either case, and U as T. */
+static uint8_t mix_of(const uint8_t *codon)
+{
+    uint8_t first = codon[0] & 0xDF, third = codon[2] & 0xDF;
+    if ((codon[1] & 0xDF) != 'A')
+        return 0;
+    return first == 'R' && memchr("CTUY", third, 4) ? 'B' : first == 'S' && memchr("AGR", third, 3) ? 'Z' : 0;
+}
+
+/* A residue of ours as the Rust reads it, where it reads a codon as X: X for the codon's mix. Another residue for a mix becomes a mark that the Rust's
+ * proteins don't have, but for X where an exception may have given it. */
+static uint8_t read_residue(const uint8_t *codon, uint8_t ours, int or_exception)
+{
+    uint8_t mix = mix_of(codon);
+    return !mix ? ours : ours == mix || (ours == 'X' && or_exception) ? 'X' : '?';
+}
+
+/* Residues of ours, from these letters, as the Rust reads them. Gives how many change by that. */
+static uint64_t read_beside(const uint8_t *letters, uint64_t letters_len, int or_exception, const uint8_t *ours, uint64_t len, const uint8_t *theirs,
+                            int64_t theirs_len, uint8_t *out)
+{
+    uint64_t mixes = 0;
+    for (uint64_t i = 0; i < len; i++) {
+        int x = 3 * i + 3 <= letters_len && (int64_t)i < theirs_len && theirs[i] == 'X';
+        uint8_t read = x ? read_residue(letters + 3 * i, ours[i], or_exception) : ours[i];
+        mixes += read != ours[i];
+        out[i] = read;
+    }
+    return mixes;
+}
+
+static int has_exception(const struct reference *r, uint64_t codon)
+{
+    for (uint64_t i = 0; i < r->exceptions_len; i += 3)
+        if (r->exceptions[i] * 256u + r->exceptions[i + 1] == codon)
+            return 1;
+    return 0;
+}
+
+/* The same of R, by its letters and exceptions alone: the list doesn't have the Rust's. */
+static uint64_t read_reference(const struct reference *r, const uint8_t *ours, uint64_t len, uint8_t *out)
+{
+    uint64_t mixes = 0;
+    for (uint64_t i = 0; i < len; i++) {
+        int whole = 3 * i + 3 <= r->ce - r->cs + 1;
+        out[i] = whole && !has_exception(r, i + 1) ? read_residue(r->letters + r->cs - 1 + 3 * i, ours[i], 0) : ours[i];
+        mixes += out[i] != ours[i];
+    }
+    return mixes;
+}
+
 /* ---- holding the two to each other ---- */
 
 #include "cut.h"
@@ -202,24 +256,36 @@ static void judge(const struct garumbott_answer *ours)
         show("altered transcript", ours);
         return;
     }
-    if (ours->altered_len != (uint64_t)rust.altered_len || memcmp(ap, rust_ap, ours->altered_len)) {
+    struct reading read = read_ours(&ref, ours, tx, rp, ours->reference_len, ap);
+    struct answer *record = &read.record;
+    if (ours->altered_len != (uint64_t)rust.altered_len || memcmp(read_a, rust_ap, ours->altered_len)) {
         show("altered protein", ours);
+        return;
+    }
+    if (!read.own) {
+        show("our record by rule", ours);
         return;
     }
     if (ours->frameshift != (uint64_t)rust.frameshift) {
         note(!ours->frameshift ? flag_row() : ROWS, ours);
         return;
     }
-    if (ours->answer == GARUMBOTT_SILENT && ours->number != (uint64_t)rust.number) {
+    if (read.mixes && record->form == FORM_SAME) {
+        struct answer e = record_by_rule(read_r, ours->reference_len, read_a, ours->altered_len, rust.frameshift, rust_silent_number(ours->transcript_len), 2);
+        if (!same_parts(&e, &rust)) {
+            show("number or parts of a silent edit", ours);
+            return;
+        }
+    }
+    if (record->form == FORM_SAME && record->number != rust.number) {
         note(SILENT_NUMBER, ours);
         return;
     }
-    if (ours->answer == GARUMBOTT_CHANGED
-        && (ours->number != (uint64_t)rust.number || ours->deleted_len != (uint64_t)rust.deleted_len || ours->inserted_len != (uint64_t)rust.inserted_len)) {
+    if (record->form != FORM_SAME && record->form != FORM_NO_PROTEIN && !same_parts(record, &rust)) {
         show("number or parts", ours);
         return;
     }
-    equal++;
+    agree(read.mixes, ours);
 }
 
 /* ---- what was found ---- */
@@ -246,9 +312,11 @@ static void tell(void)
         printf("%10lu ends stated: taken where the Rust finds them, refused elsewhere\n", (unsigned long)ends);
     if (plain_calls)
         printf("%10lu strings through translation, names, complement and trims\n", (unsigned long)plain_calls);
+    if (plain_mixes)
+        printf("%10lu of them translate as docs/DIFFERENCES.md says: %s\n", (unsigned long)plain_mixes, rows[MIXES]);
     printf("%lu unexplained\n", (unsigned long)unexplained);
     failed |= unexplained || !equal;
-    edits = equal = unknowns = completed = ends = plain_calls = unexplained = 0;
+    edits = equal = unknowns = completed = ends = plain_calls = plain_mixes = unexplained = 0;
     memset(counted, 0, sizeof counted);
     memset(refusals, 0, sizeof refusals);
     memset(cut_references, 0, sizeof cut_references);
@@ -444,6 +512,8 @@ static void try_edit(void)
         return;
     ask_rust();
     put_edit();
+    if (ours.answer != GARUMBOTT_UNKNOWN && (ours.reference_len != own_r_len || memcmp(rp, own_r, own_r_len)))
+        show("reference protein", &ours);
     judge(&ours);
 }
 
@@ -476,13 +546,13 @@ static int take_reference(void)
         show("a reference that the Rust refuses", &ours);
         return 0;
     }
-    if (ref.end) {
+    if (ref.end)
         make_ended();
-        rust_made.end = oracle_reference_end(rust_ref);
-        rust_made.r_len = (uint64_t)oracle_reference_protein(rust_ref, rust_made.r, ROOM);
-        if (!judge_reference(&ours))
-            return 0;
-    }
+    rust_made.end = oracle_reference_end(rust_ref);
+    rust_made.r_len = (uint64_t)oracle_reference_protein(rust_ref, rust_made.r, ROOM);
+    /* of an Unknown, nothing is written */
+    if ((ref.end || ours.answer != GARUMBOTT_UNKNOWN) && !judge_reference(&ours))
+        return 0;
     put_reference();
     return 1;
 }
@@ -777,6 +847,7 @@ static void plain(void)
     plain_calls++;
     struct garumbott_length a = garumbott_translate(s, n, table, full, NULL, 0, ours, sizeof ours);
     int64_t b = oracle_translate(s, n, full, table, theirs, sizeof theirs);
+    plain_mixes += !a.refusal && read_beside(s, n, 0, ours, a.len, theirs, b, ours);
     if (a.refusal ? b >= 0 : b != (int64_t)a.len || memcmp(ours, theirs, a.len))
         differ("translation", s, n);
     a = garumbott_names3(s, n, ours, sizeof ours);

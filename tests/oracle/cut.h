@@ -1,4 +1,4 @@
-/* References cut short, a part of beside.c: what the Rust answers to them follows by rule from the module's R and A.
+/* References cut short, a part of beside.c: what the Rust answers to them follows by rule from the module's R and A, Asx and Glx read as X.
  *
  * R and A have no X for a rest of one or two bases in the Rust, and its record is document 01's of such an R and A: no copy begins at residue 1. It says
  * unknown where the edit could also lie behind the CDS, where the change begins behind R, and where a frameshift brings no whole codon. A mitochondrial
@@ -15,6 +15,9 @@ static struct {
 } rust_made;
 static uint8_t own_r[ROOM];
 static uint64_t own_r_len, cut_references[3], completed;
+
+/* R and A of the module as the Rust reads them. */
+static uint8_t read_r[ROOM], read_a[ROOM];
 
 /* Whether the edit could also lie behind the CDS, which is the transcript's end: with it, before any stop cut, the transcript is longer and begins with
  * all of the reference. A duplication from before the CDS is taken for one that could lie before it. */
@@ -48,50 +51,58 @@ static int64_t codon_of_edit(void)
 
 /* The documents' record of the first residues of R and A; a silent one has the number that it is handed. `first` is the lowest residue that a copy begins
  * at: 1 by request E5, 2 in the Rust. */
-static struct answer record_by_rule(uint64_t r_len, uint64_t a_len, int flag, int64_t silent_number, uint64_t first)
+static struct answer record_by_rule(const uint8_t *r, uint64_t r_len, const uint8_t *a, uint64_t a_len, int flag, int64_t silent_number, uint64_t first)
 {
-    uint64_t s = garumbott_common_prefix(own_r, r_len, ap, a_len);
+    uint64_t s = garumbott_common_prefix(r, r_len, a, a_len);
     if (!a_len)
         return (struct answer){.form = FORM_NO_PROTEIN};
     if (s == r_len && s == a_len) {
         int within = silent_number <= (int64_t)r_len;
         return (struct answer){.form = FORM_SAME, .number = silent_number, .deleted_len = within, .inserted_len = within};
     }
-    uint64_t ending = flag ? 0 : garumbott_common_suffix(own_r + s, r_len - s, ap + s, a_len - s), deleted = r_len - s - ending, inserted = a_len - s - ending;
-    struct answer a = {.number = (int64_t)s + 1, .deleted_len = (int64_t)deleted, .inserted_len = (int64_t)inserted};
+    uint64_t ending = flag ? 0 : garumbott_common_suffix(r + s, r_len - s, a + s, a_len - s), deleted = r_len - s - ending, inserted = a_len - s - ending;
+    struct answer e = {.number = (int64_t)s + 1, .deleted_len = (int64_t)deleted, .inserted_len = (int64_t)inserted};
     if (s == 0) {
-        a.form = GARUMBOTT_CHANGE_START_LOST;
-    } else if (s < a_len && ap[s] == '*') {
-        a.form = GARUMBOTT_CHANGE_STOP_GAINED;
+        e.form = GARUMBOTT_CHANGE_START_LOST;
+    } else if (deleted && r[s] == '*') {
+        e.form = GARUMBOTT_CHANGE_EXTENSION;
+    } else if (s < a_len && a[s] == '*') {
+        e.form = GARUMBOTT_CHANGE_STOP_GAINED;
     } else if (flag) {
-        a.form = GARUMBOTT_CHANGE_FRAMESHIFT;
+        e.form = GARUMBOTT_CHANGE_FRAMESHIFT;
     } else if (deleted == 1 && inserted == 1) {
-        a.form = GARUMBOTT_CHANGE_SUBSTITUTION;
+        e.form = GARUMBOTT_CHANGE_SUBSTITUTION;
     } else if (!inserted) {
-        a.form = GARUMBOTT_CHANGE_DELETION;
+        e.form = GARUMBOTT_CHANGE_DELETION;
     } else if (deleted) {
-        a.form = GARUMBOTT_CHANGE_DELINS;
-    } else if (inserted + first <= s + 1 && !memcmp(own_r + s - inserted, ap + s, inserted)) {
-        a.form = GARUMBOTT_CHANGE_DUPLICATION;
-        a.first = a.number - (int64_t)inserted;
+        e.form = GARUMBOTT_CHANGE_DELINS;
+    } else if (inserted + first <= s + 1 && !memcmp(r + s - inserted, a + s, inserted)) {
+        e.form = GARUMBOTT_CHANGE_DUPLICATION;
+        e.first = e.number - (int64_t)inserted;
     } else {
-        a.form = GARUMBOTT_CHANGE_INSERTION;
+        e.form = GARUMBOTT_CHANGE_INSERTION;
     }
-    return a;
+    return e;
 }
 
-static struct answer ours_by_rule(const struct garumbott_answer *ours)
+/* The module's, of an R and the A of its answer. */
+static struct answer ours_by_rule(const uint8_t *r, uint64_t r_len, const uint8_t *a, const struct garumbott_answer *ours)
 {
     int64_t number = codon_of_edit();
-    return record_by_rule(own_r_len, ours->altered_len, (int)ours->frameshift, number < (int64_t)own_r_len ? number : (int64_t)own_r_len, 1);
+    return record_by_rule(r, r_len, a, ours->altered_len, (int)ours->frameshift, number < (int64_t)r_len ? number : (int64_t)r_len, 1);
 }
 
+/* The codon of the first base that differs, or of the edit's position where none does. */
+static int64_t rust_silent_number(uint64_t tx_len)
+{
+    uint64_t same = garumbott_common_prefix(ref.letters, ref.len, tx, tx_len);
+    return same < ref.len || same < tx_len ? (int64_t)((same - (ref.cs - 1)) / 3 + 1) : codon_of_edit();
+}
+
+/* The Rust's, of R and A as it reads them. */
 static struct answer rust_by_rule(uint64_t r_len, uint64_t a_len, uint64_t tx_len, int flag)
 {
-    /* the codon of the first base that differs, or of the edit's position where none does */
-    uint64_t same = garumbott_common_prefix(ref.letters, ref.len, tx, tx_len);
-    int64_t number = same < ref.len || same < tx_len ? (int64_t)((same - (ref.cs - 1)) / 3 + 1) : codon_of_edit();
-    struct answer a = record_by_rule(r_len, a_len, flag, number, 2);
+    struct answer a = record_by_rule(read_r, r_len, read_a, a_len, flag, rust_silent_number(tx_len), 2);
     if (a.form == FORM_NO_PROTEIN)
         return a;
     if (a.number > (int64_t)r_len)
@@ -105,16 +116,20 @@ static struct answer rust_by_rule(uint64_t r_len, uint64_t a_len, uint64_t tx_le
     return a;
 }
 
+static int same_parts(const struct answer *a, const struct answer *b)
+{
+    return a->number == b->number && a->deleted_len == b->deleted_len && a->inserted_len == b->inserted_len;
+}
+
 static int same_record(const struct answer *a, const struct answer *b)
 {
-    return a->number == b->number && a->deleted_len == b->deleted_len && a->inserted_len == b->inserted_len && a->form == b->form && a->first == b->first;
+    return same_parts(a, b) && a->form == b->form && a->first == b->first;
 }
 
 /* One record but for the class: a copy that begins at residue 1, which is an insertion in the Rust. */
 static int copy_from_one(const struct answer *ours, const struct answer *theirs)
 {
-    return ours->number == theirs->number && ours->deleted_len == theirs->deleted_len && ours->inserted_len == theirs->inserted_len
-           && ours->form == GARUMBOTT_CHANGE_DUPLICATION && ours->first == 1 && theirs->form == GARUMBOTT_CHANGE_INSERTION;
+    return same_parts(ours, theirs) && ours->form == GARUMBOTT_CHANGE_DUPLICATION && ours->first == 1 && theirs->form == GARUMBOTT_CHANGE_INSERTION;
 }
 
 static struct answer record_of(const struct garumbott_answer *ours)
@@ -124,6 +139,40 @@ static struct answer record_of(const struct garumbott_answer *ours)
                            .inserted_len = (int64_t)ours->inserted_len,
                            .first = (int64_t)ours->first,
                            .form = ours->answer == GARUMBOTT_CHANGED ? ours->change : ours->answer == GARUMBOTT_SILENT ? FORM_SAME : FORM_NO_PROTEIN};
+}
+
+/* An answer of the module, its R and A read as the Rust reads them: how many residues change by that, and the record. If none does, that is the answer's
+ * own; else the rule's of R and A as read, and `own` says whether the answer's own was the rule's of its own R and A. */
+struct reading {
+    uint64_t mixes;
+    int own;
+    struct answer record;
+};
+
+static struct reading read_ours(const struct reference *of, const struct garumbott_answer *ours, const uint8_t *altered, const uint8_t *r, uint64_t r_len,
+                                const uint8_t *a)
+{
+    struct reading read = {.own = 1, .record = record_of(ours)};
+    int x = 0;
+    for (uint64_t i = 0; i < of->exceptions_len; i += 3)
+        x |= of->exceptions[i + 2] == 'X';
+    read.mixes = read_reference(of, r, r_len, read_r)
+                 + read_beside(altered + of->cs - 1, ours->transcript_len - (of->cs - 1), x, a, ours->altered_len, rust_ap, rust.altered_len, read_a);
+    if (read.mixes) {
+        struct answer by_rule = ours_by_rule(r, r_len, a, ours);
+        read.own = same_record(&read.record, &by_rule);
+        read.record = ours_by_rule(read_r, r_len, read_a, ours);
+    }
+    return read;
+}
+
+/* An edit in which nothing differs but those residues. */
+static void agree(uint64_t mixes, const struct garumbott_answer *ours)
+{
+    if (mixes)
+        note(MIXES, ours);
+    else
+        equal++;
 }
 
 /* The Rust completes this CDS's stop: its answer is the module's for the transcript with the tail's bases, less those. */
@@ -145,9 +194,9 @@ static void judge_completed(const struct garumbott_answer *ours)
         note(CUT_COMPLETED, ours);
     } else {
         struct garumbott_answer w = ours_of(&whole, whole_tx, whole_r, whole_a);
-        int proteins = w.answer >= GARUMBOTT_SILENT && w.altered_len == (uint64_t)rust.altered_len && !memcmp(whole_a, rust_ap, w.altered_len);
-        int parts = w.answer == GARUMBOTT_SILENT
-                    || (w.number == (uint64_t)rust.number && w.deleted_len == (uint64_t)rust.deleted_len && w.inserted_len == (uint64_t)rust.inserted_len);
+        struct reading read = read_ours(&whole, &w, whole_tx, whole_r, w.reference_len, whole_a);
+        int proteins = w.answer >= GARUMBOTT_SILENT && w.altered_len == (uint64_t)rust.altered_len && !memcmp(read_a, rust_ap, w.altered_len);
+        int parts = read.own && (read.record.form == FORM_SAME || same_parts(&read.record, &rust));
         note(proteins && parts ? CUT_COMPLETED : ROWS, ours);
     }
 }
@@ -165,7 +214,7 @@ static void judge_cut(const struct garumbott_answer *ours)
         show("altered transcript", ours);
         return;
     }
-    struct answer record = record_of(ours), by_rule = ours_by_rule(ours);
+    struct answer record = record_of(ours), by_rule = ours_by_rule(own_r, own_r_len, ap, ours);
     if (!same_record(&record, &by_rule)) {
         show("our record by rule", ours);
         return;
@@ -178,12 +227,14 @@ static void judge_cut(const struct garumbott_answer *ours)
         judge_completed(ours);
         return;
     }
+    struct reading read = read_ours(&ref, ours, tx, own_r, own_r_len, ap);
+    record = read.record;
     /* A without the X for a rest: it is the last residue if A doesn't end in a stop */
     uint64_t coding = ours->transcript_len - (ref.cs - 1), r_len = own_r_len - (ref.end == GARUMBOTT_END_CUT_CODON), a_len = ours->altered_len;
     int stops = a_len && ap[a_len - 1] == '*';
     if (coding % 3 && !stops)
         a_len--;
-    if (could_lie_behind() != rust.unknown || a_len > (uint64_t)rust.altered_len || memcmp(ap, rust_ap, a_len)
+    if (could_lie_behind() != rust.unknown || a_len > (uint64_t)rust.altered_len || memcmp(read_a, rust_ap, a_len)
         || (a_len < (uint64_t)rust.altered_len && (stops || !rust.unknown))) {
         show("altered protein", ours);
         return;
@@ -196,7 +247,7 @@ static void judge_cut(const struct garumbott_answer *ours)
     if (!same_record(&e, &rust) || (uint64_t)rust.uncut_len != coding / 3)
         show("number, parts or class", ours);
     else if (same_record(&e, &record))
-        equal++;
+        agree(read.mixes, ours);
     else if (e.form == FORM_NO_PROTEIN)
         note(CUT_NO_PROTEIN, ours);
     else if (e.number > (int64_t)r_len)
@@ -205,7 +256,7 @@ static void judge_cut(const struct garumbott_answer *ours)
         note(CUT_NO_CODON, ours);
     else if (copy_from_one(&record, &e))
         note(CUT_COPY, ours);
-    else if (r_len != a_len || memcmp(own_r, ap, r_len))
+    else if (r_len != a_len || memcmp(read_r, read_a, r_len))
         note(e.form == record.form && (r_len != own_r_len || a_len != ours->altered_len) ? CUT_PARTS : ROWS, ours);
     else if (record.form != FORM_SAME)
         note(e.number == 1 ? CUT_X_ALONE : ROWS, ours);
@@ -221,8 +272,9 @@ static int judge_reference(const struct garumbott_answer *ours)
     int completes = ref.table == 2 && ((rest == 1 && last[0] == 'T') || (rest == 2 && last[0] == 'T' && last[1] == 'A'));
     own_r_len = ours->reference_len;
     memcpy(own_r, rp, own_r_len);
+    read_reference(&ref, own_r, own_r_len, read_r);
     if (rust_made.end != (completes ? GARUMBOTT_END_STOP : ref.end) || rust_made.r_len != own_r_len - (rest && !completes)
-        || memcmp(rust_made.r, own_r, own_r_len - (rest != 0)) || (rest && own_r[own_r_len - 1] != 'X') || (completes && rust_made.r[own_r_len - 1] != '*')) {
+        || memcmp(rust_made.r, read_r, own_r_len - (rest != 0)) || (rest && own_r[own_r_len - 1] != 'X') || (completes && rust_made.r[own_r_len - 1] != '*')) {
         show("reference", ours);
         return 0;
     }

@@ -2,7 +2,7 @@
 use mathlib.Core.List.{List, [], _∷_, _++_}
 use mathlib.Core.Bool.{Bool, true, false, _&&_, _||_, not}
 use mathlib.Core.Path.{_≡_, refl, sym, ap, _∙_}
-use Prim.Native.Nat.{ℕ, zero, suc, _+_, _*_, _/_, _%_, _<_}
+use Prim.Native.Nat.{ℕ, zero, suc, _+_, _-_, _*_, _/_, _%_, _<_}
 use native.Mathlib.Omega.{arith}
 use lib.Dec.{lit<, eqb}
 use lib.ListN.{getD}
@@ -215,14 +215,10 @@ agreed-all t (i ∷ is) (j ∷ js) (k ∷ ks) ha hb hc =
 
 -- the numbers b / 2 % 4 of the bases' letters, in the order T, C, A, G
 abbrev pub numberAt : ℕ → ℕ
-numberAt i = getD (2 ∷ 1 ∷ 0 ∷ 3 ∷ []) i 0
+numberAt i = (6 - i) % 4
 
 pub number-small : (i : ℕ) → numberAt i < 4
-number-small zero = lit< tt
-number-small (suc zero) = lit< tt
-number-small (suc (suc zero)) = lit< tt
-number-small (suc (suc (suc zero))) = lit< tt
-number-small (suc (suc (suc (suc i)))) = lit< tt
+number-small i = omega arith
 
 single : (i : ℕ) → i < 4 → basesOf (baseSet (numberAt i)) ≡ i ∷ []
 single zero h = refl

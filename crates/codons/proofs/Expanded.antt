@@ -1,6 +1,6 @@
 -- Laws of `specs/Expansion.antt`, for the turns of the plain codon reader. Assumes nothing.
 use mathlib.Core.List.{List, [], _∷_, _++_}
-use mathlib.Core.Bool.{Bool, true, false, _&&_, _||_, not}
+use mathlib.Core.Bool.{Bool, true, false, _&&_}
 use mathlib.Core.Path.{_≡_, refl, sym, _∙_}
 use Prim.Native.Nat.{ℕ, zero, suc, _+_, _-_, _*_, _/_, _%_, _<_, _≤_}
 use native.Mathlib.Nat.{suc-sub-suc, le-of-suc-le-suc, not-suc-le-zero}
@@ -8,7 +8,7 @@ use native.Mathlib.Numerals.{add-one, sub-one}
 use native.Mathlib.Omega.{arith}
 use lib.Dec.{eqb}
 use lib.ListN.{length, getD}
-use borrow.Author.Tests.{eq-eqb, eqb-true, ne-eqb}
+use borrow.Author.Tests.{eq-eqb, ne-eqb}
 use Rattle.rules.specs.Bytes.{byte, if_then_else_}
 use Rattle.rules.specs.Codons.{residueX, geneticCode, bitOf, withBase, basesOf, forEach}
 use Rattle.codons.specs.Expansion.{codonCount, expanded, isAsx, isGlx, mixedWith, joined, joinedAll}
@@ -89,16 +89,6 @@ joined-bases s found t tc tca all f et etc etca eall =
     ∙ rw (sym et) (base-joined (s / 2 % 2) 1 t _ f (omega arith)
     ∙ rw (sym etc) (rw one (base-joined (s % 2) 2 tc _ f (omega arith)
     ∙ rw (sym etca) (base-joined (s / 4 % 2) 3 tca [] f (omega arith) ∙ sym eall)))))
-
--- nothing to join, or X already; and something to join
-pub unchanged : (there : Bool) (found : ℕ) (rs : List ℕ) → not there || eqb found residueX ≡ true → joinedAll residueX rs ≡ residueX
-    → found ≡ (if there then joinedAll found rs else found)
-unchanged true found rs is stays = rw (eqb-true found residueX is) (sym stays)
-unchanged false found rs is stays = refl
-
-pub changed : (there : Bool) (found all whole : ℕ) → not there || eqb found residueX ≡ false → all ≡ whole → all ≡ (if there then whole else found)
-changed true found all whole n e = e
-changed false found all whole n e = cc
 
 -- no base has the bit 0
 pub bit-some : (i : ℕ) → i < 4 → 0 < bitOf i

@@ -109,16 +109,13 @@ pub fn read_codon(table: usize, a: usize, b: usize, c: usize) -> u8
 
 // The same by the residues of the plain codons, which a walk has at hand: the bases of each letter in turn.
 
-// The numbers b / 2 % 4 of the bases' letters, in the order T, C, A, G.
-const NUMBERS: [usize; 4] = [2, 1, 0, 3];
-
-// The residue of a plain codon of three bases.
+// The residue of a plain codon of three bases. The numbers b / 2 % 4 of the bases' letters are 2, 1, 0 and 3, in the order T, C, A, G.
 fn plain_at(table: usize, code: &[u8; 64], i: usize, j: usize, k: usize) -> u8
     requires { ⌜ HoldsPlain table (now code) ⌝ }
     requires { ⌜ (i < 4) × (j < 4) × (k < 4) ⌝ }
     ensures { λ r. ⌜ r ≡ plainCodon table i j k ⌝ }
 {
-    let place = NUMBERS[i] * 16 + NUMBERS[j] * 4 + NUMBERS[k];
+    let place = (6 - i) % 4 * 16 + (6 - j) % 4 * 4 + (6 - k) % 4;
     code[place]
 }
 
@@ -129,21 +126,13 @@ fn join_if(there: bool, found: u8, residue: u8) -> u8
     if there { join(found, residue) } else { found }
 }
 
-// Joins the residues of two bases with each base of a third letter to what was found so far, where the second is one of its letter's.
-fn join_third(
-    there: bool,
-    table: usize,
-    code: &[u8; 64],
-    i: usize,
-    j: usize,
-    c: usize,
-    found: u8,
-) -> u8
+// Joins the residues of two bases with each base of a third letter to what was found so far.
+fn join_third(table: usize, code: &[u8; 64], i: usize, j: usize, c: usize, found: u8) -> u8
     requires { ⌜ HoldsPlain table (now code) ⌝ }
     requires { ⌜ (i < 4) × (j < 4) ⌝ }
-    ensures { λ r. ⌜ r ≡ (if there then joinedAll found (forEach (basesOf c) λ k. plainCodon table i j k ∷ []) else found) ⌝ }
+    ensures { λ r. ⌜ r ≡ joinedAll found (forEach (basesOf c) λ k. plainCodon table i j k ∷ []) ⌝ }
 {
-    if !there | (found == b'X') {
+    if found == b'X' {
         return found;
     }
     let t = join_if(c / 8 % 2 == 1, found, plain_at(table, code, i, j, 0));
@@ -152,27 +141,24 @@ fn join_third(
     join_if(c / 4 % 2 == 1, tca, plain_at(table, code, i, j, 3))
 }
 
-// The same of a base with each base of a second and a third letter, where the first is one of its letter's.
-fn join_second(
-    there: bool,
-    table: usize,
-    code: &[u8; 64],
-    i: usize,
-    b: usize,
-    c: usize,
-    found: u8,
-) -> u8
+// The same of a base with each base of a second and a third letter.
+fn join_second(table: usize, code: &[u8; 64], i: usize, b: usize, c: usize, found: u8) -> u8
     requires { ⌜ HoldsPlain table (now code) ⌝ }
     requires { ⌜ i < 4 ⌝ }
-    ensures { λ r. ⌜ r ≡ (if there then joinedAll found (forEach (basesOf b) λ j. forEach (basesOf c) λ k. plainCodon table i j k ∷ []) else found) ⌝ }
+    ensures { λ r. ⌜ r ≡ joinedAll found (forEach (basesOf b) λ j. forEach (basesOf c) λ k. plainCodon table i j k ∷ []) ⌝ }
 {
-    if !there | (found == b'X') {
+    if found == b'X' {
         return found;
     }
-    let t = join_third(b / 8 % 2 == 1, table, code, i, 0, c, found);
-    let tc = join_third(b / 2 % 2 == 1, table, code, i, 1, c, t);
-    let tca = join_third(b % 2 == 1, table, code, i, 2, c, tc);
-    join_third(b / 4 % 2 == 1, table, code, i, 3, c, tca)
+    let mut all = found;
+    let mut j = 0;
+    while j < 4 {
+        if b / BITS[j] % 2 == 1 {
+            all = join_third(table, code, i, j, c, all);
+        }
+        j += 1;
+    }
+    all
 }
 
 // The residue of a codon of three letter sets, none of them empty.
@@ -183,8 +169,13 @@ pub fn read_by_plain(table: usize, code: &[u8; 64], a: usize, b: usize, c: usize
     requires { ⌜ (0 < c) × (c < 16) ⌝ }
     ensures { λ r. ⌜ r ≡ codonRule table a b c ⌝ }
 {
-    let t = join_second(a / 8 % 2 == 1, table, code, 0, b, c, 0);
-    let tc = join_second(a / 2 % 2 == 1, table, code, 1, b, c, t);
-    let tca = join_second(a % 2 == 1, table, code, 2, b, c, tc);
-    join_second(a / 4 % 2 == 1, table, code, 3, b, c, tca)
+    let mut all = 0;
+    let mut i = 0;
+    while i < 4 {
+        if a / BITS[i] % 2 == 1 {
+            all = join_second(table, code, i, b, c, all);
+        }
+        i += 1;
+    }
+    all
 }

@@ -1,16 +1,17 @@
 -- `codons::reader::join_third` meets its contract: the bases of the third letter one by one. Assumes nothing.
 use mathlib.Core.List.{List, [], _∷_}
+use mathlib.Core.Path.{sym}
 use Prim.Native.Nat.{ℕ}
 use borrow.Author.Needs.{needs}
-use Rattle.rules.specs.Codons.{plainCodon, basesOf, forEach}
+use Rattle.rules.specs.Codons.{plainCodon}
 use Rattle.codons.specs.Expansion.{joinedAll}
-use Rattle.codons.proofs.Expanded.{joined-bases, unchanged, changed}
+use Rattle.codons.proofs.Expanded.{joined-bases}
 use Rattle.codons.proofs.Agreement.{stays-X}
 use Rattle.codons.proofs.reader.join_third.Statement.{statement}
 use Rattle.codons.proofs.reader.join_third.Tie as tie
 
 returns : tie.Need-returns
-returns c = unchanged (c .before .args .there) (c .before .args .found) _ (c .if1 .taken) (stays-X _)
+returns c = rw (c .if1 .taken) (sym (stays-X _))
 
 returns-2 : tie.Need-returns-2
 unfolding joinedAll
@@ -18,12 +19,11 @@ returns-2 c =
     let start = c .before .before .before .before .before .before .before .before .before in
     let args = start .args in
     let f : ℕ → List ℕ = λ k. plainCodon (args .table) (args .i) (args .j) k ∷ [] in
-    changed (args .there) (args .found) _ (joinedAll (args .found) (forEach (basesOf (args .c)) f)) (c .before .before .before .before .before .before .before .before .if1 .left)
-    (joined-bases (args .c) (args .found) _ _ _ _ f
+    joined-bases (args .c) (args .found) _ _ _ _ f
     (rw (c .before .before .before .before .before .before .before .plain-at .ensures) at (c .before .before .before .before .before .before .join-if .ensures))
     (rw (c .before .before .before .before .before .plain-at2 .ensures) at (c .before .before .before .before .join-if2 .ensures))
     (rw (c .before .before .before .plain-at3 .ensures) at (c .before .before .join-if3 .ensures))
-    (rw (c .before .plain-at4 .ensures) at (c .join-if4 .ensures)))
+    (rw (c .before .plain-at4 .ensures) at (c .join-if4 .ensures))
 
 pub join-third-spec : {M : Type 1} → statement M
 join-third-spec =

@@ -17,15 +17,12 @@ pub plain-at-spec : {M : Type 1} → statement M
 plain-at-spec =
     tie.close
     (tie.spec
-    (λ c. search needs)
-    (λ c. search needs)
+    (λ c. omega (arith, c .pre .1 .0))
     (λ c. omega (arith, number-small (c .args .i)))
-    (λ c. search needs)
-    (λ c. search needs)
+    (λ c. omega (arith, c .pre .1 .1))
     (λ c. omega (arith, number-small (c .args .j)))
     (λ c. omega (arith, number-small (c .args .i), number-small (c .args .j)))
-    (λ c. search needs)
-    (λ c. search needs)
+    (λ c. omega (arith, c .pre .1 .2))
     (λ c. omega (arith, number-small (c .args .i), number-small (c .args .j), number-small (c .args .k)))
     element-copy-out-result
     returns)
