@@ -20,7 +20,7 @@ use Rattle.rules.specs.Edit.{Asked, is, kindOf, startIndex, endIndex, fitBases}
 use Rattle.rules.specs.Altered.{part, swapBy, swap, kept, cutSwap, alteredTranscript, alteredLength}
 use Rattle.rules.specs.Protein.{alteredProtein}
 use Rattle.rules.specs.Reuse.{alteredCoding, codonsThroughStop, lookedUp}
-use Rattle.rules.specs.Pieces.{keepsAll, behindPut, headOf, tailOf, backOf, isLevel, middle}
+use Rattle.rules.proofs.PieceNumbers.{keepsAll, behindPut, headOf, tailOf, backOf, isLevel, middle}
 use Rattle.rules.specs.Record.{isUnknown}
 use Rattle.rules.specs.Refusal.{refusal}
 use Rattle.rules.specs.Views.{cdsOf}

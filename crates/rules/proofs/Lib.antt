@@ -23,6 +23,7 @@ pub mod Protein
 pub mod Silent
 pub mod Carried
 pub mod Kept
+pub mod PieceNumbers
 pub mod Pieces
 pub mod Looked
 pub mod Substituted

@@ -19,7 +19,7 @@ use Rattle.rules.specs.Altered.{cutSwap}
 use Rattle.rules.specs.Exceptions.{inFrame, codonIndex}
 use Rattle.rules.specs.Protein.{alteredProtein}
 use Rattle.rules.specs.Reuse.{liesBefore, liesBehind, origin, isOfCds, isReused, alteredCoding, codonsThroughStop, countTo, lookedUp}
-use Rattle.rules.specs.Pieces.{keepsAll, behindPut, headOf, tailOf, backOf, isLevel, middle}
+use Rattle.rules.proofs.PieceNumbers.{keepsAll, behindPut, headOf, tailOf, backOf, isLevel, middle}
 use Rattle.rules.specs.declared.Limits.{Limits}
 use Rattle.rules.specs.Refusal.{refusal, referenceRefusal}
 use Rattle.rules.proofs.Tests.{and-left, and-right, or-left}

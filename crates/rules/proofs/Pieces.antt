@@ -20,7 +20,7 @@ use Rattle.rules.specs.Altered.{part, cutSwap, alteredTranscript}
 use Rattle.rules.specs.Protein.{alteredProtein}
 use Rattle.rules.specs.Reuse.{alteredCoding}
 use Rattle.rules.specs.Record.{isUnknown}
-use Rattle.rules.specs.Pieces.{keepsAll, behindPut, headOf, tailOf, backOf, isLevel, middle}
+use Rattle.rules.proofs.PieceNumbers.{keepsAll, behindPut, headOf, tailOf, backOf, isLevel, middle}
 use Rattle.rules.specs.declared.Limits.{Limits}
 use Rattle.rules.specs.Refusal.{refusal, referenceRefusal}
 use Rattle.rules.proofs.Tests.{and-left, and-right, or-left, or-right, and-implies}

@@ -1,6 +1,6 @@
 -- The definitions of document 01 as document 02 amends it, a file for each part and in its order, each over those above it; Reuse is E4, Check E7.
--- Bytes has the words that all share, Pieces the numbers that a walk reuses by, Views the plain types as the sections' own, Values the numbers that a
--- host reads, Opened what a worked example computes with.
+-- Bytes has the words that all share, Views the plain types as the sections' own, Values the numbers that a host reads, Opened what a worked example
+-- computes with.
 pub mod Bytes
 pub mod Letters
 pub mod Codons
@@ -15,7 +15,6 @@ pub mod Altered
 pub mod Exceptions
 pub mod Protein
 pub mod Reuse
-pub mod Pieces
 pub mod Record
 pub mod Refusal
 pub mod Views
