@@ -10,7 +10,7 @@
 #include <string.h>
 #include <time.h>
 
-enum { PASSES = 10, ROUNDS = 100, SAMPLE_NS = 20000, MOST = 20000, CALLS = 5, ROWS = 64 };
+enum { PASSES = 10, ROUNDS = 100, SAMPLE_NS = 20000, MOST = 20000, CALLS = 5, ROWS = 96 };
 
 static double now(void)
 {
@@ -197,6 +197,8 @@ static int pass, at;
 /* The best time of each call so far, taken by turns; 0 for a call that isn't there. */
 static const double *best_of(const call *calls, int count)
 {
+    if (at == ROWS)
+        fail("more rows than there is room for");
     double *best = kept[at++];
     int often[CALLS];
     for (int k = 0; k < count; k++) {

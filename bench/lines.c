@@ -15,7 +15,7 @@ int main(int argc, char **argv)
     FILE *in = argc == 3 ? fopen(argv[1], "rb") : NULL, *out = argc == 3 ? fopen(argv[2], "wb") : NULL;
     if (!in || !out || fseek(in, 0, SEEK_END))
         fail("lines INPUT OUTPUT");
-    size_t size = (size_t)ftell(in), room = 4 * size + 65536;
+    size_t size = (size_t)ftell(in), room = (size_t)1 << 30;   /* pages that no answer reaches cost nothing */
     uint8_t *input = malloc(size), *answers = malloc(room);
     rewind(in);
     if (!input || !answers || fread(input, 1, size, in) != size)
