@@ -10,7 +10,7 @@
 #include <string.h>
 #include <time.h>
 
-enum { PASSES = 10, ROUNDS = 100, SAMPLE_NS = 20000, MOST = 20000, CALLS = 5, ROWS = 64 };
+enum { PASSES = 10, ROUNDS = 100, SAMPLE_NS = 20000, MOST = 20000, CALLS = 5, ROWS = 96 };
 
 static double now(void)
 {
@@ -197,6 +197,8 @@ static int pass, at;
 /* The best time of each call so far, taken by turns; 0 for a call that isn't there. */
 static const double *best_of(const call *calls, int count)
 {
+    if (at == ROWS)
+        fail("more rows than there is room for");
     double *best = kept[at++];
     int often[CALLS];
     for (int k = 0; k < count; k++) {
@@ -465,7 +467,12 @@ static const struct {
     const char *name;
     uint64_t kind;
     int64_t more;
-} kinds[] = {{"substitution", 1, 0}, {"deletion of one", 2, 0}, {"duplication of three", 5, 2}};
+    const char *bases;
+} kinds[] = {{"substitution", 1, 0, NULL},
+             {"deletion of one", 2, 0, ""},
+             {"duplication of three", 5, 2, ""},
+             {"deletion of three", 2, 2, ""},
+             {"insertion of three", 4, 1, "GCC"}};
 
 /* The edit of that kind in the middle of a transcript, and its name. */
 static void make_middle(unsigned k, uint64_t len, char what[64])
@@ -473,7 +480,7 @@ static void make_middle(unsigned k, uint64_t len, char what[64])
     make_reference(len);
     int64_t middle = (int64_t)(ref.ce - ref.cs + 1) / 6 * 3 + 2;   /* the second base of a codon */
     const char *base = letters[ref.cs - 1 + middle - 1] == 'C' ? "G" : "C";
-    make_edit(kinds[k].kind, middle, middle + kinds[k].more, kinds[k].kind == 1 ? base : "");
+    make_edit(kinds[k].kind, middle, middle + kinds[k].more, kinds[k].bases ? kinds[k].bases : base);
     check_edit();
     snprintf(what, 64, "%lu %s", (unsigned long)len, kinds[k].name);
 }
@@ -522,7 +529,7 @@ static void checks(uint64_t len)
 
 static void edits(uint64_t len)
 {
-    for (unsigned k = 0; k < 3; k++) {
+    for (unsigned k = 0; k < sizeof kinds / sizeof *kinds; k++) {
         char what[64];
         make_middle(k, len, what);
         const double *best = best_of((call[]){ours_anew, rust_anew, rust_anew_until, c_anew, ours_check}, 5);

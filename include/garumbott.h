@@ -46,10 +46,10 @@
  *   Letters are IUPAC's for bases and sets of bases, ACGTRYSWKMBDHVN, in upper case but for garumbott_translate. Letters and residues are bytes of
  *     ASCII. A stop is '*', a residue that is D or N 'B', one that is E or Q 'Z', any other that isn't known 'X'.
  *   Versions. Later versions add members at the ends of the structs; 0 in a new member means what is done today. The functions over slices and numbers
- *     gain parameters; those over structs keep theirs. New in 2.0.0: cds_end in garumbott_record and garumbott_edit, behind exceptions_len, and
- *     garumbott_check. Other answers than in 1: a copy of the first residues is a duplication, and a codon of D and N, or of E and Q, 'B' or 'Z'.
- *     The archive can't tell which header its caller was compiled with: compile all of a host with the header that came with the
- *     archive, and anew whenever they change.
+ *     gain parameters; those over structs keep theirs. New in 2.0.0: cds_end in garumbott_record and garumbott_edit, behind exceptions_len,
+ *     garumbott_check, and codons in struct garumbott_answer. Other answers than in 1: a copy of the first residues is a duplication, and a
+ *     codon of D and N, or of E and Q, is 'B' or 'Z'. The archive can't tell which header its caller was compiled with: compile all of a host
+ *     with the header that came with the archive, and anew whenever they change.
  *
  * The archive is compiled for Linux on x86-64 (System V calling convention). It wants memcpy and memset of the C library and nothing else,
  * and links into programs and shared objects alike. The header is C11, and C++ as well.
@@ -172,6 +172,8 @@ struct garumbott_length {
  *   number          0        0        0           n         n
  *   deleted         0, 0     0, 0     0, 0        n-1, 1    n-1, length
  *   inserted        0, 0     0, 0     0, 0        n-1, 1    n-1, length
+ *   codons          0        0        0           count     count
+ * garumbott_edit reads no protein: its codons are always 0.
  */
 struct garumbott_answer {
     uint64_t answer;         /* GARUMBOTT_REFUSED .. GARUMBOTT_CHANGED */
@@ -187,6 +189,7 @@ struct garumbott_answer {
     uint64_t inserted_at;  /* the residues of A that come: A[inserted_at] .. A[inserted_at + inserted_len - 1] */
     uint64_t inserted_len; /* may be 0 */
     uint64_t first;        /* duplication: the number of the first residue that is repeated, else 0 */
+    uint64_t codons;       /* how many codons of the altered transcript were looked up in the table, to read A: see garumbott_record */
 };
 
 /* What garumbott_check answers. A yes is 1, a no 0.
@@ -262,6 +265,12 @@ struct garumbott_stored {
  *     X, though a base changed, and the flag may be set.
  *   A is read from base 1 of the CDS through the first '*', to the transcript's end where there is none, with 'X' for one or two bases that are
  *     left. An exception stays with its codon where the edit leaves that codon as it was and in frame, and is dropped otherwise.
+ *   A codon that the edit leaves alone isn't looked up in the table again: its residue is taken from R. It lies wholly before the edit, or wholly behind it and is, in the
+ *     reference, a codon of the CDS in its frame. The edit is its range, whether its bases change or not, and in an insertion or a duplication the gap where bases go
+ *     in; an identity leaves every codon of the CDS alone. With exceptions none is left alone. The answer's codons are the others: the whole codons, up to and with A's
+ *     stop, that were looked up. They tell what the edit cost, not what it changed: for a substitution in the CDS, without exceptions, 1 at most, unless R's final
+ *     stop changes. In the example above 1 of A's five codons is looked up. "4=" has 0, "4_6dup" 1, "10_12del" 0, "5del" 5 (behind a frameshift all are), "13T>C" 3
+ *     (A goes on behind the CDS).
  *
  * Refusals 1 to 12, the lowest that applies, 28 in 6's place where the CDS doesn't end at a stop; but Unknown is decided before 11, so that it needs no room. Refused and Unknown write nothing;
  * every other answer writes all three buffers. */

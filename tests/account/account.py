@@ -1,4 +1,4 @@
-"""A second account of documents 01 and 02 (E2, E5, E7, E8), in Python, written from their text and not from the definitions or the code.
+"""A second account of documents 01 and 02 (E2, E4, E5, E7, E8), in Python, written from their text and not from the definitions or the code.
 
 What the programs print is compared with it. It is only as good as its reading of the documents: where it and the proved module differ, one of
 the two is wrong. `python3 account.py < input` prints what the text program prints, `python3 account.py records < input` what check-records does.
@@ -157,6 +157,9 @@ class Altered:
             if stop >= 0:
                 kept, stops = put[:3 * (stop + 1) - frame], True
         self.transcript = letters[:at] + kept + letters[to:]
+        places = list(range(len(letters)))  # of each base of the transcript: where it stands in the reference, None for one that the edit put there
+        self.sources = places if edit.kind == "identity" else places[:at] + [None] * len(kept) + places[to:]
+        self.edited_at = at
         gives_way = edit.kind in ("deletion", "delins", "substitution")
         self.flag = (len(put) - (to - at)) % 3 != 0 or gives_way and start < ref.ce < end
         if letters[at:to] == put or stops or edit.kind in ("inversion", "identity"):
@@ -175,6 +178,20 @@ class Altered:
                 yield number, x
             elif codon >= len(old) - suffix and to >= first and (to - first) % 3 == 0:
                 yield (to - first) // 3 + 1, x
+
+    def is_reused(self, ref, first):
+        """Whether the whole codon that begins at an index is reused (E4): its three bases stand side by side in the reference too, before the edit, or
+        behind it and there as a codon of the CDS. An identity put none of them there."""
+        sources = self.sources[first:first + 3]
+        if ref.exceptions or None in sources or sources != list(range(sources[0], sources[0] + 3)):
+            return False
+        codons_of_cds = range(ref.cs - 1, ref.ce - 2, 3)
+        return sources[2] < self.edited_at or sources[0] in codons_of_cds
+
+    def looked_up(self, ref):
+        """How many codons are looked up (E4): the whole codons, up to and with the first stop, that aren't reused."""
+        whole = (len(self.transcript) - ref.cs + 1) // 3
+        return sum(not self.is_reused(ref, ref.cs - 1 + 3 * i) for i in range(min(whole, len(self.protein))))
 
 
 # The record: a word, a number, the deleted and the inserted part by place and length, and a duplication's first residue

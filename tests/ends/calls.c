@@ -3,15 +3,16 @@
  * Input, each number a byte, each string behind its length: for a reference its letters, cs, ce, table, exceptions, end and stored form, then the number
  * of edits in two bytes, high byte first; for an edit its kind, start_star, start, end_star, end, new bases, and the room in each of the three buffers.
  * Output: for a reference what garumbott_read_stored answers; for an edit what garumbott_record answers and the buffers, the same of garumbott_edit, and,
- * where the stored form wasn't refused, of garumbott_record on what was read; then 1 or 0, whether garumbott_check fits that. A number is a byte, 255 for every number that is too large for one. */
+ * where the stored form wasn't refused, of garumbott_record on what was read; then 1 or 0, whether garumbott_check fits that, and the codons that garumbott_record looks
+ * up where it has all the room there is. A number is a byte, 255 for every number that is too large for one. */
 #include "garumbott.h"
 #include <stdio.h>
 #include <stdlib.h>
 #include <string.h>
 
 /* The three buffers, in a row and each longer than any room that is lent, and what they hold before a call: it differs from place to place. */
-enum { TRANSCRIPT = 20, REFERENCE = 5, ALTERED = 8, ALL = TRANSCRIPT + REFERENCE + ALTERED };
-static const uint8_t before[] = "abcdefghijklmnopqrst" "abcde" "abcdefgh";
+enum { TRANSCRIPT = 28, REFERENCE = 5, ALTERED = 11, ALL = TRANSCRIPT + REFERENCE + ALTERED };
+static const uint8_t before[] = "abcdefghijklmnopqrstuvwxyz{|" "abcde" "abcdefghijk";
 static uint8_t lent[ALL], in[1 << 16], out[1 << 16];
 static size_t in_at, in_len, out_len;
 
@@ -49,7 +50,7 @@ static const uint8_t *string(uint8_t *to, uint64_t *len)
 static void put(const void *numbers, size_t size)
 {
     const uint64_t *n = numbers;
-    if (sizeof out - out_len < size + ALL + 1) flush();
+    if (sizeof out - out_len < size + ALL + 2) flush();
     for (size_t i = 0; i < size / sizeof *n; i++) out[out_len++] = n[i] < 255 ? (uint8_t)n[i] : 255;
 }
 
@@ -121,6 +122,8 @@ int main(void)
             call(1, &r, &e, &b);
             if (s.refusal == 0) call(0, &found, &e, &b);
             out[out_len++] = check_fits(&r, &e, &b);
+            struct garumbott_buffers all = {lent, TRANSCRIPT, lent + TRANSCRIPT, REFERENCE, lent + TRANSCRIPT + REFERENCE, ALTERED};
+            out[out_len++] = (uint8_t)garumbott_record_of(&r, &e, &all).codons;
         }
     }
     flush();

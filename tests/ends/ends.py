@@ -1,5 +1,5 @@
-"""Small references with every end, through C (calls.c) against the account of the documents (tests/account): every number of each answer and every byte of
-the three buffers, for garumbott_record, garumbott_edit and the stored form; and each record handed to garumbott_check. Prints how much was compared; exits 1 at a difference, and tells the first.
+"""Small references with every end, through C (calls.c) against the account of the documents (tests/account): every number of each answer, that of the codons
+looked up among them, and every byte of the three buffers, for garumbott_record, garumbott_edit and the stored form; and each record handed to garumbott_check. Prints how much was compared; exits 1 at a difference, and tells the first.
 
     python3 tests/ends/ends.py FOLDER COMMAND..    COMMAND is the compiled calls.c; what it is told is kept in FOLDER
 """
@@ -11,7 +11,8 @@ sys.path.insert(0, "tests/account")
 import account
 
 CLASSES = "start-lost extension stop-gained frameshift substitution deletion duplication insertion delins".split()
-SIZES = (20, 5, 8)  # of the buffers in calls.c
+SIZES = (28, 5, 11)  # of the buffers in calls.c
+NUMBERS = 14  # of an answer
 FILL = [bytes(range(97, 97 + size)) for size in SIZES]
 ENDS = range(4)
 
@@ -71,6 +72,12 @@ def edited():
             yield letters, 1, len(letters), 0, exceptions, (1, 2)
             yield letters, len(letters) - 5, len(letters), 0, exceptions, (1,)
     yield "ATGAAAC", 1, 6, 0, ((2, "*"),), (0,)
+    for i, letters in enumerate(words("AGT", 3)):  # three codons, with bases before and behind them, a stop among these in one frame or another
+        behind = ("C", "CATAG", "CTGA", "TAAC")[i % 4]
+        yield "GATG" + letters + "TAA" + behind, 2, 10, 0, (), (0,)
+        if i % 5 == 0:
+            yield "GATG" + letters + "TAA" + behind, 2, 10, 0, ((2, "K"),), (0,)
+            yield ("ATG" + letters + "AACTG")[:9 + i % 3], 1, 9 + i % 3, 0, (), (2 if i % 3 else 1,)
 
 
 def references():
@@ -133,35 +140,39 @@ def buffers(texts):
 
 
 def alone(answer, refusal=0):
-    return bytes([answer, refusal] + [0] * 11)
+    return bytes([answer, refusal] + [0] * (NUMBERS - 2))
 
 
-def told(record, flag, sizes):
+def told(record, flag, sizes, codons):
     """The numbers of garumbott_record."""
     head = [flag, *sizes]
     if record.word == "no-protein":
-        return bytes([2, 0] + head + [0] * 7)
+        return bytes([2, 0] + head + [0] * 7 + [codons])
     kind = CLASSES.index(record.word) + 1 if record.word != "silent" else 0
-    return bytes([4 if kind else 3, 0] + head + [kind, record.number, *record.deleted, *record.inserted, record.first])
+    return bytes([4 if kind else 3, 0] + head + [kind, record.number, *record.deleted, *record.inserted, record.first, codons])
 
 
 NOTHING = buffers(("", "", ""))
 NONE, PLENTY = (0, 0, 0), tuple(size - 1 for size in SIZES)
+counts = {}  # how often each number of codons looked up came up in an answer without exceptions
 seen = set()  # whether the reference is cut short, and the refusal, the word of the record, or "begun" where R is the beginning of A
 
 
 def answered(ref, edit, turn):
-    """The rooms that are lent, and what garumbott_record and garumbott_edit answer and write: exact room twice as often as plenty, and a byte too little
-    in each buffer."""
+    """The rooms that are lent, what garumbott_record and garumbott_edit answer and write, and the codons looked up with room enough: exact room twice as often
+    as plenty, and a byte too little in each buffer."""
     try:
         record, altered = account.answer(ref, edit)
     except account.Refused as refusal:
         seen.add((ref.end != 0, refusal.number))
         no = alone(0, refusal.number) + NOTHING
-        return NONE if turn % 2 else PLENTY, no, no
+        return NONE if turn % 2 else PLENTY, no, no, 0
     seen.add((ref.end != 0, record.word))
     if not altered:
-        return NONE if turn % 2 else PLENTY, alone(1) + NOTHING, alone(1) + NOTHING
+        return NONE if turn % 2 else PLENTY, alone(1) + NOTHING, alone(1) + NOTHING, 0
+    codons = altered.looked_up(ref)
+    if not ref.exceptions:
+        counts[codons] = counts.get(codons, 0) + 1
     if record.number > len(ref.protein):
         seen.add((ref.end != 0, "begun"))
     texts = altered.transcript, ref.protein, altered.protein
@@ -171,14 +182,14 @@ def answered(ref, edit, turn):
         room[turn % 6 - 3] -= 1
     elif turn % 6 == 0:
         room = PLENTY
-    edits = bytes([4, 0, altered.flag, sizes[0]] + [0] * 9) + buffers((texts[0], "", ""))
+    edits = bytes([4, 0, altered.flag, sizes[0]] + [0] * (NUMBERS - 4)) + buffers((texts[0], "", ""))
     try:
         account.check_room(ref, altered, *room)
     except account.Refused as refusal:
         seen.add((ref.end != 0, refusal.number))
         no = alone(0, refusal.number) + NOTHING
-        return room, no, no if refusal.number == 11 else edits
-    return room, told(record, altered.flag, sizes) + buffers(texts), edits
+        return room, no, no if refusal.number == 11 else edits, codons
+    return room, told(record, altered.flag, sizes, codons) + buffers(texts), edits, codons
 
 
 def stored(data, exceptions):
@@ -205,9 +216,9 @@ def block(done, letters, cs, ce, table, exceptions, end, edits):
         ref, no = None, alone(0, refusal.number) + NOTHING
         seen.add((end != 0, refusal.number))
     for turn, (edit, given) in enumerate(edits, done):
-        room, records, alones = answered(ref, edit, turn) if ref else (NONE if turn % 2 else PLENTY, no, no)
+        room, records, alones, codons = answered(ref, edit, turn) if ref else (NONE if turn % 2 else PLENTY, no, no, 0)
         call += [given, bytes(room)]
-        want += [records, alones, records, b"\1"] if read else [records, alones, b"\1"]
+        want += [records, alones] + [records] * read + [bytes([1, codons])]
     return b"".join(call), b"".join(want)
 
 
@@ -216,18 +227,20 @@ def block(done, letters, cs, ce, table, exceptions, end, edits):
 def differs(number, want, got):
     """The first difference, in words."""
     reference = next(itertools.islice(references(), number, None))
-    edits, size, calls = reference[-1], 13 + sum(SIZES), 3 if want[0] == 0 else 2
+    edits, size, calls = reference[-1], NUMBERS + sum(SIZES), 3 if want[0] == 0 else 2
     said = f"letters {reference[0]} cs {reference[1]} ce {reference[2]} table {reference[3]} exceptions {reference[4]} end {reference[5]}"
     if want[:9] != got[:9]:
         return f"{said}: garumbott_read_stored {list(got[:9])}, not {list(want[:9])}"
     at = next(i for i, pair in enumerate(itertools.zip_longest(want, got)) if pair[0] != pair[1])
-    number, rest = divmod(at - 9, calls * size + 1)
+    number, rest = divmod(at - 9, calls * size + 2)
     edit, call, first = edits[number][0], rest // size, at - rest % size
     said = f"{said}, {edit.kind} {''.join(map(str, edit.start))}_{''.join(map(str, edit.end))} {edit.bases}"
-    if call == calls:
+    if rest == calls * size:
         return f"{said}: garumbott_check doesn't fit what garumbott_record answers"
+    if rest > calls * size:
+        return f"{said}: garumbott_record looks up {got[at]} codons, not {want[at]}"
     name = ("garumbott_record", "garumbott_edit", "garumbott_record of the stored form")[call]
-    shown = [f"{list(part[:13])} {part[13:].decode('latin-1')}" for part in (got[first:first + size], want[first:first + size])]
+    shown = [f"{list(part[:NUMBERS])} {part[NUMBERS:].decode('latin-1')}" for part in (got[first:first + size], want[first:first + size])]
     return f"{said}: {name} {shown[0]}, not {shown[1]}"
 
 
@@ -239,7 +252,7 @@ def main(folder, command):
             out.write(call)
             wants.append(want)
             done += len(reference[-1])
-            calls += 1 + len(reference[-1]) * (4 if want[0] == 0 else 3)
+            calls += 1 + len(reference[-1]) * (5 if want[0] == 0 else 4)
             if want[0] == 0:
                 ends[reference[5]] = ends.get(reference[5], 0) + 1
     with open(f"{folder}/input", "rb") as given:
@@ -257,11 +270,13 @@ def main(folder, command):
     both = ["unknown", "no-protein", "silent", "start-lost", "insertion", *range(1, 6), *range(7, 13)]
     wanted = {(False, what) for what in both + ["extension", 6]} | {(True, what) for what in both + CLASSES + ["begun", 28]} - {(True, "extension")}
     missing = wanted - seen
-    if missing or sorted(ends) != [0, 1, 2] or calls < 500000:
-        print(f"not compared: {sorted(map(str, missing))}; {calls} calls, references by end {ends}")
+    if missing or sorted(ends) != [0, 1, 2] or calls < 500000 or any(counts.get(n, 0) < 100 for n in range(6)):
+        print(f"not compared: {sorted(map(str, missing))}; {calls} calls, references by end {ends}, codons looked up {counts}")
         return 1
-    print(f"{len(wants)} references ({', '.join(f'{n} with end {end}' for end, n in sorted(ends.items()))} not refused), {calls} calls: as the account has them")
+    print(f"{len(wants)} references ({', '.join(f'{n} with end {end}' for end, n in sorted(ends.items()))} not refused), {calls} calls, "
+          f"{sum(counts.values())} answers in which codons can be reused: as the account has them")
     return 0
 
 
-sys.exit(main(sys.argv[1], sys.argv[2:]))
+if __name__ == "__main__":
+    sys.exit(main(sys.argv[1], sys.argv[2:]))

@@ -1,7 +1,7 @@
 /* fuzz SECONDS SEED: for so long, and on 10,000 inputs at least, calls every entry point on random bytes, on good input and on damaged copies of
  * it, through fenced memory, and holds each answer to what can be told without a second account of the rules: no byte changes that shouldn't,
- * every number is in its range, the answers of different entry points fit together, the altered transcript is what the edit makes of the letters,
- * the record carried out on either protein gives the other, a proposed record gets its two answers by carrying it out on R, and a stored reference is what
+ * every number is in its range, the answers of different entry points fit together, the altered transcript is what the edit makes of the letters, the codons
+ * looked up are those that the edit doesn't leave alone, the record carried out on either protein gives the other, a proposed record gets its two answers by carrying it out on R, and a stored reference is what
  * its fields, read plainly, and garumbott_record make of it. In the end every answer, class, refusal and end of a CDS must have come up. Prints the call's seed where a check fails, and exits 1. */
 #define _DEFAULT_SOURCE
 #include "../host/fence.h"
@@ -243,7 +243,12 @@ static void edit_call(int alone, enum fence_side side, const size_t size[3], str
     memcpy(o->p, b.altered, a->altered_len);
 }
 
-/* The altered transcript, made in the plainest way. */
+/* Of each base of the altered transcript: where it stands in the reference, from 0, or PUT for one that the edit put there. */
+enum { PUT = UINT16_MAX };
+static uint16_t sources[GARUMBOTT_TRANSCRIPT_ROOM];
+static uint64_t edited_at;
+
+/* The altered transcript, made in the plainest way, and its sources; an identity puts nothing there. */
 static uint64_t plain_transcript(uint8_t *out)
 {
     uint64_t L = ref.letters_len, first = ref.cs - 1, put_len = edit.bases_len;
@@ -269,7 +274,26 @@ static uint64_t plain_transcript(uint8_t *out)
     memcpy(out, letters, from);
     memcpy(out + from, put, put_len);
     memcpy(out + from + put_len, letters + to, L - to);
+    edited_at = from;
+    for (uint64_t i = 0; i < from; i++) sources[i] = (uint16_t)i;
+    for (uint64_t i = 0; i < put_len; i++) sources[from + i] = edit.kind == GARUMBOTT_IDENTITY ? (uint16_t)(from + i) : PUT;
+    for (uint64_t i = to; i < L; i++) sources[from + put_len + (i - to)] = (uint16_t)i;
     return from + put_len + (L - to);
+}
+
+/* The codons looked up: the whole ones of an altered transcript through the last residue of A, but for those whose bases stand side by side in the reference,
+ * before the edit or as a codon of the CDS. With exceptions all of them. */
+static uint64_t plain_codons(uint64_t len, uint64_t residues)
+{
+    uint64_t n = 0;
+    for (uint64_t i = ref.cs - 1; i + 3 <= len && (i - (ref.cs - 1)) / 3 < residues; i += 3) {
+        uint64_t from = sources[i];
+        int together = from != PUT && sources[i + 1] == from + 1 && sources[i + 2] == from + 2;
+        int in_cds = from >= ref.cs - 1 && (from - (ref.cs - 1)) % 3 == 0 && from + 3 <= ref.ce;
+        int reused = ref.exceptions_len == 0 && together && (from + 3 <= edited_at || in_cds);
+        n += !reused;
+    }
+    return n;
 }
 
 static uint64_t plain_class(const struct outcome *o, uint64_t s)
@@ -504,6 +528,10 @@ static void fuzz_edit(void)
     check(memcmp(alone.t, wide.t, alone.a.transcript_len) == 0, "garumbott_edit writes otherwise");
     check(wide.a.transcript_len <= garumbott_transcript_room(ref.letters_len, edit.kind, edit.bases_len), "garumbott_transcript_room");
     check(plain_transcript(plain) == wide.a.transcript_len && memcmp(plain, wide.t, wide.a.transcript_len) == 0, "the altered transcript");
+    check(plain_codons(wide.a.transcript_len, wide.a.altered_len) == wide.a.codons, "codons looked up");
+    if (edit.kind == GARUMBOTT_SUBSTITUTION && ref.exceptions_len == 0 && wide.a.codons > 1)
+        check(ref.end == GARUMBOTT_END_STOP && wide.a.altered_len >= wide.a.reference_len && wide.p[wide.a.reference_len - 1] != '*',
+              "a substitution that keeps the final stop looks up two codons");
     check_proteins(&wide);
     fuzz_check(most, &wide, refusal);
 }

@@ -42,10 +42,11 @@ struct row {
     const char *line; /* the text program's line for the answer */
     int flag;
     const char *transcript, *altered; /* what is written */
+    unsigned codons;                  /* looked up */
 };
 
-/* The numbers of an answer, from the text program's line and what is written. */
-static struct garumbott_answer wanted(const char *line, int flag, size_t t, size_t r, size_t a)
+/* The numbers of an answer, from the text program's line, what is written and the codons looked up. */
+static struct garumbott_answer wanted(const char *line, int flag, size_t t, size_t r, size_t a, unsigned codons)
 {
     struct garumbott_answer w = {0};
     char word[32], deleted[64], inserted[64];
@@ -61,6 +62,7 @@ static struct garumbott_answer wanted(const char *line, int flag, size_t t, size
     w.transcript_len = t;
     w.reference_len = r;
     w.altered_len = a;
+    w.codons = codons;
     w.answer = GARUMBOTT_NO_PROTEIN;
     if (strcmp(word, "no-protein") == 0) return w;
     w.answer = GARUMBOTT_SILENT;
@@ -283,7 +285,7 @@ static void row_says(const struct row *x, const struct garumbott_answer *w, size
 static void row_case(const struct row *x, const char *r)
 {
     size_t t = strlen(x->transcript), a = strlen(x->altered), n = strlen(r);
-    struct garumbott_answer w = wanted(x->line, x->flag, t, n, a), e = alone(&w);
+    struct garumbott_answer w = wanted(x->line, x->flag, t, n, a, x->codons), e = alone(&w);
     row_says(x, &w, t, n);
     size_t exact[3] = {t, n, garumbott_altered_room(t, x->reference->cs)};
     edit_case(x->name, x->reference, &x->edit, plenty, &w, &e, x->transcript, r, x->altered);
@@ -329,49 +331,84 @@ static const struct garumbott_reference MITO = REFERENCE_OF("CACATAGGATGAATGAACA
 static void rows(void)
 {
     static const struct row all[] = {
-        {"8A>G", &W, ONE_NEW(SUBSTITUTION, 8, "G"), "substitution 3 K R", 0, "GGATGGCCAGATGGTAACCTGAC", "MARW*"},
-        {"5del", &W, ONE(DELETION, 5), "frameshift 3 KW* NGNLX", 1, "GGATGGCAAATGGTAACCTGAC", "MANGNLX"},
-        {"4_6dup", &W, TWO(DUPLICATION, 4, 6), "duplication 3 - A 2", 0, "GGATGGCCGCCAAATGGTAACCTGAC", "MAAKW*"},
-        {"12G>A", &W, ONE_NEW(SUBSTITUTION, 12, "A"), "stop-gained 4 W -", 0, "GGATGGCCAAATGATAACCTGAC", "MAK*"},
-        {"13T>C", &W, ONE_NEW(SUBSTITUTION, 13, "C"), "extension 5 * QPD", 0, "GGATGGCCAAATGGCAACCTGAC", "MAKWQPD"},
-        {"6C>T", &W, ONE_NEW(SUBSTITUTION, 6, "T"), "silent 2 A A", 0, "GGATGGCTAAATGGTAACCTGAC", "MAKW*"},
-        {"4_6inv", &W, TWO(INVERSION, 4, 6), "substitution 2 A G", 0, "GGATGGGCAAATGGTAACCTGAC", "MGKW*"},
-        {"1A>G", &W, ONE_NEW(SUBSTITUTION, 1, "G"), "start-lost 1 M V", 0, "GGGTGGCCAAATGGTAACCTGAC", "VAKW*"},
-        {"9_10insTAGC", &W, TWO_NEW(INSERTION, 9, 10, "TAGC"), "stop-gained 4 W -", 0, "GGATGGCCAAATAGTGGTAACCTGAC", "MAK*"},
-        {"1_*6del", &W, STAR(DELETION, 1, 6), "no-protein", 1, "GG", ""},
-        {"1_*7del", &W, STAR(DELETION, 1, 7), "unknown", 0, "", ""},
-        {"16del", &W, ONE(DELETION, 16), "refused 7", 0, "", ""},
-        {"4=", &W, ONE(IDENTITY, 4), "silent 2 A A", 0, "GGATGGCCAAATGGTAACCTGAC", "MAKW*"},
-        {"-2_2del", &W, TWO(DELETION, -2, 2), "start-lost 1 MAKW* GQMVT*", 1, "GGGGCCAAATGGTAACCTGAC", "GQMVT*"},
-        {"15_*1insA", &W, STAR_NEW(INSERTION, 15, 1, "A"), "silent 5 * *", 1, "GGATGGCCAAATGGTAAACCTGAC", "MAKW*"},
-        {"10_*6del", &W, STAR(DELETION, 10, 6), "frameshift 4 W* -", 1, "GGATGGCCAAA", "MAK"},
-        {"4_*2dup", &W, STAR(DUPLICATION, 4, 2), "silent 1 M M", 1, "GGATGGCCAAATGGTAACCGCCAAATGGTAACCTGAC", "MAKW*"},
-        {"12_13insAAA", &W, TWO_NEW(INSERTION, 12, 13, "AAA"), "insertion 5 - K", 0, "GGATGGCCAAATGGAAATAACCTGAC", "MAKWK*"},
-        {"1_3dup", &W, TWO(DUPLICATION, 1, 3), "duplication 2 - M 1", 0, "GGATGATGGCCAAATGGTAACCTGAC", "MMAKW*"},
-        {"3_4insATG", &W, TWO_NEW(INSERTION, 3, 4, "ATG"), "duplication 2 - M 1", 0, "GGATGATGGCCAAATGGTAACCTGAC", "MMAKW*"},
-        {"3_4insATGGCC", &W, TWO_NEW(INSERTION, 3, 4, "ATGGCC"), "insertion 2 - MA", 0, "GGATGATGGCCGCCAAATGGTAACCTGAC", "MMAAKW*"},
-        {"10_12del", &W, TWO(DELETION, 10, 12), "stop-gained 4 W -", 0, "GGATGGCCAAATAACCTGAC", "MAK*"},
-        {"4_9del", &W, TWO(DELETION, 4, 9), "deletion 2 AK -", 0, "GGATGTGGTAACCTGAC", "MW*"},
-        {"4_9delinsTT", &W, TWO_NEW(DELINS, 4, 9, "TT"), "frameshift 2 AKW* FGNLX", 1, "GGATGTTTGGTAACCTGAC", "MFGNLX"},
-        {"4_6delinsGGGGGG", &W, TWO_NEW(DELINS, 4, 6, "GGGGGG"), "delins 2 A GG", 0, "GGATGGGGGGGAAATGGTAACCTGAC", "MGGKW*"},
-        {"3_4insTRA", &SHORT, TWO_NEW(INSERTION, 3, 4, "TRA"), "silent 1 M M", 0, "ATGTRATAA", "M*"},
-        {"3_4insTRA, table 1", &SHORT1, TWO_NEW(INSERTION, 3, 4, "TRA"), "insertion 2 - X", 0, "ATGTRATAA", "MX*"},
-        {"1_2insTAA", &SHORT, TWO_NEW(INSERTION, 1, 2, "TAA"), "start-lost 1 - I", 0, "ATAATGTAA", "IM*"},
-        {"1_6del", &SHORT, TWO(DELETION, 1, 6), "no-protein", 0, "", ""},
-        {"1_*1=", &SHORT, STAR(IDENTITY, 1, 1), "unknown", 0, "", ""},
-        {"1= of M**", &TWO_STOPS, ONE(IDENTITY, 1), "unknown", 0, "", ""},
-        {"*1del of M**", &TWO_STOPS, {.kind = GARUMBOTT_DELETION, .start_star = 1, .start = 1, .end_star = 1, .end = 1}, "refused 9", 0, "", ""},
-        {"1= with U", &SELENO, ONE(IDENTITY, 1), "silent 1 M M", 0, "ATGTGAAAATAA", "MUK*"},
-        {"6A>G under U", &SELENO, ONE_NEW(SUBSTITUTION, 6, "G"), "substitution 2 U W", 0, "ATGTGGAAATAA", "MWK*"},
-        {"4_6del, stop by exception", &LAST, TWO(DELETION, 4, 6), "extension 3 * -", 0, "ATGAAA", "MK"},
-        {"9A>R, mitochondrial", &MITO, ONE_NEW(SUBSTITUTION, 9, "R"), "silent 3 W W", 0, "CACATAGGATGRATGAACAGAACCTTAGTT", "MGWMN*"},
-        {"18A>Y, mitochondrial", &MITO, ONE_NEW(SUBSTITUTION, 18, "Y"), "extension 6 * STLV", 0, "CACATAGGATGAATGAACAGYACCTTAGTT", "MGWMNSTLV"},
-        {"1= mitochondrial", &MITO, ONE(IDENTITY, 1), "silent 1 M M", 0, "CACATAGGATGAATGAACAGAACCTTAGTT", "MGWMN*"},
+        {"8A>G", &W, ONE_NEW(SUBSTITUTION, 8, "G"), "substitution 3 K R", 0, "GGATGGCCAGATGGTAACCTGAC", "MARW*", 1},
+        {"5del", &W, ONE(DELETION, 5), "frameshift 3 KW* NGNLX", 1, "GGATGGCAAATGGTAACCTGAC", "MANGNLX", 5},
+        {"4_6dup", &W, TWO(DUPLICATION, 4, 6), "duplication 3 - A 2", 0, "GGATGGCCGCCAAATGGTAACCTGAC", "MAAKW*", 1},
+        {"12G>A", &W, ONE_NEW(SUBSTITUTION, 12, "A"), "stop-gained 4 W -", 0, "GGATGGCCAAATGATAACCTGAC", "MAK*", 1},
+        {"13T>C", &W, ONE_NEW(SUBSTITUTION, 13, "C"), "extension 5 * QPD", 0, "GGATGGCCAAATGGCAACCTGAC", "MAKWQPD", 3},
+        {"6C>T", &W, ONE_NEW(SUBSTITUTION, 6, "T"), "silent 2 A A", 0, "GGATGGCTAAATGGTAACCTGAC", "MAKW*", 1},
+        {"4_6inv", &W, TWO(INVERSION, 4, 6), "substitution 2 A G", 0, "GGATGGGCAAATGGTAACCTGAC", "MGKW*", 1},
+        {"1A>G", &W, ONE_NEW(SUBSTITUTION, 1, "G"), "start-lost 1 M V", 0, "GGGTGGCCAAATGGTAACCTGAC", "VAKW*", 1},
+        {"9_10insTAGC", &W, TWO_NEW(INSERTION, 9, 10, "TAGC"), "stop-gained 4 W -", 0, "GGATGGCCAAATAGTGGTAACCTGAC", "MAK*", 1},
+        {"1_*6del", &W, STAR(DELETION, 1, 6), "no-protein", 1, "GG", "", 0},
+        {"1_*7del", &W, STAR(DELETION, 1, 7), "unknown", 0, "", "", 0},
+        {"16del", &W, ONE(DELETION, 16), "refused 7", 0, "", "", 0},
+        {"4=", &W, ONE(IDENTITY, 4), "silent 2 A A", 0, "GGATGGCCAAATGGTAACCTGAC", "MAKW*", 0},
+        {"-2_2del", &W, TWO(DELETION, -2, 2), "start-lost 1 MAKW* GQMVT*", 1, "GGGGCCAAATGGTAACCTGAC", "GQMVT*", 6},
+        {"15_*1insA", &W, STAR_NEW(INSERTION, 15, 1, "A"), "silent 5 * *", 1, "GGATGGCCAAATGGTAAACCTGAC", "MAKW*", 0},
+        {"10_*6del", &W, STAR(DELETION, 10, 6), "frameshift 4 W* -", 1, "GGATGGCCAAA", "MAK", 0},
+        {"4_*2dup", &W, STAR(DUPLICATION, 4, 2), "silent 1 M M", 1, "GGATGGCCAAATGGTAACCGCCAAATGGTAACCTGAC", "MAKW*", 0},
+        {"12_13insAAA", &W, TWO_NEW(INSERTION, 12, 13, "AAA"), "insertion 5 - K", 0, "GGATGGCCAAATGGAAATAACCTGAC", "MAKWK*", 1},
+        {"1_3dup", &W, TWO(DUPLICATION, 1, 3), "duplication 2 - M 1", 0, "GGATGATGGCCAAATGGTAACCTGAC", "MMAKW*", 1},
+        {"3_4insATG", &W, TWO_NEW(INSERTION, 3, 4, "ATG"), "duplication 2 - M 1", 0, "GGATGATGGCCAAATGGTAACCTGAC", "MMAKW*", 1},
+        {"3_4insATGGCC", &W, TWO_NEW(INSERTION, 3, 4, "ATGGCC"), "insertion 2 - MA", 0, "GGATGATGGCCGCCAAATGGTAACCTGAC", "MMAAKW*", 2},
+        {"10_12del", &W, TWO(DELETION, 10, 12), "stop-gained 4 W -", 0, "GGATGGCCAAATAACCTGAC", "MAK*", 0},
+        {"4_9del", &W, TWO(DELETION, 4, 9), "deletion 2 AK -", 0, "GGATGTGGTAACCTGAC", "MW*", 0},
+        {"4_9delinsTT", &W, TWO_NEW(DELINS, 4, 9, "TT"), "frameshift 2 AKW* FGNLX", 1, "GGATGTTTGGTAACCTGAC", "MFGNLX", 4},
+        {"4_6delinsGGGGGG", &W, TWO_NEW(DELINS, 4, 6, "GGGGGG"), "delins 2 A GG", 0, "GGATGGGGGGGAAATGGTAACCTGAC", "MGGKW*", 2},
+        {"3_4insTRA", &SHORT, TWO_NEW(INSERTION, 3, 4, "TRA"), "silent 1 M M", 0, "ATGTRATAA", "M*", 1},
+        {"3_4insTRA, table 1", &SHORT1, TWO_NEW(INSERTION, 3, 4, "TRA"), "insertion 2 - X", 0, "ATGTRATAA", "MX*", 1},
+        {"1_2insTAA", &SHORT, TWO_NEW(INSERTION, 1, 2, "TAA"), "start-lost 1 - I", 0, "ATAATGTAA", "IM*", 2},
+        {"1_6del", &SHORT, TWO(DELETION, 1, 6), "no-protein", 0, "", "", 0},
+        {"1_*1=", &SHORT, STAR(IDENTITY, 1, 1), "unknown", 0, "", "", 0},
+        {"1= of M**", &TWO_STOPS, ONE(IDENTITY, 1), "unknown", 0, "", "", 0},
+        {"*1del of M**", &TWO_STOPS, {.kind = GARUMBOTT_DELETION, .start_star = 1, .start = 1, .end_star = 1, .end = 1}, "refused 9", 0, "", "", 0},
+        {"1= with U", &SELENO, ONE(IDENTITY, 1), "silent 1 M M", 0, "ATGTGAAAATAA", "MUK*", 4},
+        {"6A>G under U", &SELENO, ONE_NEW(SUBSTITUTION, 6, "G"), "substitution 2 U W", 0, "ATGTGGAAATAA", "MWK*", 4},
+        {"4_6del, stop by exception", &LAST, TWO(DELETION, 4, 6), "extension 3 * -", 0, "ATGAAA", "MK", 2},
+        {"9A>R, mitochondrial", &MITO, ONE_NEW(SUBSTITUTION, 9, "R"), "silent 3 W W", 0, "CACATAGGATGRATGAACAGAACCTTAGTT", "MGWMN*", 1},
+        {"18A>Y, mitochondrial", &MITO, ONE_NEW(SUBSTITUTION, 18, "Y"), "extension 6 * STLV", 0, "CACATAGGATGAATGAACAGYACCTTAGTT", "MGWMNSTLV", 4},
+        {"1= mitochondrial", &MITO, ONE(IDENTITY, 1), "silent 1 M M", 0, "CACATAGGATGAATGAACAGAACCTTAGTT", "MGWMN*", 0},
     };
     for (size_t i = 0; i < sizeof all / sizeof *all; i++) {
         const struct garumbott_reference *r = all[i].reference;
         row_case(&all[i], r == &W ? "MAKW*" : r == &SHORT || r == &SHORT1 ? "M*" : r == &SELENO ? "MUK*" : r == &LAST ? "MK*" : r == &MITO ? "MGWMN*" : "M**");
     }
+}
+
+static const struct garumbott_reference EXCEPTED_K = REFERENCE_OF("ATGAAATAA", 1, 9, 0, "\0\2U", 3);
+static const struct garumbott_reference READ_ON = REFERENCE_OF("ATGAAATAAGCCTAAC", 1, 9, 0, NULL, 0);
+
+/* The readings of E4, but for those that are rows above and below: which codons are looked up. */
+static void codons(void)
+{
+    static const struct {
+        struct row row;
+        const char *r;
+    } all[] = {
+        /* by index, not by equal letters; a codon partly in the edit is read, one behind it in frame is not */
+        {{"4G>G", &W, ONE_NEW(SUBSTITUTION, 4, "G"), "silent 2 A A", 0, "GGATGGCCAAATGGTAACCTGAC", "MAKW*", 1}, "MAKW*"},
+        {{"4_9delinsGCCAAA", &W, TWO_NEW(DELINS, 4, 9, "GCCAAA"), "silent 2 A A", 0, "GGATGGCCAAATGGTAACCTGAC", "MAKW*", 2}, "MAKW*"},
+        {{"5_7del", &W, TWO(DELETION, 5, 7), "delins 2 AK E", 0, "GGATGGAATGGTAACCTGAC", "MEW*", 1}, "MAKW*"},
+        /* every CDS codon of an identity */
+        {{"-2_*6=", &W, STAR(IDENTITY, -2, 6), "silent 1 M M", 0, "GGATGGCCAAATGGTAACCTGAC", "MAKW*", 0}, "MAKW*"},
+        /* what the stop cut reads isn't counted */
+        {{"9_10insGCC", &W, TWO_NEW(INSERTION, 9, 10, "GCC"), "insertion 4 - A", 0, "GGATGGCCAAAGCCTGGTAACCTGAC", "MAKAW*", 1}, "MAKW*"},
+        {{"6_7insTAGGCC", &W, TWO_NEW(INSERTION, 6, 7, "TAGGCC"), "stop-gained 3 KW -", 0, "GGATGGCCTAGAAATGGTAACCTGAC", "MA*", 1}, "MAKW*"},
+        /* a gap behind the CDS: A has ended */
+        {{"4_*6dup", &W, STAR(DUPLICATION, 4, 6), "silent 3 K K", 0, "GGATGGCCAAATGGTAACCTGACGCCAAATGGTAA", "MAKW*", 0}, "MAKW*"},
+        {{"9_*1insCCC", &READ_ON, STAR_NEW(INSERTION, 9, 1, "CCC"), "silent 3 * *", 0, "ATGAAATAACCCGCCTAAC", "MK*", 0}, "MK*"},
+        /* codons behind the CDS are read, through the stop; behind a frameshift all are */
+        {{"8A>C", &READ_ON, ONE_NEW(SUBSTITUTION, 8, "C"), "insertion 3 - SA", 0, "ATGAAATCAGCCTAAC", "MKSA*", 3}, "MK*"},
+        {{"7_9del", &READ_ON, TWO(DELETION, 7, 9), "insertion 3 - A", 0, "ATGAAAGCCTAAC", "MKA*", 2}, "MK*"},
+        {{"3_4insAA", &W, TWO_NEW(INSERTION, 3, 4, "AA"), "frameshift 2 AKW* KPNGNLX", 1, "GGATGAAGCCAAATGGTAACCTGAC", "MKPNGNLX", 6}, "MAKW*"},
+        /* with exceptions none is reused, in an identity neither, and one under an exception is read */
+        {{"9A>G with U", &EXCEPTED_K, ONE_NEW(SUBSTITUTION, 9, "G"), "silent 3 * *", 0, "ATGAAATAG", "MU*", 3}, "MU*"},
+        {{"1= with U", &EXCEPTED_K, ONE(IDENTITY, 1), "silent 1 M M", 0, "ATGAAATAA", "MU*", 3}, "MU*"},
+        /* Unknown reads none; its first codon alone would be looked up */
+        {{"1A>G of M**", &TWO_STOPS, ONE_NEW(SUBSTITUTION, 1, "G"), "unknown", 0, "", "", 0}, "M**"},
+    };
+    for (size_t i = 0; i < sizeof all / sizeof *all; i++) row_case(&all[i].row, all[i].r);
 }
 
 /* One fault at a time, and pairs of faults for their order: what garumbott_record and garumbott_edit both refuse. */
@@ -513,52 +550,52 @@ static void cut_rows(void)
         const char *r;
     } all[] = {
         /* X for the rest is a residue of R */
-        {{"1= of six", &SIX, ONE(IDENTITY, 1), "silent 1 M M", 0, "ATGGCC", "MA"}, "MA"},
-        {{"1= of seven", &SEVEN, ONE(IDENTITY, 1), "silent 1 M M", 0, "ATGGCCA", "MAX"}, "MAX"},
-        {{"7=", &SEVEN, ONE(IDENTITY, 7), "silent 3 X X", 0, "ATGGCCA", "MAX"}, "MAX"},
-        {{"7A>G", &SEVEN, ONE_NEW(SUBSTITUTION, 7, "G"), "silent 3 X X", 0, "ATGGCCG", "MAX"}, "MAX"},
-        {{"7dup", &SEVEN, ONE(DUPLICATION, 7), "silent 3 X X", 1, "ATGGCCAA", "MAX"}, "MAX"},
-        {{"7del", &SEVEN, ONE(DELETION, 7), "frameshift 3 X -", 1, "ATGGCC", "MA"}, "MAX"},
-        {{"6_7insAA", &SEVEN, TWO_NEW(INSERTION, 6, 7, "AA"), "frameshift 3 X K", 1, "ATGGCCAAA", "MAK"}, "MAX"},
-        {{"6_7insTA", &SEVEN, TWO_NEW(INSERTION, 6, 7, "TA"), "stop-gained 3 X *", 1, "ATGGCCTAA", "MA*"}, "MAX"},
-        {{"6_7insTAA", &SEVEN, TWO_NEW(INSERTION, 6, 7, "TAA"), "stop-gained 3 X *", 0, "ATGGCCTAAA", "MA*"}, "MAX"},
-        {{"6_7insAAA", &SEVEN, TWO_NEW(INSERTION, 6, 7, "AAA"), "insertion 3 - K", 0, "ATGGCCAAAA", "MAKX"}, "MAX"},
-        {{"4_6dup of seven", &SEVEN, TWO(DUPLICATION, 4, 6), "duplication 3 - A 2", 0, "ATGGCCGCCA", "MAAX"}, "MAX"},
-        {{"4_6del of seven", &SEVEN, TWO(DELETION, 4, 6), "deletion 2 A -", 0, "ATGA", "MX"}, "MAX"},
-        {{"1A>G of seven", &SEVEN, ONE_NEW(SUBSTITUTION, 1, "G"), "start-lost 1 M V", 0, "GTGGCCA", "VAX"}, "MAX"},
-        {{"1_7del", &SEVEN, TWO(DELETION, 1, 7), "no-protein", 1, "", ""}, "MAX"},
-        {{"1_7inv", &SEVEN, TWO(INVERSION, 1, 7), "start-lost 1 MA WP", 0, "TGGCCAT", "WPX"}, "MAX"},
-        {{"8A>T of eight", &EIGHT, ONE_NEW(SUBSTITUTION, 8, "T"), "silent 3 X X", 0, "ATGGCCTT", "MAX"}, "MAX"},
-        {{"8dup of eight", &EIGHT, ONE(DUPLICATION, 8), "stop-gained 3 X *", 1, "ATGGCCTAA", "MA*"}, "MAX"},
-        {{"1_8dup of eight", &EIGHT, TWO(DUPLICATION, 1, 8), "stop-gained 3 X *", 1, "ATGGCCTAATGGCCTA", "MA*"}, "MAX"},
+        {{"1= of six", &SIX, ONE(IDENTITY, 1), "silent 1 M M", 0, "ATGGCC", "MA", 0}, "MA"},
+        {{"1= of seven", &SEVEN, ONE(IDENTITY, 1), "silent 1 M M", 0, "ATGGCCA", "MAX", 0}, "MAX"},
+        {{"7=", &SEVEN, ONE(IDENTITY, 7), "silent 3 X X", 0, "ATGGCCA", "MAX", 0}, "MAX"},
+        {{"7A>G", &SEVEN, ONE_NEW(SUBSTITUTION, 7, "G"), "silent 3 X X", 0, "ATGGCCG", "MAX", 0}, "MAX"},
+        {{"7dup", &SEVEN, ONE(DUPLICATION, 7), "silent 3 X X", 1, "ATGGCCAA", "MAX", 0}, "MAX"},
+        {{"7del", &SEVEN, ONE(DELETION, 7), "frameshift 3 X -", 1, "ATGGCC", "MA", 0}, "MAX"},
+        {{"6_7insAA", &SEVEN, TWO_NEW(INSERTION, 6, 7, "AA"), "frameshift 3 X K", 1, "ATGGCCAAA", "MAK", 1}, "MAX"},
+        {{"6_7insTA", &SEVEN, TWO_NEW(INSERTION, 6, 7, "TA"), "stop-gained 3 X *", 1, "ATGGCCTAA", "MA*", 1}, "MAX"},
+        {{"6_7insTAA", &SEVEN, TWO_NEW(INSERTION, 6, 7, "TAA"), "stop-gained 3 X *", 0, "ATGGCCTAAA", "MA*", 1}, "MAX"},
+        {{"6_7insAAA", &SEVEN, TWO_NEW(INSERTION, 6, 7, "AAA"), "insertion 3 - K", 0, "ATGGCCAAAA", "MAKX", 1}, "MAX"},
+        {{"4_6dup of seven", &SEVEN, TWO(DUPLICATION, 4, 6), "duplication 3 - A 2", 0, "ATGGCCGCCA", "MAAX", 1}, "MAX"},
+        {{"4_6del of seven", &SEVEN, TWO(DELETION, 4, 6), "deletion 2 A -", 0, "ATGA", "MX", 0}, "MAX"},
+        {{"1A>G of seven", &SEVEN, ONE_NEW(SUBSTITUTION, 1, "G"), "start-lost 1 M V", 0, "GTGGCCA", "VAX", 1}, "MAX"},
+        {{"1_7del", &SEVEN, TWO(DELETION, 1, 7), "no-protein", 1, "", "", 0}, "MAX"},
+        {{"1_7inv", &SEVEN, TWO(INVERSION, 1, 7), "start-lost 1 MA WP", 0, "TGGCCAT", "WPX", 2}, "MAX"},
+        {{"8A>T of eight", &EIGHT, ONE_NEW(SUBSTITUTION, 8, "T"), "silent 3 X X", 0, "ATGGCCTT", "MAX", 0}, "MAX"},
+        {{"8dup of eight", &EIGHT, ONE(DUPLICATION, 8), "stop-gained 3 X *", 1, "ATGGCCTAA", "MA*", 1}, "MAX"},
+        {{"1_8dup of eight", &EIGHT, TWO(DUPLICATION, 1, 8), "stop-gained 3 X *", 1, "ATGGCCTAATGGCCTA", "MA*", 1}, "MAX"},
         /* bases before the CDS, a stop among them */
-        {{"-2_2del", &BEHIND_TWO, TWO(DELETION, -2, 2), "start-lost 1 MAX GX", 1, "TAGGCCA", "GX"}, "MAX"},
-        {{"-1_7=", &BEHIND_TWO, TWO(IDENTITY, -1, 7), "silent 1 M M", 0, "TAATGGCCA", "MAX"}, "MAX"},
+        {{"-2_2del", &BEHIND_TWO, TWO(DELETION, -2, 2), "start-lost 1 MAX GX", 1, "TAGGCCA", "GX", 1}, "MAX"},
+        {{"-1_7=", &BEHIND_TWO, TWO(IDENTITY, -1, 7), "silent 1 M M", 0, "TAATGGCCA", "MAX", 0}, "MAX"},
         /* R is the beginning of A: nothing is deleted, and R has no residue there */
-        {{"5_6insC", &SIX, TWO_NEW(INSERTION, 5, 6, "C"), "frameshift 3 - X", 1, "ATGGCCC", "MAX"}, "MA"},
-        {{"3_4insGCCTAA", &SIX, TWO_NEW(INSERTION, 3, 4, "GCCTAA"), "stop-gained 3 - *", 0, "ATGGCCTAAGCC", "MA*"}, "MA"},
-        {{"4_6dup", &SIX, TWO(DUPLICATION, 4, 6), "duplication 3 - A 2", 0, "ATGGCCGCC", "MAA"}, "MA"},
-        {{"1_6dup", &SIX, TWO(DUPLICATION, 1, 6), "duplication 3 - MA 1", 0, "ATGGCCATGGCC", "MAMA"}, "MA"},
-        {{"6delinsCAAA", &SIX, ONE_NEW(DELINS, 6, "CAAA"), "insertion 3 - K", 0, "ATGGCCAAA", "MAK"}, "MA"},
-        {{"6delinsCTAA", &SIX, ONE_NEW(DELINS, 6, "CTAA"), "stop-gained 3 - *", 0, "ATGGCCTAA", "MA*"}, "MA"},
-        {{"4_6delinsGCCAA", &SIX, TWO_NEW(DELINS, 4, 6, "GCCAA"), "frameshift 3 - X", 1, "ATGGCCAA", "MAX"}, "MA"},
+        {{"5_6insC", &SIX, TWO_NEW(INSERTION, 5, 6, "C"), "frameshift 3 - X", 1, "ATGGCCC", "MAX", 1}, "MA"},
+        {{"3_4insGCCTAA", &SIX, TWO_NEW(INSERTION, 3, 4, "GCCTAA"), "stop-gained 3 - *", 0, "ATGGCCTAAGCC", "MA*", 2}, "MA"},
+        {{"4_6dup", &SIX, TWO(DUPLICATION, 4, 6), "duplication 3 - A 2", 0, "ATGGCCGCC", "MAA", 1}, "MA"},
+        {{"1_6dup", &SIX, TWO(DUPLICATION, 1, 6), "duplication 3 - MA 1", 0, "ATGGCCATGGCC", "MAMA", 2}, "MA"},
+        {{"6delinsCAAA", &SIX, ONE_NEW(DELINS, 6, "CAAA"), "insertion 3 - K", 0, "ATGGCCAAA", "MAK", 2}, "MA"},
+        {{"6delinsCTAA", &SIX, ONE_NEW(DELINS, 6, "CTAA"), "stop-gained 3 - *", 0, "ATGGCCTAA", "MA*", 2}, "MA"},
+        {{"4_6delinsGCCAA", &SIX, TWO_NEW(DELINS, 4, 6, "GCCAA"), "frameshift 3 - X", 1, "ATGGCCAA", "MAX", 1}, "MA"},
         /* A is the beginning of R */
-        {{"7_9del of nine", &NINE, TWO(DELETION, 7, 9), "deletion 3 K -", 0, "ATGGCC", "MA"}, "MAK"},
-        {{"4G>T of nine", &NINE, ONE_NEW(SUBSTITUTION, 4, "T"), "substitution 2 A S", 0, "ATGTCCAAA", "MSK"}, "MAK"},
-        {{"7A>T of nine", &NINE, ONE_NEW(SUBSTITUTION, 7, "T"), "stop-gained 3 K *", 0, "ATGGCCTAA", "MA*"}, "MAK"},
-        {{"4_9delinsTAA of nine", &NINE, TWO_NEW(DELINS, 4, 9, "TAA"), "stop-gained 2 AK *", 0, "ATGTAA", "M*"}, "MAK"},
+        {{"7_9del of nine", &NINE, TWO(DELETION, 7, 9), "deletion 3 K -", 0, "ATGGCC", "MA", 0}, "MAK"},
+        {{"4G>T of nine", &NINE, ONE_NEW(SUBSTITUTION, 4, "T"), "substitution 2 A S", 0, "ATGTCCAAA", "MSK", 1}, "MAK"},
+        {{"7A>T of nine", &NINE, ONE_NEW(SUBSTITUTION, 7, "T"), "stop-gained 3 K *", 0, "ATGGCCTAA", "MA*", 1}, "MAK"},
+        {{"4_9delinsTAA of nine", &NINE, TWO_NEW(DELINS, 4, 9, "TAA"), "stop-gained 2 AK *", 0, "ATGTAA", "M*", 1}, "MAK"},
         /* nothing lies behind the CDS */
-        {{"4_*1del", &SIX, STAR(DELETION, 4, 1), "unknown", 0, "", ""}, "MA"},
-        {{"1_*1=", &SEVEN, STAR(IDENTITY, 1, 1), "unknown", 0, "", ""}, "MAX"},
-        {{"6_*1insA", &SIX, STAR_NEW(INSERTION, 6, 1, "A"), "unknown", 0, "", ""}, "MA"},
-        {{"1_*1dup", &SIX, STAR(DUPLICATION, 1, 1), "refused 7", 0, "", ""}, "MA"},
-        {{"8del of seven", &SEVEN, ONE(DELETION, 8), "refused 7", 0, "", ""}, "MAX"},
+        {{"4_*1del", &SIX, STAR(DELETION, 4, 1), "unknown", 0, "", "", 0}, "MA"},
+        {{"1_*1=", &SEVEN, STAR(IDENTITY, 1, 1), "unknown", 0, "", "", 0}, "MAX"},
+        {{"6_*1insA", &SIX, STAR_NEW(INSERTION, 6, 1, "A"), "unknown", 0, "", "", 0}, "MA"},
+        {{"1_*1dup", &SIX, STAR(DUPLICATION, 1, 1), "refused 7", 0, "", "", 0}, "MA"},
+        {{"8del of seven", &SEVEN, ONE(DELETION, 8), "refused 7", 0, "", "", 0}, "MAX"},
         /* a stop taken away by an exception, which goes where its codon changes */
-        {{"1= of a stop that is K", &NO_LONGER_A_STOP, ONE(IDENTITY, 1), "silent 1 M M", 0, "ATGTAA", "MK"}, "MK"},
-        {{"6A>G of a stop that is K", &NO_LONGER_A_STOP, ONE_NEW(SUBSTITUTION, 6, "G"), "stop-gained 2 K *", 0, "ATGTAG", "M*"}, "MK"},
-        {{"3_4insAAA of a stop that is K", &NO_LONGER_A_STOP, TWO_NEW(INSERTION, 3, 4, "AAA"), "duplication 3 - K 2", 0, "ATGAAATAA", "MKK"}, "MK"},
-        {{"5R>G, ambiguous", &AMBIGUOUS, ONE_NEW(SUBSTITUTION, 5, "G"), "substitution 2 X U", 0, "ATGTGARA", "MUX"}, "MXX"},
-        {{"5R>A, ambiguous", &AMBIGUOUS, ONE_NEW(SUBSTITUTION, 5, "A"), "stop-gained 2 XX *", 0, "ATGTAARA", "M*"}, "MXX"},
+        {{"1= of a stop that is K", &NO_LONGER_A_STOP, ONE(IDENTITY, 1), "silent 1 M M", 0, "ATGTAA", "MK", 2}, "MK"},
+        {{"6A>G of a stop that is K", &NO_LONGER_A_STOP, ONE_NEW(SUBSTITUTION, 6, "G"), "stop-gained 2 K *", 0, "ATGTAG", "M*", 2}, "MK"},
+        {{"3_4insAAA of a stop that is K", &NO_LONGER_A_STOP, TWO_NEW(INSERTION, 3, 4, "AAA"), "duplication 3 - K 2", 0, "ATGAAATAA", "MKK", 3}, "MK"},
+        {{"5R>G, ambiguous", &AMBIGUOUS, ONE_NEW(SUBSTITUTION, 5, "G"), "substitution 2 X U", 0, "ATGTGARA", "MUX", 1}, "MXX"},
+        {{"5R>A, ambiguous", &AMBIGUOUS, ONE_NEW(SUBSTITUTION, 5, "A"), "stop-gained 2 XX *", 0, "ATGTAARA", "M*", 1}, "MXX"},
     };
     for (size_t i = 0; i < sizeof all / sizeof *all; i++) row_case(&all[i].row, all[i].r);
 }
@@ -627,7 +664,7 @@ static void ends_fit(void)
             r->end = j < 4 ? j : unknown[j - 4];
             snprintf(text, sizeof text, "%.*s", (int)r->letters_len, r->letters == NULL ? "" : (const char *)r->letters);
             snprintf(name, sizeof name, "%s, ce %d, table %d, end %llu", text, (int)r->ce, (int)r->table, (unsigned long long)r->end);
-            struct row good = {name, r, nothing, "silent 1 M M", 0, text, all[i].r};
+            struct row good = {name, r, nothing, "silent 1 M M", 0, text, all[i].r, r->exceptions_len == 0 ? 0 : (unsigned)((r->ce + 1 - r->cs) / 3)};
             if (bad.number == 0) row_case(&good, all[i].r);
             if (bad.number == 0) bad.number = GARUMBOTT_REFUSAL_POSITION;
             refusal_case(&bad);
@@ -706,7 +743,8 @@ static void cut_limits(void)
     struct garumbott_reference cut = endless_reference();
     struct garumbott_coding_edit copy = TWO(DUPLICATION, 1, GARUMBOTT_LONGEST), nothing = ONE(IDENTITY, GARUMBOTT_LONGEST);
     struct garumbott_answer w = {.answer = GARUMBOTT_CHANGED, .frameshift = 1, .transcript_len = 32768, .reference_len = 5462, .altered_len = 10923,
-                                 .change = GARUMBOTT_CHANGE_FRAMESHIFT, .number = 5462, .deleted_at = 5461, .deleted_len = 1, .inserted_at = 5461, .inserted_len = 5462},
+                                 .change = GARUMBOTT_CHANGE_FRAMESHIFT, .number = 5462, .deleted_at = 5461, .deleted_len = 1, .inserted_at = 5461, .inserted_len = 5462,
+                                 .codons = 5461},
                             e = alone(&w), same_again = {.answer = GARUMBOTT_SILENT, .transcript_len = GARUMBOTT_LONGEST, .reference_len = 5462, .altered_len = 5462,
                                                          .number = 5462, .deleted_at = 5461, .deleted_len = 1, .inserted_at = 5461, .inserted_len = 1},
                             same_alone = alone(&same_again), twelve = {.refusal = GARUMBOTT_REFUSAL_PROTEIN_ROOM};
@@ -801,7 +839,7 @@ static void limits(void)
     r.exceptions = sixteen;
     r.exceptions_len = sizeof sixteen;
     struct garumbott_answer kept = {.answer = GARUMBOTT_SILENT, .transcript_len = GARUMBOTT_LONGEST, .reference_len = 5461, .altered_len = 5461,
-                                    .number = 1, .deleted_len = 1, .inserted_len = 1},
+                                    .number = 1, .deleted_len = 1, .inserted_len = 1, .codons = 5461},
                             kept_alone = alone(&kept);
     edit_case("sixteen exceptions", &r, &same_place, rooms, &kept, &kept_alone, longest, excepted, excepted);
     own_record("sixteen exceptions", &r, &same_place, rooms, &kept, "", "", "");
@@ -1257,7 +1295,7 @@ static void stored_ends(void)
     uint8_t t[7], p[3], a[3];
     struct garumbott_buffers b = {t, sizeof t, p, sizeof p, a, sizeof a};
     struct garumbott_answer want = {.answer = GARUMBOTT_SILENT, .transcript_len = 7, .reference_len = 3, .altered_len = 3, .number = 3, .deleted_at = 2,
-                                    .deleted_len = 1, .inserted_at = 2, .inserted_len = 1},
+                                    .deleted_len = 1, .inserted_at = 2, .inserted_len = 1, .codons = 2},
                             answer = garumbott_record_of(&r, &edit, &b);
     check(r.end == 2 && same(&answer, &want) && memcmp(t, "ATGTAAG", 7) == 0 && memcmp(p, "UKX", 3) == 0 && memcmp(a, "UKX", 3) == 0, "tag 8", "garumbott_reference_at");
 
@@ -1609,7 +1647,7 @@ static void overlaps(void)
 {
     struct garumbott_coding_edit in = {.kind = GARUMBOTT_INSERTION, .start = 3, .end = 4, .bases = SELENO.letters + 6, .bases_len = 3};
     struct garumbott_answer want = {.answer = GARUMBOTT_CHANGED, .transcript_len = 15, .reference_len = 4, .altered_len = 5,
-                                    .change = GARUMBOTT_CHANGE_INSERTION, .number = 2, .deleted_at = 1, .inserted_at = 1, .inserted_len = 1},
+                                    .change = GARUMBOTT_CHANGE_INSERTION, .number = 2, .deleted_at = 1, .inserted_at = 1, .inserted_len = 1, .codons = 5},
                             want_alone = alone(&want);
     uint8_t t[15], p[4], a[5];
     struct garumbott_buffers b = {t, sizeof t, p, sizeof p, a, sizeof a};
@@ -1635,7 +1673,7 @@ static void *many_calls(void *given)
 {
     static const struct garumbott_coding_edit edit = TWO(DUPLICATION, 4, 6);
     static const struct garumbott_answer want = {.answer = 4, .transcript_len = 26, .reference_len = 5, .altered_len = 6, .change = 7, .number = 3,
-                                                 .deleted_at = 2, .inserted_at = 2, .inserted_len = 1, .first = 2};
+                                                 .deleted_at = 2, .inserted_at = 2, .inserted_len = 1, .first = 2, .codons = 1};
     uint8_t t[32], r[8], a[16];
     struct garumbott_buffers b = {t, sizeof t, r, sizeof r, a, sizeof a};
     unsigned long *wrong = given;
@@ -1788,6 +1826,7 @@ int main(int argc, char **argv)
     for (int i = 0; i < FENCES; i++) fence_make(&large[i], i == STORED ? 66000 : 40960), fence_make(&small[i], 256);
     make_longest();
     rows();
+    codons();
     refusals();
     ends();
     limits();

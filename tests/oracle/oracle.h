@@ -52,6 +52,10 @@ struct oracle_answer oracle_edit(const struct oracle_reference *, struct oracle_
                                  uint8_t *transcript, uint64_t transcript_room, uint8_t *altered, uint64_t altered_room,
                                  uint8_t *moved, uint64_t moved_room);
 
+/* Only where it was built with the word counted: how many codons the Rust reads in a table for an edit in the CDS, with until_stop, but for those of the stop
+ * cut; -1 where it builds no altered transcript. */
+int64_t oracle_codons_read(const struct oracle_reference *, struct oracle_edit *);
+
 /* For timing: the same without copies out; what they give depends on the answer. The first takes text that is known to be ASCII; the last makes
  * the reference anew. */
 uint64_t oracle_timed_translate(const uint8_t *seq, uint64_t len, uint64_t table);

@@ -1,6 +1,6 @@
 """The module's own records, handed back to it. Random edits that are answered Changed, of small and middle references with every end, with and without exceptions;
 each record as it is, told otherwise (longer, or begun earlier), and damaged by one residue, one number and one length, through C (calls.c). Every answer is held
-to the account of the documents (tests/account): both words, every length, and what the three buffers hold. Prints how much was compared; exits 1 at a
+to the account of the documents (tests/account): both words, every length, what the three buffers hold, and the codons that the edit itself looks up. Prints how much was compared; exits 1 at a
 difference, and tells the first.
 
     python3 tests/records/own.py COUNT SEED COMMAND..    COMMAND is the compiled calls.c
@@ -205,10 +205,14 @@ def main(count, seed, command):
     numbers = lambda n: [int.from_bytes(program.stdout.read(8), "big") for _ in range(n)]
     met, classes, ends, flagged, excepted = {}, {}, {}, [0, 0], 0
     for ref, edit, altered, word, room, proposals in every:
-        answer = numbers(13)
+        answer = numbers(14)
         made = [program.stdout.read(n).decode("latin-1") for n in answer[3:6]]
         if altered is not None and made != [altered.transcript, ref.protein, altered.protein]:
             print(f"{shown(ref, edit, ())}garumbott_record writes {made}")
+            return 1
+        looked_up = 0 if altered is None else altered.looked_up(ref)
+        if answer[13] != looked_up:
+            print(f"{shown(ref, edit, ())}garumbott_record looks up {answer[13]} codons, not {looked_up}")
             return 1
         for what, proposal, want in proposals:
             got = numbers(7)

@@ -37,6 +37,7 @@ use Rattle.edits.proofs.Planning.{bare-plan}
 use Rattle.edits.proofs.Deciding.{decided-refusal, decided-unknown, decided-plan}
 use Rattle.transcript.proofs.Transcripts.{carried-by-is}
 use Rattle.altseq.specs.Carried.{proteinBy, reportBy, Carries}
+use Rattle.altseq.proofs.Reusing.{protein-of, looked-is}
 use Rattle.transcript.specs.Carrying.{carriedBy}
 use Rattle.altseq.specs.Decided.{roomBy, goesBy, withRoom, decidedIn, decidedOutcome, referenceIn}
 
@@ -66,16 +67,15 @@ module _ (s : List ℕ) (c : Cds) (e : Exceptions) (a : Asked) where
 -- the outcome of a plan that goes is all that document 01 writes
 module _ (r : Reference) (a : Asked) (p : Plan) (is : p ≡ planOf r a) (known : isUnknown r a ≡ false) where
   pub protein-is : proteinBy r p (a .new) ≡ alteredProtein r a
-  unfolding proteinBy alteredProtein
-  protein-is = rw (is, carried-by-is r a)
+  protein-is = rw is (protein-of r a)
 
-  pub goes-all : decidedOutcome r (decision.Goes p) (a .new) ≡ writesAll r a
+  pub goes-all : (m : Limits) → refusal m r a ≡ 0 → decidedOutcome r (decision.Goes p) (a .new) ≡ writesAll r a
   unfolding decidedOutcome writesAll fullReport reportBy planOf
-  goes-all =
+  goes-all m allowed =
       let flag : p .shift ≡ frameshift r a = ap (λ (p : Plan). p .shift) is in
       let number : p .number ≡ silentNumber r a = ap (λ (p : Plan). p .number) is in
       let carried : carriedBy p (r .letters) (a .new) ≡ alteredTranscript r a = rw is (carried-by-is r a) in
-      rw (carried, protein-is, flag, number, record-known r a known)
+      rw (looked-is m r a allowed p is known, carried, protein-is, flag, number, record-known r a known)
 
 -- an edit of a checked reference
 module _ (m : Limits) (s : List ℕ) (k : Known) (e : Exceptions) (protein : List ℕ) (known : Knows m s k e protein) (a : Asked) where
@@ -115,7 +115,7 @@ module _ (m : Limits) (s : List ℕ) (k : Known) (e : Exceptions) (protein : Lis
     room-goes room = by (roomBy (k .cds) (p .length) room) (room-is room)
       where
         by : (n : ℕ) → roomRefusal (referenceOf s (k .cds) e) a room ≡ n → outcome m (referenceOf s (k .cds) e) a room ≡ decidedOutcome (referenceOf s (k .cds) e) (goesBy n p) (a .new)
-        by zero h = all-by m (referenceOf s (k .cds) e) a room none-refused not-unknown h ∙ sym (goes-all (referenceOf s (k .cds) e) a p plan-is not-unknown)
+        by zero h = all-by m (referenceOf s (k .cds) e) a room none-refused not-unknown h ∙ sym (goes-all (referenceOf s (k .cds) e) a p plan-is not-unknown m none-refused)
         by (suc n) h = room-by m (referenceOf s (k .cds) e) a room n none-refused not-unknown h
 
   -- what was decided, with room or without, is the outcome

@@ -16,7 +16,6 @@ use Rattle.rules.specs.Translation.{residueCount}
 use Rattle.rules.specs.Reference.{Reference, referenceProtein}
 use Rattle.rules.specs.Edit.{Asked, kindOf}
 use Rattle.rules.specs.Altered.{alteredTranscript, alteredLength}
-use Rattle.rules.specs.Protein.{proteinOf}
 use Rattle.rules.specs.Record.{within, recordFrom, silentWithin, silentNumber}
 use Rattle.rules.specs.Views.{asked, referenceOf}
 use Rattle.rules.proofs.Over.{fits-over, read-back}
@@ -29,8 +28,9 @@ use Rattle.edits.specs.declared.plans.Plan.{Plan}
 use Rattle.edits.specs.Plans.{planOf}
 use Rattle.transcript.specs.Carrying.{carriedBy, Fits}
 use Rattle.transcript.proofs.Bases.{bases-stay}
+use Rattle.record.specs.Shares.{Shares}
 use Rattle.transcript.proofs.Transcripts.{fits-of, carried-by-is}
-use Rattle.altseq.specs.Carried.{proteinBy, reportBy, Codes, Carries}
+use Rattle.altseq.specs.Carried.{proteinBy, lookedBy, reportBy, Codes, Makes, Carries}
 
 module _ (s : List ℕ) (k : Known) (e : Exceptions) (protein : List ℕ) (p : Plan) (new tx alt : List ℕ) (x : Carries s k e protein p new tx alt) where
   abbrev r : Reference
@@ -67,7 +67,7 @@ module _ (s : List ℕ) (k : Known) (e : Exceptions) (protein : List ℕ) (p : P
     transcript-back : take n tx′ ≡ carriedBy p s new
     transcript-back = read-back (carriedBy p s new) tx tx′ n counted written
 
-    pub codes : Codes s k e new (take n tx′) alt
+    codes : Codes s k e new (take n tx′) alt
     unfolding knownOf
     codes =
         rw transcript-back
@@ -81,25 +81,33 @@ module _ (s : List ℕ) (k : Known) (e : Exceptions) (protein : List ℕ) (p : P
           room = rw carried-length (x .for-altered);
         })
 
-    protein-is : proteinOf r (take n tx′) ≡ proteinBy r p new
-    unfolding proteinBy
-    protein-is = ap (proteinOf r) transcript-back
+    pub makes : Makes s k e protein p new (take n tx′) alt
+    makes =
+        record {
+          limits = x .limits;
+          known = x .known;
+          edit = x .edit;
+          allowed = x .allowed;
+          is = x .is;
+          changes = x .changes;
+          made = transcript-back ∙ carried-is;
+          codes = codes;
+        }
 
     -- A is written
-    module _ (m : ℕ) (alt′ : List ℕ) (read : m ≡ length (proteinOf r (take n tx′))) (held : alt′ ≡ over (proteinOf r (take n tx′)) alt) where
-      altered-is : m ≡ length (proteinBy r p new)
-      altered-is = rw protein-is at read
-
-      pub holds-altered : alt′ ≡ over (proteinBy r p new) alt
-      holds-altered = rw protein-is at held
-
+    module _ (m : ℕ) (alt′ : List ℕ) (read : m ≡ length (proteinBy r p new)) (held : alt′ ≡ over (proteinBy r p new) alt) where
       pub altered-fits : m ≤ length alt′
-      altered-fits = fits-over (proteinBy r p new) alt alt′ m altered-is holds-altered
+      altered-fits = fits-over (proteinBy r p new) alt alt′ m read held
 
-      pub reports : (found : Record) → found ≡ recordFrom (p .shift) (p .number) protein (take m alt′)
-          → _≡_ {A = Report} record { found = found; frameshift = p .shift; transcript = n; reference = k .residues; altered = m } (reportBy r p new)
+      altered-back : take m alt′ ≡ proteinBy r p new
+      altered-back = read-back (proteinBy r p new) alt alt′ m read held
+
+      pub shares : (ahead behind : ℕ) → Shares ahead behind protein (proteinBy r p new) → Shares ahead behind protein (take m alt′)
+      shares ahead behind y = rw altered-back y
+
+      pub reports : (found : Record) (looked : ℕ) → found ≡ recordFrom (p .shift) (p .number) protein (take m alt′) → looked ≡ lookedBy r p new
+          → _≡_ {A = Report} record { found = found; frameshift = p .shift; transcript = n; reference = k .residues; altered = m; codons = looked } (reportBy r p new)
       unfolding reportBy
-      reports found made =
-          let back : take m alt′ ≡ proteinBy r p new = read-back (proteinBy r p new) alt alt′ m altered-is holds-altered in
-          let told : found ≡ recordFrom (p .shift) (p .number) (referenceProtein r) (proteinBy r p new) = rw (x .known .read, back) at made in
-          rw (told, counted, altered-is, residues-is (x .limits) s k e protein (x .known))
+      reports found looked made counted-codons =
+          let told : found ≡ recordFrom (p .shift) (p .number) (referenceProtein r) (proteinBy r p new) = rw (x .known .read, altered-back) at made in
+          rw (told, counted, read, counted-codons, residues-is (x .limits) s k e protein (x .known))

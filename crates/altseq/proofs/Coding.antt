@@ -3,7 +3,7 @@
 use mathlib.Core.Path.{_≡_, refl, sym, ap, _∙_}
 use mathlib.Core.Bool.{Bool, true, _&&_}
 use mathlib.Core.List.{List}
-use Prim.Native.Nat.{ℕ, _+_, _-_, _≤_}
+use Prim.Native.Nat.{ℕ, _+_, _-_, _/_, _≤_, min}
 use native.Mathlib.Omega.{arith}
 use lib.ListN.{length, take, drop, length-drop}
 use Rattle.rules.specs.declared.Exceptions.{Exceptions}
@@ -17,7 +17,7 @@ use Rattle.rules.specs.Views.{referenceOf}
 use Rattle.rules.proofs.Tests.{and-left, and-right, all-drop}
 use Rattle.rules.proofs.Over.{tail-is}
 use Rattle.codons.specs.Tables.{isBase}
-use Rattle.translation.specs.Residues.{Walks}
+use Rattle.translation.specs.Residues.{Walks, codonsWalked}
 use Rattle.translation.proofs.Strict.{strict-letters, strict-translated, whole-bases, bases-fold}
 use Rattle.reference.specs.declared.Known.{Known}
 use Rattle.exceptions.proofs.Moving.{moved-is}
@@ -60,3 +60,9 @@ module _ (s : List ℕ) (k : Known) (e : Exceptions) (new t alt : List ℕ) (x :
       let r = referenceOf s (k .cds) e in
       let es = moved-is r t (k .cds .cs - 1) (exceptionList e) (exceptionList moved) refl refl is in
       rw (strict-translated coding coding-letters (k .cds .table) (exceptionList moved), coding-is, es)
+
+  -- and the codons through its first stop are looked up
+  pub counted : (moved : Exceptions) → exceptionList moved ≡ movedAll (commonPrefix s t) (k .cds .cs - 1) s t (exceptionList e)
+      → codonsWalked (k .cds .table) (exceptionList moved) coding ≡ min (length (proteinOf (referenceOf s (k .cds) e) t)) (length (drop (k .cds .cs - 1) t) / 3)
+  unfolding codonsWalked
+  counted moved is = rw (coded moved is, coding-is)

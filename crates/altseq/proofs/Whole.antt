@@ -32,7 +32,7 @@ use Rattle.edits.specs.declared.decision.Decision.the-variants as decision
 use Rattle.edits.specs.Decisions.{decisionOf}
 use Rattle.altseq.specs.Carried.{reportBy, Carries}
 use Rattle.altseq.specs.Decided.{roomBy, withRoom, decidedIn, decidedOutcome, referenceIn, Copies}
-use Rattle.altseq.proofs.Answering.{none-refused, plan-is, decided-is, room-left}
+use Rattle.altseq.proofs.Answering.{none-refused, not-unknown, plan-is, decided-is, room-left}
 
 -- what no refusal of 11 or 12 leaves
 pub record Room-for (c : Cds) (n : ℕ) (room : Room) : Type 0 where
@@ -72,6 +72,7 @@ module _ (s : List ℕ) (k : Known) (e : Exceptions) (protein : List ℕ) (known
         edit = edit;
         allowed = none-refused limits s k e protein known (asked edit new) x goes;
         is = plan-is limits s k e protein known (asked edit new) x goes;
+        changes = not-unknown limits s k e protein known (asked edit new) x goes;
         for-transcript = room .transcript;
         for-altered = room .altered;
       }

@@ -26,7 +26,7 @@ ghost use Rattle.edits.specs.declared.plans.Plan.{Plan};
 ghost use Rattle.altseq.specs.Carried.{Carries};
 ghost use Rattle.altseq.specs.Decided.{decidedIn, decidedOutcome, Accepts, referenceIn, Copies};
 
-// Zero lengths and no flag.
+// Zero lengths, no flag, and no codon looked up.
 fn unknown_report() -> Report
     ensures { λ r. ⌜ r ≡ unknownReport ⌝ }
 {
@@ -36,6 +36,7 @@ fn unknown_report() -> Report
         transcript: 0,
         reference: 0,
         altered: 0,
+        codons: 0,
     }
 }
 

@@ -66,16 +66,16 @@ by-numbers flag R A c h =
     is false = refl
 
 module _ (m : Limits) (r : Reference) (e : Asked) (room : Room) (t t′ q q′ s s′ : List ℕ) where
-  by-record : (found : Record) (flag : Bool) (a b c : ℕ) → (x : GarumbottAnswer) → x ≡ answerOf (Reported (record { found = found; frameshift = flag; transcript = a; reference = b; altered = c }))
-      → outcome m r e room .answer ≡ Reported (record { found = found; frameshift = flag; transcript = a; reference = b; altered = c })
+  by-record : (found : Record) (flag : Bool) (a b c n : ℕ) → (x : GarumbottAnswer) → x ≡ answerOf (Reported (record { found = found; frameshift = flag; transcript = a; reference = b; altered = c; codons = n }))
+      → outcome m r e room .answer ≡ Reported (record { found = found; frameshift = flag; transcript = a; reference = b; altered = c; codons = n })
       → Tells (outcome m r e room) x t t′ q q′ s s′ → x .answer ≡ 4 → Demanded x q′ s′
   unfolding valuesOf toldBy
-  by-record Unknown flag a b c x is h y four = absurd (omega (arith, ap (λ (x : GarumbottAnswer). x .answer) is))
-  by-record NoProtein flag a b c x is h y four = absurd (omega (arith, ap (λ (x : GarumbottAnswer). x .answer) is))
-  by-record (Silent n z) flag a b c x is h y four = absurd (omega (arith, ap (λ (x : GarumbottAnswer). x .answer) is))
-  by-record (Changed change) flag a b c x is h y four =
+  by-record Unknown flag a b c n x is h y four = absurd (omega (arith, ap (λ (x : GarumbottAnswer). x .answer) is))
+  by-record NoProtein flag a b c n x is h y four = absurd (omega (arith, ap (λ (x : GarumbottAnswer). x .answer) is))
+  by-record (Silent at z) flag a b c n x is h y four = absurd (omega (arith, ap (λ (x : GarumbottAnswer). x .answer) is))
+  by-record (Changed change) flag a b c n x is h y four =
       let replays =
-      promised.demanded m r e room (record { found = Changed change; frameshift = flag; transcript = a; reference = b; altered = c }) change t t′ q q′ s s′
+      promised.demanded m r e room (record { found = Changed change; frameshift = flag; transcript = a; reference = b; altered = c; codons = n }) change t t′ q q′ s s′
       (record { says = sym h; holds-transcript = y .holds-transcript; holds-reference = y .holds-reference; holds-altered = y .holds-altered }) refl in
       subst (λ (x : GarumbottAnswer). Demanded x q′ s′) (sym is) (by-numbers flag (take b q′) (take c s′) change replays)
 
@@ -85,7 +85,7 @@ module _ (m : Limits) (r : Reference) (e : Asked) (room : Room) (t t′ q q′ s
     where
       by : (a : Answer) → outcome m r e room .answer ≡ a → Demanded x q′ s′
       by (Refused n) h = absurd (omega (arith, ap (λ (x : GarumbottAnswer). x .answer) (y .says ∙ ap answerOf h)))
-      by (Reported p) h = by-record (p .found) (p .frameshift) (p .transcript) (p .reference) (p .altered) x (y .says ∙ ap answerOf h) h y four
+      by (Reported p) h = by-record (p .found) (p .frameshift) (p .transcript) (p .reference) (p .altered) (p .codons) x (y .says ∙ ap answerOf h) h y four
 
 -- two answers to one call, with the same buffers lent, are the same, and so is every byte that they leave
 pub record Alike (x₁ x₂ : GarumbottAnswer) (transcript₁ transcript₂ reference₁ reference₂ altered₁ altered₂ : List ℕ) : Type 0 where

@@ -78,6 +78,7 @@ aloneOf answer refusal =
       «inserted_at» = 0;
       «inserted_len» = 0;
       first = 0;
+      codons = 0;
     }
 
 -- the papers' number and values for each case of an answer
@@ -97,14 +98,15 @@ numbersOf v =
       «inserted_at» = v .told .insertedAt;
       «inserted_len» = v .told .insertedLen;
       first = v .told .first;
+      codons = v .codons;
     }
 
 abbrev pub answerOf : Answer → GarumbottAnswer
 answerOf a = numbersOf (valuesOf a)
 
--- what a record tells, with no flag and no lengths
+-- what a record tells, with no flag, no lengths and no codon looked up
 abbrev pub toldOf : Told → GarumbottAnswer
-toldOf t = numbersOf (record { refusal = 0; frameshift = 0; transcript = 0; reference = 0; altered = 0; told = t })
+toldOf t = numbersOf (record { refusal = 0; frameshift = 0; transcript = 0; reference = 0; altered = 0; told = t; codons = 0 })
 
 -- the altered transcript alone: answer 4 where it was written
 abbrev pub transcribedOf : Transcribed → GarumbottAnswer
@@ -125,6 +127,7 @@ transcribedOf (transcribed.Written n flag) =
       «inserted_at» = 0;
       «inserted_len» = 0;
       first = 0;
+      codons = 0;
     }
 
 -- what a proposed record is answered

@@ -43,6 +43,7 @@ pub struct GarumbottAnswer {
     pub inserted_at: u64,
     pub inserted_len: u64,
     pub first: u64,
+    pub codons: u64,
 }
 
 // Document 02's values for each case of a checked record.
@@ -192,6 +193,7 @@ pub fn alone(answer: u64, refusal: u64) -> GarumbottAnswer
         inserted_at: 0,
         inserted_len: 0,
         first: 0,
+        codons: 0,
     }
 }
 
@@ -227,7 +229,7 @@ fn told_by(found: Record) -> GarumbottAnswer
     }
 }
 
-// A report's record, flag and lengths.
+// A report's record, flag, lengths and codons looked up.
 fn reported(p: Report) -> GarumbottAnswer
     ensures { λ r. ⌜ r ≡ answerOf (answer.Reported p) ⌝ }
 {
@@ -237,6 +239,7 @@ fn reported(p: Report) -> GarumbottAnswer
     r.transcript_len = wide(p.transcript);
     r.reference_len = wide(p.reference);
     r.altered_len = wide(p.altered);
+    r.codons = wide(p.codons);
     r
 }
 

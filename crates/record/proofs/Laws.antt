@@ -13,9 +13,8 @@ use Rattle.rules.specs.declared.Class.the-variants.{StartLost, Extension, StopG
 use Rattle.rules.specs.declared.Change.{Change}
 use Rattle.rules.specs.declared.Record.the-variants.{NoProtein, Silent, Changed}
 use Rattle.rules.specs.Bytes.{byte, if_then_else_, same, isNone}
-use Rattle.rules.specs.Trims.{commonPrefix, commonSuffix}
+use Rattle.rules.specs.Trims.{commonPrefix}
 use Rattle.rules.specs.Record.{ending, isCopy, classByCounts, classBy, classOf, firstCopied, changeAt, changeOf, recordFrom}
-use Rattle.rules.proofs.Over.{tail-is}
 use Rattle.rules.proofs.Trims.{cp-le-l, cp-le-r, cs-le-l, cs-le-r, same-whole}
 
 -- the parts that `check_if_ins_is_dup` compares
@@ -58,11 +57,6 @@ copied-before number d n x y flag copy k r a e f g =
     (ltb n number)
     (same (take n (drop (number - 1 - n) r)) (take n (drop (number - 1) a)))
     (sym (rw e at f) ∙ g))
-
--- the ending that `common_suffix_len` answers
-pub is-ending : (r a : List ℕ) (s n : ℕ) → n ≡ commonSuffix (take (length r - s) (drop s r)) (take (length a - s) (drop s a)) → n ≡ ending false s r a
-unfolding ending
-is-ending r a s n h = h ∙ rw (tail-is s r, tail-is s a)
 
 -- both proteins have the shared beginning, and behind it the ending
 pub prefix-fits : (s : ℕ) (r a : List ℕ) → s ≡ commonPrefix r a → (s ≤ length r) × (s ≤ length a)

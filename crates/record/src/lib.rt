@@ -1,4 +1,5 @@
 // "The record": what two proteins, R and A, differ in, its class, and the record of the two.
+use numbers::least;
 use rules::Change;
 use rules::Class;
 use rules::Part;
@@ -9,7 +10,9 @@ use sequences::equals;
 ghost use mathlib.Core.Path.{_≡_};
 ghost use Prim.Native.Nat.{_+_, _≤_};
 ghost use lib.ListN.{length, getD};
+ghost use Rattle.rules.specs.Trims.{commonPrefix};
 ghost use Rattle.rules.specs.Record.{ending, isCopy, classByCounts, classBy, firstCopied, changeAt, recordFrom};
+ghost use Rattle.record.specs.Shares.{Shares};
 
 // The byte at i, or 0 past the end.
 fn byte_at(s: &[u8], i: usize) -> u8
@@ -99,15 +102,37 @@ fn check_if_ins_is_dup(r: &[u8], a: &[u8], number: usize, n: usize) -> bool
     }
 }
 
-// The residues of the longest ending that R and A share behind the first s, none with the flag.
-fn ending_of(r: &[u8], a: &[u8], s: usize, flag: bool) -> usize
+// How many first residues R and A share, the first `ahead` and the last `behind` known to be shared. A known residue is looked at only where it
+// stands beside another than its own.
+fn beginning_of(r: &[u8], a: &[u8], ahead: usize, behind: usize) -> usize
+    requires { ⌜ Shares ahead behind (now r) (now a) ⌝ }
+    ensures { λ s. ⌜ s ≡ commonPrefix (now (r .entry)) (now (a .entry)) ⌝ }
+{
+    let r_end = r.len() - behind;
+    let a_end = a.len() - behind;
+    let s = ahead + common_prefix_len(&r[ahead..r_end], &a[ahead..a_end]);
+    if (s < r_end) & (s < a_end) {
+        return s;
+    }
+    if r_end == a_end {
+        return r.len();
+    }
+    s + common_prefix_len(&r[s..], &a[s..])
+}
+
+// The residues of the longest ending that R and A share behind the first s, none with the flag. The last `behind` are known to be shared.
+fn ending_of(r: &[u8], a: &[u8], s: usize, flag: bool, behind: usize) -> usize
     requires { ⌜ (s ≤ length (now r)) × (s ≤ length (now a)) ⌝ }
+    requires { ⌜ Shares 0 behind (now r) (now a) ⌝ }
     ensures { λ t. ⌜ t ≡ ending flag s (now (r .entry)) (now (a .entry)) ⌝ }
 {
     if flag {
         return 0;
     }
-    common_suffix_len(&r[s..], &a[s..])
+    let known = least(behind, least(r.len(), a.len()) - s);
+    let r_end = r.len() - known;
+    let a_end = a.len() - known;
+    known + common_suffix_len(&r[s..r_end], &a[s..a_end])
 }
 
 // The change of R to A behind s shared residues, up to an ending of n residues.
@@ -144,19 +169,35 @@ fn change_at(r: &[u8], a: &[u8], flag: bool, s: usize, n: usize) -> Change
     }
 }
 
-// The record of R and A; `number` is the one that a silent record has.
-pub fn record_from(r: &[u8], a: &[u8], flag: bool, number: usize) -> Record
+// The record of R and A, the first `ahead` residues and the last `behind` known to be shared; `number` is the one that a silent record has.
+pub fn record_beside(
+    r: &[u8],
+    a: &[u8],
+    flag: bool,
+    number: usize,
+    ahead: usize,
+    behind: usize,
+) -> Record
     requires { ⌜ 1 ≤ number ⌝ }
+    requires { ⌜ Shares ahead behind (now r) (now a) ⌝ }
     ensures { λ x. ⌜ x ≡ recordFrom flag number (now (r .entry)) (now (a .entry)) ⌝ }
 {
     if a.len() == 0 {
         return Record::NoProtein;
     }
-    let s = common_prefix_len(r, a);
+    let s = beginning_of(r, a, ahead, behind);
     if (s == r.len()) & (s == a.len()) {
         let residue = byte_at(r, number - 1);
         return Record::Silent { number, residue };
     }
-    let n = ending_of(r, a, s, flag);
+    let n = ending_of(r, a, s, flag, behind);
     Record::Changed(change_at(r, a, flag, s, n))
+}
+
+// The record of R and A; `number` is the one that a silent record has.
+pub fn record_from(r: &[u8], a: &[u8], flag: bool, number: usize) -> Record
+    requires { ⌜ 1 ≤ number ⌝ }
+    ensures { λ x. ⌜ x ≡ recordFrom flag number (now (r .entry)) (now (a .entry)) ⌝ }
+{
+    record_beside(r, a, flag, number, 0, 0)
 }

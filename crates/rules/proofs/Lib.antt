@@ -6,6 +6,7 @@ pub mod Tests
 pub mod Trims
 pub mod Translation
 pub mod Reading
+pub mod Plain
 pub mod Complement
 pub mod Parts
 pub mod Reference
@@ -20,6 +21,12 @@ pub mod Mixes
 pub mod Checks
 pub mod Protein
 pub mod Silent
+pub mod Carried
+pub mod Kept
+pub mod PieceNumbers
+pub mod Pieces
+pub mod Looked
+pub mod Substituted
 pub mod Answers
 pub mod KindNumbers
 pub mod Thirteen

@@ -131,7 +131,7 @@ before-rest zero = refl
 before-rest (suc r) = refl
 
 -- a `*` in the first of two lists is the first; where there is none, the first of the second is
-before-append : (rs qs : List ℕ) → beforeStop rs < length rs → beforeStop (rs ++ qs) ≡ beforeStop rs
+pub before-append : (rs qs : List ℕ) → beforeStop rs < length rs → beforeStop (rs ++ qs) ≡ beforeStop rs
 unfolding beforeStop
 before-append [] qs h = absurd (omega arith)
 before-append (r ∷ rs) qs h = at (eqb r (byte "*")) h (before-append rs qs)

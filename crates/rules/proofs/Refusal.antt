@@ -27,7 +27,7 @@ module _ (m : Limits) (r : Reference) (e : Asked) where
   refused-edit h = first-behind (referenceTests (m .longest) r) (editTests (m .most) r e) refl h
 
   -- neither is refused
-  none-refused : refusal m r e ≡ 0 → (referenceRefusal (m .longest) r ≡ 0) × (firstOf (editTests (m .most) r e) ≡ 0)
+  pub none-refused : refusal m r e ≡ 0 → (referenceRefusal (m .longest) r ≡ 0) × (firstOf (editTests (m .most) r e) ≡ 0)
   none-refused h = by (referenceRefusal (m .longest) r) refl
     where
       by : (n : ℕ) → referenceRefusal (m .longest) r ≡ n → (referenceRefusal (m .longest) r ≡ 0) × (firstOf (editTests (m .most) r e) ≡ 0)

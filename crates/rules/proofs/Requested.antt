@@ -17,7 +17,9 @@ use Rattle.rules.specs.Refusal.{limits, Room}
 use Rattle.rules.specs.Check.{Proposal, checkOutcome}
 use Rattle.rules.specs.Stored.{storedReference}
 use Rattle.rules.specs.Line.{editLine}
-use Rattle.rules.specs.Run.{refusedLine}
+use Rattle.rules.specs.Answer.{outcome}
+use Rattle.rules.specs.Values.{valuesOf}
+use Rattle.rules.specs.Run.{decimal, refusedLine}
 use Rattle.rules.specs.Opened.{opened}
 use Rattle.rules.proofs.Doubtful.{Decided, _⇒_, worked, exc, edited, shown, proteinIn}
 
@@ -138,6 +140,56 @@ copiedFromOne =
 pub copied-from-one : map (λ (d : Decided). d .computed) copiedFromOne ≡ map (λ (d : Decided). bytes (d .answer)) copiedFromOne
 unfolding opened
 copied-from-one = refl
+
+-- how many codons the answer to an edit line has looked up
+abbrev pub lookedOf : Reference → Option Asked → List ℕ
+lookedOf r none = refusedLine 30
+lookedOf r (some e) = decimal (valuesOf (outcome limits r e ample .answer) .codons)
+
+abbrev pub looked : Reference → String → List ℕ
+looked r edit = lookedOf r (editLine (bytes edit))
+
+abbrev pub excepting : Reference
+excepting = ending 0 "ATGAAATAA" (exc 2 "U" ∷ [])
+
+-- E4: translate only changed codons
+abbrev pub lookedUpIn : List Decided
+lookedUpIn =
+    -- by index, not by equal letters
+    looked worked "4G>G" ⇒ "1"
+    -- the gap alone: anchors and copied bases are not touched
+    ∷ looked worked "12_13insAAA" ⇒ "1"
+    ∷ looked worked "4_6dup" ⇒ "1"
+    -- what the stop cut reads isn't counted
+    ∷ looked worked "9_10insGCC" ⇒ "1"
+    -- an identity, whatever its range
+    ∷ looked worked "-2_*6=" ⇒ "0"
+    -- a codon partly in the edit is read, those behind it in frame are reused
+    ∷ looked worked "5_7del" ⇒ "1"
+    -- a codon of the 3' UTR is read
+    ∷ looked worked "13T>C" ⇒ "3"
+    -- a reused stop ends the reading
+    ∷ looked worked "10_12del" ⇒ "0"
+    -- behind a frameshift all are read; a rest of one or two bases isn't counted
+    ∷ looked worked "5del" ⇒ "5"
+    -- a gap behind the CDS: A has ended before it
+    ∷ looked worked "4_*6dup" ⇒ "0"
+    -- no protein; an Unknown, though one codon of M** has changed; a refusal
+    ∷ looked worked "1_*6del" ⇒ "0"
+    ∷ looked worked "1_*7del" ⇒ "0"
+    ∷ looked (ending 0 "ATGTAATAA" []) "1A>G" ⇒ "0"
+    ∷ looked worked "16del" ⇒ "0"
+    -- none is reused with exceptions, not even by an identity
+    ∷ looked excepting "9A>G" ⇒ "3"
+    ∷ looked excepting "1=" ⇒ "3"
+    -- the cut codon is no whole codon
+    ∷ looked (ending 2 "ATGGCCA" []) "7A>G" ⇒ "0"
+    ∷ looked (ending 2 "ATGGCCA" []) "6_7insAA" ⇒ "1"
+    ∷ []
+
+pub looked-up-in : map (λ (d : Decided). d .computed) lookedUpIn ≡ map (λ (d : Decided). bytes (d .answer)) lookedUpIn
+unfolding opened
+looked-up-in = refl
 
 -- E2: Asx and Glx instead of X
 abbrev pub readAs : ℕ → String → List ℕ

@@ -122,7 +122,7 @@ count-some x xs = by (eqb x (byte "*")) refl
     by true h = omega (arith, count-here x xs (eqb-true x (byte "*") h))
     by false h = omega (arith, count-later x xs (eqb-false x (byte "*") h))
 
-one-stop : (xs : List ℕ) (j : ℕ) → j < length xs → getD xs j 0 ≡ byte "*" → 1 ≤ count (byte "*") xs
+pub one-stop : (xs : List ℕ) (j : ℕ) → j < length xs → getD xs j 0 ≡ byte "*" → 1 ≤ count (byte "*") xs
 one-stop [] j h z = absurd (omega arith)
 one-stop (x ∷ xs) zero h z = omega (arith, count-here x xs z)
 one-stop (x ∷ xs) (suc j) h z = omega (arith, one-stop xs j (omega arith) z, count-some x xs)
@@ -141,7 +141,7 @@ through-none (x ∷ xs) h =
     let later : x ≡ byte "*" → ⊥ = λ z. omega (arith, count-here x xs z) in
     through-later x xs later ∙ ap (x ∷_) (through-none xs (sym (count-later x xs later) ∙ h))
 
-through-last : (xs ys : List ℕ) → 1 ≤ length xs → getD xs (length xs - 1) 0 ≡ byte "*" → count (byte "*") xs ≤ 1 → throughStop (xs ++ ys) ≡ xs
+pub through-last : (xs ys : List ℕ) → 1 ≤ length xs → getD xs (length xs - 1) 0 ≡ byte "*" → count (byte "*") xs ≤ 1 → throughStop (xs ++ ys) ≡ xs
 through-last [] ys h z c = absurd (omega arith)
 through-last (x ∷ []) ys h z c = through-here x ys z
 through-last (x ∷ y ∷ xs) ys h z c =

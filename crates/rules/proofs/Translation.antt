@@ -34,7 +34,7 @@ pub length-translated : (t : ℕ) (es : List Exception) (s : List ℕ) → lengt
 unfolding translated
 length-translated t es s = length-residues t es 1 s
 
-through-is : (xs : List ℕ) → throughStop xs ≡ take (suc (beforeStop xs)) xs
+pub through-is : (xs : List ℕ) → throughStop xs ≡ take (suc (beforeStop xs)) xs
 unfolding throughStop beforeStop
 through-is [] = refl
 through-is (x ∷ xs) = at (eqb x (byte "*")) (through-is xs)
@@ -43,7 +43,7 @@ through-is (x ∷ xs) = at (eqb x (byte "*")) (through-is xs)
     at true k = refl
     at false k = ap (x ∷_) k
 
-length-through : (xs : List ℕ) → length (throughStop xs) ≡ min (suc (beforeStop xs)) (length xs)
+pub length-through : (xs : List ℕ) → length (throughStop xs) ≡ min (suc (beforeStop xs)) (length xs)
 length-through xs = rw through-is (length-take (suc (beforeStop xs)) xs)
 
 pub through-le : (xs : List ℕ) → length (throughStop xs) ≤ length xs

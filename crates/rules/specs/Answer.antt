@@ -16,6 +16,7 @@ use Rattle.rules.specs.Reference.{Reference, referenceProtein}
 use Rattle.rules.specs.Edit.{Asked}
 use Rattle.rules.specs.Altered.{alteredTranscript, frameshift}
 use Rattle.rules.specs.Protein.{alteredProtein}
+use Rattle.rules.specs.Reuse.{lookedUp}
 use Rattle.rules.specs.Record.{isUnknown, recordOf}
 use Rattle.rules.specs.Refusal.{refusal, Room, roomRefusal}
 
@@ -39,9 +40,9 @@ pub record Outcome : Type 0 where
 unfoldable pub writesNothing : Answer → Outcome
 writesNothing a = record { answer = a; transcript = []; reference = []; altered = [] }
 
--- zero lengths and no flag
+-- zero lengths, no flag, and no codon looked up
 unfoldable pub unknownReport : Report
-unknownReport = record { found = Unknown; frameshift = false; transcript = 0; reference = 0; altered = 0 }
+unknownReport = record { found = Unknown; frameshift = false; transcript = 0; reference = 0; altered = 0; codons = 0 }
 
 -- every other answer writes the altered transcript, R and A
 unfoldable pub fullReport : Reference → Asked → Report
@@ -52,6 +53,7 @@ fullReport r e =
       transcript = length (alteredTranscript r e);
       reference = length (referenceProtein r);
       altered = length (alteredProtein r e);
+      codons = lookedUp r e;
     }
 
 unfoldable pub writesAll : Reference → Asked → Outcome

@@ -1,5 +1,6 @@
--- The definitions of document 01 as document 02 amends it, a file for each part and in its order, each over those above it. Bytes has the words that all
--- share, Views the plain types as the sections' own, Values the numbers that a host reads, Opened what a worked example computes with.
+-- The definitions of document 01 as document 02 amends it, a file for each part and in its order, each over those above it; Reuse is E4, Check E7.
+-- Bytes has the words that all share, Views the plain types as the sections' own, Values the numbers that a host reads, Opened what a worked example
+-- computes with.
 pub mod Bytes
 pub mod Letters
 pub mod Codons
@@ -13,6 +14,7 @@ pub mod Edit
 pub mod Altered
 pub mod Exceptions
 pub mod Protein
+pub mod Reuse
 pub mod Record
 pub mod Refusal
 pub mod Views

@@ -72,7 +72,7 @@ abbrev pub flagNumber : Bool → ℕ
 flagNumber false = 0
 flagNumber true = 1
 
--- a refusal's number or 0, the flag, the bytes written to each buffer, and what the record tells
+-- a refusal's number or 0, the flag, the bytes written to each buffer, what the record tells, and the codons looked up
 pub record Values : Type 0 where
   pub refusal : ℕ
   pub frameshift : ℕ
@@ -80,10 +80,11 @@ pub record Values : Type 0 where
   pub reference : ℕ
   pub altered : ℕ
   pub told : Told
+  pub codons : ℕ
 
 -- 0 refused
 unfoldable pub valuesOf : Answer → Values
-valuesOf (Refused n) = record { refusal = n; frameshift = 0; transcript = 0; reference = 0; altered = 0; told = alone 0 }
+valuesOf (Refused n) = record { refusal = n; frameshift = 0; transcript = 0; reference = 0; altered = 0; told = alone 0; codons = 0 }
 valuesOf (Reported p) =
     record {
       refusal = 0;
@@ -92,4 +93,5 @@ valuesOf (Reported p) =
       reference = p .reference;
       altered = p .altered;
       told = toldBy (p .found);
+      codons = p .codons;
     }

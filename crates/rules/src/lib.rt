@@ -101,13 +101,14 @@ pub enum Record {
     Changed(Change),
 }
 
-// A record, the frameshift flag, and the number of bytes written to each of the three buffers.
+// A record, the frameshift flag, the number of bytes written to each of the three buffers, and of codons looked up.
 pub struct Report {
     pub found: Record,
     pub frameshift: bool,
     pub transcript: usize,
     pub reference: usize,
     pub altered: usize,
+    pub codons: usize,
 }
 
 // What an edit of a reference is answered: a refusal's number, or a report.

@@ -131,6 +131,7 @@ module _ (s : List ℕ) (k : Known) (protein : List ℕ) (known : Knows textLimi
           edit = edit;
           allowed = none;
           is = plan;
+          changes = not-unknown textLimits s k noExceptions protein known a p goes;
           for-transcript = omega (arith, long, ample .for-transcript);
           for-altered = omega (arith, long, x .bounds .first, ample .for-altered);
         }
@@ -138,7 +139,7 @@ module _ (s : List ℕ) (k : Known) (protein : List ℕ) (known : Knows textLimi
     pub asked-goes : editAnswer (bare s (k .cds)) (some a) ≡ planLine r protein p new
     unfolding exceptionList editAnswer answerLine recordUnless unless decidedOutcome writesAll fullReport
     asked-goes =
-        let all = goes-all r a p plan (not-unknown textLimits s k noExceptions protein known a p goes) in
+        let all = goes-all r a p plan (not-unknown textLimits s k noExceptions protein known a p goes) textLimits none in
         let said : answer.Reported (reportBy r p new) ≡ answer.Reported (fullReport r a) = ap (λ (o : Outcome). o .answer) all in
         let same : reportBy r p new ≡ fullReport r a = cc in
         let found : reportBy r p new .found ≡ recordOf r a = ap (λ (u : Report). u .found) same in

@@ -2,7 +2,7 @@
 use mathlib.Core.Path.{_≡_, refl, sym, ap, _∙_}
 use mathlib.Core.Bool.{Bool, true, _&&_, and-eq-true-iff}
 use mathlib.Core.List.{List, [], _∷_, _++_, map, append-assoc, append-nil}
-use Prim.Native.Nat.{ℕ, zero, suc, _+_, _-_, _*_, _/_, _%_, _≤_, _<_}
+use Prim.Native.Nat.{ℕ, zero, suc, _+_, _-_, _*_, _/_, _%_, _≤_, _<_, min}
 use native.Mathlib.Omega.{arith}
 use lib.Dec.{eqb}
 use lib.ListN.{length, getD, take, drop, set, length-set, length-drop, drop-of-length-le}
@@ -16,7 +16,7 @@ use Rattle.rules.specs.Letters.{folded}
 use Rattle.rules.specs.Translation.{exceptionList, excepted, foldedTranslated, beforeStop, throughStop, wholeCodons}
 use Rattle.rules.proofs.Over.{overFrom, from-start, from-end, from-turn, tail-is}
 use Rattle.rules.proofs.Reading.{restOf, before-here, before-later, through-here, through-later, through-rest, length-whole}
-use Rattle.translation.specs.Residues.{codonAt, residueAt, nextFrom, Clear, WalkedTo}
+use Rattle.translation.specs.Residues.{codonAt, residueAt, nextFrom, Clear, WalkedTo, codonsWalked}
 use Rattle.translation.proofs.Residues.{plain-at, leftFrom, left-all, left-more, left-rest, left-part}
 use Rattle.translation.proofs.Excepted.{next-clear, still-clear}
 
@@ -124,6 +124,43 @@ module _ (t : ℕ) (s A old out : List ℕ) (i : ℕ) (w : Walk t [] s A old out
   walk-on part j x =
       let none : drop (length out - i) (drop i out) ≡ [] = drop-of-length-le (drop i out) {i = length out - i} (rw length-drop (omega arith)) in
       simp (none, append-nil) (on part j (rw (tail-is (i * 3) s, tail-is i out) at x))
+
+-- a count of codons looked up that keeps up with the codon's index: at the stop, and behind the last codon
+pub counted-stop : (i looked n : ℕ) → looked ≡ i → i < n → looked + 1 ≡ min (i + 1) n
+counted-stop i looked n e h = omega arith
+
+pub counted-end : (i looked n : ℕ) → looked ≡ i → i ≡ n → looked ≡ min (n + 1) n
+counted-end i looked n e h = omega arith
+
+-- the same behind codons that were looked up already
+pub further-stop : (already i looked n : ℕ) → looked ≡ already + i → i < n → looked + 1 ≡ already + min (i + 1) n
+further-stop already i looked n e h = omega arith
+
+pub further-end : (already i looked n : ℕ) → looked ≡ already + i → i ≡ n → looked ≡ already + min (n + 1) n
+further-end already i looked n e h = omega arith
+
+further-both : (i looked m n j k : ℕ) → looked ≡ i → looked + m ≡ n → k ≡ looked + min (j + 1) m → k ≡ min (i + j + 1) n
+further-both i looked m n j k e f h = omega arith
+
+-- a walk that goes on in the part from codon i on
+module _ (s : List ℕ) (i looked : ℕ) (h : i ≤ length s / 3) (e : looked ≡ i) where
+  pub further-fits : looked + length (take (length s - i * 3) (drop (i * 3) s)) / 3 ≡ length s / 3
+  further-fits =
+      let size : length (take (length s - i * 3) (drop (i * 3) s)) ≡ length s - i * 3 = ap (λ (l : List ℕ). length l) (tail-is (i * 3) s) ∙ length-drop (i * 3) s in
+      omega arith
+
+  pub further-on : (j k : ℕ) → k ≡ looked + min (j + 1) (length (take (length s - i * 3) (drop (i * 3) s)) / 3) → k ≡ min (i + j + 1) (length s / 3)
+  further-on j k is = further-both i looked (length (take (length s - i * 3) (drop (i * 3) s)) / 3) (length s / 3) j k e further-fits is
+
+-- the whole codons through the first stop, where there is one and where there is none
+module _ (t : ℕ) (es : List Exception) (s : List ℕ) (stop looked : ℕ) (is : looked ≡ min (stop + 1) (length s / 3)) where
+  pub looked-stop : stop + 1 ≡ length (throughStop (foldedTranslated t es s)) → looked ≡ codonsWalked t es s
+  unfolding codonsWalked
+  looked-stop e = rw (← e) is
+
+  pub looked-end : length s / 3 ≤ stop → (length s + 2) / 3 ≡ length (throughStop (foldedTranslated t es s)) → looked ≡ codonsWalked t es s
+  unfolding codonsWalked
+  looked-end h e = rw (← e) (omega arith)
 
 -- the first stop among the whole codons
 whole-codon : (t : ℕ) (s : List ℕ) (i : ℕ) → i < length s / 3 → codonAt t (map folded (wholeCodons s)) i ≡ codonAt t (map folded s) i

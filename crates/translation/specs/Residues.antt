@@ -1,5 +1,5 @@
 -- Codons by index, exceptions put over residues, plain codons by the numbers of their letters, what a walk to the first stop leaves, and what a caller has looked at.
-use Prim.Native.Nat.{ℕ, zero, suc, _+_, _*_, _/_, _%_, _<_, _≤_}
+use Prim.Native.Nat.{ℕ, zero, suc, _+_, _*_, _/_, _%_, _<_, _≤_, min}
 use mathlib.Core.Path.{_≡_}
 use mathlib.Core.Bool.{Bool, true, _&&_}
 use mathlib.Core.List.{List, [], _∷_, map}
@@ -11,7 +11,7 @@ use Rattle.rules.specs.declared.Exceptions.{Exceptions}
 use Rattle.rules.specs.Bytes.{if_then_else_, all, over}
 use Rattle.rules.specs.Letters.{folded}
 use Rattle.rules.specs.Codons.{codon}
-use Rattle.rules.specs.Translation.{excepted, wholeCodons, residueCount, foldToLetters}
+use Rattle.rules.specs.Translation.{excepted, wholeCodons, residueCount, throughStop, foldToLetters, foldedTranslated}
 use Rattle.rules.proofs.Over.{overFrom}
 use Rattle.rules.proofs.Reading.{restOf}
 use Rattle.codons.specs.Tables.{foldsToBase}
@@ -73,6 +73,10 @@ pub record WalkedTo (A : List ℕ) (n : ℕ) (old out : List ℕ) (r : ℕ) : Ty
   pub within : r ≤ n / 3
   pub stopped : r < n / 3 → (r + 1 ≡ length A) × (out ≡ over A old)
   pub ended : n / 3 ≤ r → ((n + 2) / 3 ≡ length A) × (overFrom (n / 3) (restOf (n % 3)) out ≡ over A old)
+
+-- the whole codons of letters, up to and with the first stop: their residues, but for the X of a rest
+unfoldable pub codonsWalked : ℕ → List Exception → List ℕ → ℕ
+codonsWalked t es s = min (length (throughStop (foldedTranslated t es s))) (length s / 3)
 
 -- letters that were looked at, a table, and exceptions that were judged
 pub record Reads (table : ℕ) (plain : Bool) (s : List ℕ) (e : Exceptions) : Type 0 where

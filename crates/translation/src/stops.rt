@@ -11,12 +11,12 @@ use rules::Exceptions;
 ghost use mathlib.Core.Path.{_≡_};
 ghost use mathlib.Core.Bool.{true, false};
 ghost use mathlib.Core.List.{[]};
-ghost use Prim.Native.Nat.{_+_, _/_, _<_, _≤_};
+ghost use Prim.Native.Nat.{_+_, _/_, _^_, _<_, _≤_, min};
 ghost use lib.ListN.{length};
 ghost use Rattle.rules.specs.Bytes.{over};
 ghost use Rattle.rules.specs.Translation.{exceptionList, residueCount, beforeStop, throughStop, wholeCodons, foldToLetters, foldedTranslated};
 ghost use Rattle.codons.specs.Tables.{HoldsCode, HoldsPlain, HoldsSets, foldedSet};
-ghost use Rattle.translation.specs.Residues.{residueAt, Clear, foldToBases, WalkedTo, Reads, Walks};
+ghost use Rattle.translation.specs.Residues.{residueAt, Clear, foldToBases, WalkedTo, codonsWalked, Reads, Walks};
 
 // A codon's residue, exceptions applied, and the number of the next codon with an exception.
 struct Turn {
@@ -124,8 +124,14 @@ pub fn first_stop(seq: &[u8], table: usize, plain: bool, e: Exceptions) -> usize
     stop_by_sets(seq, table, &sets, &residues, e)
 }
 
-// Writes the residues of any letters, exceptions applied, to the buffer's start, through the first `*`, and answers its codon's index, or the
-// number of whole codons.
+// Where a walk ended, the index of the first `*` or the number of whole codons, and how many codons it looked up.
+struct Ended {
+    stop: usize,
+    looked: usize,
+}
+
+// Writes the residues of any letters, exceptions applied, to the buffer's start, through the first `*`. `looked` is raised where a codon is read
+// in the table, and nowhere else.
 fn write_to_stop(
     seq: &[u8],
     table: usize,
@@ -133,20 +139,23 @@ fn write_to_stop(
     residues: &[u8; 4096],
     e: Exceptions,
     out: &mut [u8],
-) -> usize
+) -> Ended
     requires { ⌜ HoldsSets foldedSet (now sets) ⌝ }
     requires { ⌜ HoldsCode table (now residues) ⌝ }
     requires { ⌜ Walks table false (now seq) e (now out) ⌝ }
-    ensures { λ r. ⌜ WalkedTo (throughStop (foldedTranslated table (exceptionList e) (now (seq .entry)))) (length (now (seq .entry))) (now (out .entry)) (now (out .exit)) r ⌝ }
+    ensures { λ r. ⌜ WalkedTo (throughStop (foldedTranslated table (exceptionList e) (now (seq .entry)))) (length (now (seq .entry))) (now (out .entry)) (now (out .exit)) (r .stop) ⌝ }
+    ensures counted { λ r. ⌜ r .looked ≡ min (r .stop + 1) (length (now (seq .entry)) / 3) ⌝ }
 {
     let whole = seq.len() / 3;
     let mut next = next_exception(e, 1, whole + 1);
+    let mut looked = 0;
     let mut i = 0;
     let stop = loop {
         if whole <= i {
             break whole;
         }
         let turn = turn_at(seq, table, sets, residues, e, i, next);
+        looked += 1;
         let r = turn.residue;
         next = turn.next;
         out[i] = r;
@@ -155,17 +164,26 @@ fn write_to_stop(
         }
         i += 1;
     };
-    stop
+    Ended { stop, looked }
 }
 
-// The same of bases without exceptions.
-fn write_codons_to_stop(seq: &[u8], table: usize, code: &[u8; 64], out: &mut [u8]) -> usize
+// The same of bases without exceptions, behind codons that were looked up already.
+fn write_codons_to_stop(
+    seq: &[u8],
+    table: usize,
+    code: &[u8; 64],
+    already: usize,
+    out: &mut [u8],
+) -> Ended
     requires { ⌜ HoldsPlain table (now code) ⌝ }
     requires { ⌜ foldToBases (now seq) ≡ true ⌝ }
+    requires { ⌜ already + length (now seq) / 3 < 2 ^ 64 ⌝ }
     requires { ⌜ residueCount (length (now seq)) ≤ length (now out) ⌝ }
-    ensures { λ r. ⌜ WalkedTo (throughStop (foldedTranslated table [] (now (seq .entry)))) (length (now (seq .entry))) (now (out .entry)) (now (out .exit)) r ⌝ }
+    ensures { λ r. ⌜ WalkedTo (throughStop (foldedTranslated table [] (now (seq .entry)))) (length (now (seq .entry))) (now (out .entry)) (now (out .exit)) (r .stop) ⌝ }
+    ensures counted { λ r. ⌜ r .looked ≡ already + min (r .stop + 1) (length (now (seq .entry)) / 3) ⌝ }
 {
     let whole = seq.len() / 3;
+    let mut looked = already;
     let mut i = 0;
     let stop = loop {
         if whole <= i {
@@ -173,50 +191,58 @@ fn write_codons_to_stop(seq: &[u8], table: usize, code: &[u8; 64], out: &mut [u8
         }
         let place = place_at(seq, i);
         let r = code[place];
+        looked += 1;
         out[i] = r;
         if r == b'*' {
             break i;
         }
         i += 1;
     };
-    stop
+    Ended { stop, looked }
 }
 
 // The same, two codons at a time, then those that are left.
-fn write_plain_to_stop(seq: &[u8], table: usize, code: &[u8; 64], out: &mut [u8]) -> usize
+fn write_plain_to_stop(seq: &[u8], table: usize, code: &[u8; 64], out: &mut [u8]) -> Ended
     requires { ⌜ HoldsPlain table (now code) ⌝ }
     requires { ⌜ foldToBases (now seq) ≡ true ⌝ }
     requires { ⌜ residueCount (length (now seq)) ≤ length (now out) ⌝ }
-    ensures { λ r. ⌜ WalkedTo (throughStop (foldedTranslated table [] (now (seq .entry)))) (length (now (seq .entry))) (now (out .entry)) (now (out .exit)) r ⌝ }
+    ensures { λ r. ⌜ WalkedTo (throughStop (foldedTranslated table [] (now (seq .entry)))) (length (now (seq .entry))) (now (out .entry)) (now (out .exit)) (r .stop) ⌝ }
+    ensures counted { λ r. ⌜ r .looked ≡ min (r .stop + 1) (length (now (seq .entry)) / 3) ⌝ }
 {
+    let mut looked = 0;
     let mut i = 0;
     let stop = loop {
         if seq.len() < i * 3 + 8 {
             let at = i * 3;
-            break i + write_codons_to_stop(&seq[at..], table, code, &mut out[i..]);
+            let rest = write_codons_to_stop(&seq[at..], table, code, looked, &mut out[i..]);
+            looked = rest.looked;
+            break i + rest.stop;
         }
         let pair = pair_at(seq, i);
         let first = pair / 131072 % 64;
         let r = code[first];
+        looked += 1;
         out[i] = r;
         if r == b'*' {
             break i;
         }
         let second = pair / 2199023255552 % 64;
         let next = code[second];
+        looked += 1;
         out[i + 1] = next;
         if next == b'*' {
             break i + 1;
         }
         i += 2;
     };
-    stop
+    Ended { stop, looked }
 }
 
 // The walk to the first stop, the faster way where all letters are bases and there are no exceptions.
-fn write_walk(seq: &[u8], table: usize, plain: bool, e: Exceptions, out: &mut [u8]) -> usize
+fn write_walk(seq: &[u8], table: usize, plain: bool, e: Exceptions, out: &mut [u8]) -> Ended
     requires { ⌜ Walks table plain (now seq) e (now out) ⌝ }
-    ensures { λ r. ⌜ WalkedTo (throughStop (foldedTranslated table (exceptionList e) (now (seq .entry)))) (length (now (seq .entry))) (now (out .entry)) (now (out .exit)) r ⌝ }
+    ensures { λ r. ⌜ WalkedTo (throughStop (foldedTranslated table (exceptionList e) (now (seq .entry)))) (length (now (seq .entry))) (now (out .entry)) (now (out .exit)) (r .stop) ⌝ }
+    ensures counted { λ r. ⌜ r .looked ≡ min (r .stop + 1) (length (now (seq .entry)) / 3) ⌝ }
 {
     if plain & (e.count == 0) {
         let code = plain_code(table);
@@ -227,27 +253,45 @@ fn write_walk(seq: &[u8], table: usize, plain: bool, e: Exceptions, out: &mut [u
     write_to_stop(seq, table, &sets, &residues, e, out)
 }
 
+// What a walk wrote, in residues, and how many codons it looked up in the table.
+pub struct Walked {
+    pub residues: usize,
+    pub looked: usize,
+}
+
 // Writes the residues of letters that were looked at, exceptions applied, to the buffer's start: through the first `*`; with none, to the end,
-// X for a rest. Answers how many they are.
+// X for a rest. Answers how many they are, and how many codons were looked up: each whole codon once, through the first `*`.
 pub fn write_through_stop(
     seq: &[u8],
     table: usize,
     plain: bool,
     e: Exceptions,
     out: &mut [u8],
-) -> usize
+) -> Walked
     requires { ⌜ Walks table plain (now seq) e (now out) ⌝ }
-    ensures { λ r. ⌜ r ≡ length (throughStop (foldedTranslated table (exceptionList e) (now (seq .entry)))) ⌝ }
+    ensures { λ r. ⌜ r .residues ≡ length (throughStop (foldedTranslated table (exceptionList e) (now (seq .entry)))) ⌝ }
     ensures written { λ _. ⌜ now (out .exit) ≡ over (throughStop (foldedTranslated table (exceptionList e) (now (seq .entry)))) (now (out .entry)) ⌝ }
+    ensures looked { λ r. ⌜ r .looked ≡ codonsWalked table (exceptionList e) (now (seq .entry)) ⌝ }
 {
-    let stop = write_walk(seq, table, plain, e, out);
+    let walk = write_walk(seq, table, plain, e, out);
+    let stop = walk.stop;
+    let looked = walk.looked;
     let whole = seq.len() / 3;
     if stop < whole {
-        return stop + 1;
+        return Walked {
+            residues: stop + 1,
+            looked,
+        };
     }
     if seq.len() % 3 != 0 {
         out[whole] = b'X';
-        return whole + 1;
+        return Walked {
+            residues: whole + 1,
+            looked,
+        };
     }
-    whole
+    Walked {
+        residues: whole,
+        looked,
+    }
 }

@@ -254,6 +254,22 @@ pub unsafe extern "C" fn oracle_edit(
     answer.unwrap_or(NOTHING)
 }
 
+/// How many codons `build_altseq_in` reads in a table for an edit, with `until_stop`, but for those of the stop cut; -1 where it builds nothing.
+#[cfg(counted)]
+#[no_mangle]
+pub unsafe extern "C" fn oracle_codons_read(reference: *const Reference, edit: *mut Edit) -> i64 {
+    let read = || crate::sequences::CODONS_READ.swap(0, std::sync::atomic::Ordering::Relaxed) as i64;
+    let builder = AltSeqBuilder::new((*edit).held.take().expect("put back"), &(*reference).made);
+    read();
+    let cut = harness::stop_cut(&builder);
+    let by_cut = read();
+    let alt = harness::altered(&builder, true);
+    let by_both = read();
+    (*edit).held = Some(builder.var_c);
+    let built = cut.is_ok() && alt.is_ok_and(|alt| alt.variant_start_aa.is_some());
+    if built { by_both - by_cut } else { -1 }
+}
+
 /// The number of the protein variant's kind, see oracle.h, and a duplication's first residue. A substitution by nothing is the text's way to say
 /// that nothing changed.
 fn form(variant: Result<HgvsVariant, Error>) -> (u64, i64) {

@@ -68,9 +68,36 @@ const fn expanded(code: &[u8; 64]) -> [u8; 4096] {
     table
 }
 
-static CODON_IUPAC_TO_AA1_LUT: [u8; 4096] = expanded(CODE_1);
-static CODON_IUPAC_TO_AA1_SEC: [u8; 4096] = expanded(CODE_1_SEC);
-static CODON_IUPAC_TO_AA1_CHRMT_VERTEBRATE: [u8; 4096] = expanded(CODE_2);
+/// The residues of a table. Built with `counted`, each codon that is read there is counted; else this is an array and no more.
+#[cfg(not(counted))]
+type Residues = [u8; 4096];
+#[cfg(counted)]
+struct Residues([u8; 4096]);
+
+#[cfg(not(counted))]
+const fn residues(code: &[u8; 64]) -> Residues {
+    expanded(code)
+}
+#[cfg(counted)]
+const fn residues(code: &[u8; 64]) -> Residues {
+    Residues(expanded(code))
+}
+
+#[cfg(counted)]
+pub static CODONS_READ: std::sync::atomic::AtomicU64 = std::sync::atomic::AtomicU64::new(0);
+
+#[cfg(counted)]
+impl std::ops::Index<usize> for Residues {
+    type Output = u8;
+    fn index(&self, sets: usize) -> &u8 {
+        CODONS_READ.fetch_add(1, std::sync::atomic::Ordering::Relaxed);
+        &self.0[sets]
+    }
+}
+
+static CODON_IUPAC_TO_AA1_LUT: Residues = residues(CODE_1);
+static CODON_IUPAC_TO_AA1_SEC: Residues = residues(CODE_1_SEC);
+static CODON_IUPAC_TO_AA1_CHRMT_VERTEBRATE: Residues = residues(CODE_2);
 
 const NAMES: [(u8, &str); 25] = [
     (b'A', "Ala"),

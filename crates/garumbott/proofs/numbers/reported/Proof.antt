@@ -6,12 +6,13 @@ use Rattle.garumbott.proofs.numbers.reported.Tie as tie
 
 returns : tie.Need-returns
 unfolding valuesOf
-returns c = rw (c .before .before .before .before .told-by .ensures, c .before .before .before .flag-number .ensures, c .before .before .wide .ensures, c .before .wide2 .ensures, c .wide3 .ensures)
+returns c = rw (c .before .before .before .before .before .told-by .ensures, c .before .before .before .before .flag-number .ensures, c .before .before .before .wide .ensures, c .before .before .wide2 .ensures, c .before .wide3 .ensures, c .wide4 .ensures)
 
 pub reported-spec : {M : Type 1} → statement M
 reported-spec =
     tie.close
     (tie.spec
+    (λ c κs. search needs)
     (λ c κs. search needs)
     (λ c κs. search needs)
     (λ c κs. search needs)

@@ -4,14 +4,18 @@ use Prim.Native.Nat.{_/_, _%_}
 use native.Mathlib.Omega.{arith}
 use borrow.Author.Needs.{needs}
 use lib.ListN.{length}
-use Rattle.rules.specs.Translation.{residueCount}
+use Rattle.rules.specs.Translation.{exceptionList, residueCount}
 use Rattle.translation.proofs.Residues.{no-rest, with-rest}
+use Rattle.translation.proofs.Walks.{looked-stop, looked-end}
 use Rattle.translation.proofs.stops.write_through_stop.Statement.{statement}
 use Rattle.translation.proofs.stops.write_through_stop.Tie as tie
 
 returns : tie.Need-returns
 returns c =
-    c .before .before .before .write-walk .ensures .stopped (c .if1 .taken)
+    let args = c .before .before .before .before .before .before .before .args in
+    let walk = c .before .before .before .write-walk in
+    let done = walk .ensures .0 .stopped (c .if1 .taken) in
+    (done .0, (done .1, looked-stop (args .table) (exceptionList (args .e)) (args .seq .now) (walk .result .stop) (walk .result .looked) (walk .ensures .1) (done .0)))
 
 slice-write-out : tie.Need-slice-write-out
 unfolding residueCount
@@ -25,16 +29,17 @@ returns-2 c =
     let write-walk = c .before .before .before .before .write-walk in
     let if2 = c .if2 in
     let n = length (args .seq .now) in
-    let done = write-walk .ensures .ended (c .before .if1 .left) in
-    (omega (arith, done .0, if2 .taken), with-rest (n / 3) (n % 3) _ _ (done .1) (if2 .taken) (omega (arith, if2 .taken, write-walk .kept .1 .1 .1 .1 .0, c .before .before .before .before .before .before .before .before .pre .room)))
+    let done = write-walk .ensures .0 .ended (c .before .if1 .left) in
+    (omega (arith, done .0, if2 .taken), (with-rest (n / 3) (n % 3) _ _ (done .1) (if2 .taken) (omega (arith, if2 .taken, write-walk .kept .1 .1 .1 .1 .0, c .before .before .before .before .before .before .before .before .pre .room)), looked-end (args .table) (exceptionList (args .e)) (args .seq .now) (write-walk .result .stop) (write-walk .result .looked) (write-walk .ensures .1) (c .before .if1 .left) (done .0)))
 
 returns-3 : tie.Need-returns-3
 returns-3 c =
     let args = c .before .before .before .before .before .before .before .before .args in
     let if2 = c .if2 in
     let n = length (args .seq .now) in
-    let done = c .before .before .before .before .write-walk .ensures .ended (c .before .if1 .left) in
-    (omega (arith, done .0, if2 .left), no-rest (n / 3) (n % 3) _ _ (done .1) (if2 .left))
+    let write-walk = c .before .before .before .before .write-walk in
+    let done = write-walk .ensures .0 .ended (c .before .if1 .left) in
+    (omega (arith, done .0, if2 .left), (no-rest (n / 3) (n % 3) _ _ (done .1) (if2 .left), looked-end (args .table) (exceptionList (args .e)) (args .seq .now) (write-walk .result .stop) (write-walk .result .looked) (write-walk .ensures .1) (c .before .if1 .left) (done .0)))
 
 pub write-through-stop-spec : {M : Type 1} → statement M
 write-through-stop-spec =
