@@ -46,9 +46,11 @@
  *   Letters are IUPAC's for bases and sets of bases, ACGTRYSWKMBDHVN, in upper case but for garumbott_translate. Letters and residues are bytes of
  *     ASCII. A stop is '*', a residue that is D or N 'B', one that is E or Q 'Z', any other that isn't known 'X'.
  *   Versions. Later versions add members at the ends of the structs; 0 in a new member means what is done today. The functions over slices and numbers
- *     gain parameters; those over structs keep theirs. New in 2.0.0: cds_end in garumbott_record and garumbott_edit, behind exceptions_len,
- *     garumbott_check, and codons in struct garumbott_answer. Other answers than in 1: a copy of the first residues is a duplication, and a
- *     codon of D and N, or of E and Q, is 'B' or 'Z'. The archive can't tell which header its caller was compiled with: compile all of a host
+ *     gain parameters; those over structs keep theirs. New in 2.0.0: the end of a CDS (cds_end in garumbott_record and garumbott_edit, behind
+ *     exceptions_len; end in struct garumbott_reference and struct garumbott_stored; tag 8 of stored references; refusal 28), with R's room rounded
+ *     up for a cut codon; garumbott_check, with refusals 26 and 27; codons in struct garumbott_answer. Other answers than in 1: a copy of the first
+ *     residues is a duplication, and a codon whose plain codons give exactly D and N, or exactly E and Q, is 'B' or 'Z' in R and A, where it was
+ *     'X': a record kept with that 'X' no longer replays. The archive can't tell which header its caller was compiled with: compile all of a host
  *     with the header that came with the archive, and anew whenever they change.
  *
  * The archive is compiled for Linux on x86-64 (System V calling convention). It wants memcpy and memset of the C library and nothing else,
@@ -183,7 +185,8 @@ struct garumbott_answer {
     uint64_t reference_len;
     uint64_t altered_len;
     uint64_t change;       /* GARUMBOTT_CHANGE_.., or 0 */
-    uint64_t number;       /* of the first residue that changes; silent: of the edited codon, or the one behind a duplication, within R */
+    uint64_t number;       /* of the first residue that changes; silent: of the edited codon, or the one behind a duplication, within R, where a
+                            * star's number counts as a base's */
     uint64_t deleted_at;   /* the residues of R that go: R[deleted_at] .. R[deleted_at + deleted_len - 1] */
     uint64_t deleted_len;  /* may be 0 */
     uint64_t inserted_at;  /* the residues of A that come: A[inserted_at] .. A[inserted_at + inserted_len - 1] */
@@ -260,20 +263,22 @@ struct garumbott_stored {
  *     they have behind it is dropped, and such an edit is no frameshift. So the transcript may be shorter than you would count.
  *   The frameshift flag is set where the change of length, before that, isn't divisible by 3, and where a deletion or delins goes on from the CDS
  *     to behind it; never where the bases are put back as they were, nor in an inversion or an identity.
- *   R has a residue for each codon of the CDS, and 'X' for a cut one. In a CDS that is cut short R may be the beginning of A: number is then R's
- *     length plus one, deleted_at lies behind R's last residue, nothing is deleted, and the class isn't extension. A change in a cut codon is silent: X stays
- *     X, though a base changed, and the flag may be set.
+ *   R has a residue for each codon of the CDS, and 'X' for a cut one. In a CDS that is cut short R may be the beginning of A: number is
+ *     then R's length plus one, deleted_at lies behind R's last residue, nothing is deleted, and the class isn't extension. A change that
+ *     leaves one or two bases there is silent, X stays X, though a base changed, and the flag may be set.
  *   A is read from base 1 of the CDS through the first '*', to the transcript's end where there is none, with 'X' for one or two bases that are
  *     left. An exception stays with its codon where the edit leaves that codon as it was and in frame, and is dropped otherwise.
- *   A codon that the edit leaves alone isn't looked up in the table again: its residue is taken from R. It lies wholly before the edit, or wholly behind it and is, in the
- *     reference, a codon of the CDS in its frame. The edit is its range, whether its bases change or not, and in an insertion or a duplication the gap where bases go
- *     in; an identity leaves every codon of the CDS alone. With exceptions none is left alone. The answer's codons are the others: the whole codons, up to and with A's
- *     stop, that were looked up. They tell what the edit cost, not what it changed: for a substitution in the CDS, without exceptions, 1 at most, unless R's final
- *     stop changes. In the example above 1 of A's five codons is looked up. "4=" has 0, "4_6dup" 1, "10_12del" 0, "5del" 5 (behind a frameshift all are), "13T>C" 3
- *     (A goes on behind the CDS).
+ *   A codon that the edit leaves alone isn't looked up in the table again: its residue is taken from R. It lies wholly before the edit, or
+ *     wholly behind it and is, in the reference, a codon of the CDS in its frame. The edit is its range, whether its bases change or not,
+ *     and in an insertion or a duplication the gap where bases go in; an identity leaves every codon of the CDS alone. With exceptions none
+ *     is left alone. The answer's codons are the others: the whole codons, up to and with A's stop, that were looked up. They tell what the
+ *     edit cost beside R, which each call reads anew, and not what it changed: for a substitution in the CDS, without exceptions, 1 at
+ *     most, unless R's final stop changes. What is read of the new bases to find a stop isn't counted. In the example above 1 of A's five
+ *     codons is looked up. "4=" has 0, "4_6dup" 1, "10_12del" 0, "5del" 5 (behind a frameshift all are), "13T>C" 3 (A goes on behind the
+ *     CDS).
  *
- * Refusals 1 to 12, the lowest that applies, 28 in 6's place where the CDS doesn't end at a stop; but Unknown is decided before 11, so that it needs no room. Refused and Unknown write nothing;
- * every other answer writes all three buffers. */
+ * Refusals 1 to 12, the lowest that applies, 28 in 6's place where the CDS doesn't end at a stop; but Unknown is decided before 11, so that
+ * it needs no room. Refused and Unknown write nothing; every other answer writes all three buffers. */
 struct garumbott_answer garumbott_record(const uint8_t *letters, uint64_t letters_len, uint64_t cs, uint64_t ce, uint64_t table,
                                          const uint8_t *exceptions, uint64_t exceptions_len, uint64_t cds_end, uint64_t kind,
                                          uint64_t start_star, int64_t start, uint64_t end_star, int64_t end, const uint8_t *bases,
@@ -293,6 +298,7 @@ struct garumbott_answer garumbott_edit(const uint8_t *letters, uint64_t letters_
  *                                length plus one, which is behind R's last residue (27)
  *   deleted, deleted_len         the residues that go, each 'A' to 'Z' or '*', upper case; none: length 0 (27)
  *   inserted, inserted_len       the residues that come, likewise (27). Neither has a longest length
+ * Neither may lie in a buffer that this call writes: to check a record that stands there, lend other buffers, or copy the residues first.
  *
  * What the answers mean, whoever proposed the record:
  *   replays    Yes says exactly this: the deleted residues stand in R at that number, so that R[number - 1] .. R[number + deleted_len - 2] are these, and R
