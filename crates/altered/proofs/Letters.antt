@@ -22,7 +22,7 @@ use Rattle.rules.proofs.Parts.{letters-part}
 use Rattle.rules.proofs.Refusal.{reference-accepted}
 use Rattle.rules.proofs.Span.{span}
 use Rattle.rules.proofs.Altered.{altered-length, longestAltered, altered-fits}
-use Rattle.codons.proofs.Sets.{letter-some}
+use Rattle.letters.proofs.Sets.{letter-some}
 use Rattle.edits.specs.declared.plans.Plan.{Plan}
 use Rattle.edits.specs.declared.plans.Source.{Source}
 use Rattle.edits.specs.declared.plans.Source.the-variants.{New, Copy, Turned}

@@ -1,12 +1,12 @@
 // The altered transcript read over its plan, without writing it.
-use codons::letters::letter_set;
 use codons::reader::read_codon;
 use edits::plans::Plan;
 use edits::plans::Source;
+use excepted::excepted_at;
 use exceptions::moved_all;
+use letters::letter_set;
 use numbers::least;
 use rules::Exceptions;
-use translation::excepted_at;
 ghost use mathlib.Core.Path.{_≡_};
 ghost use Prim.Native.Nat.{_+_, _*_, _≤_, _<_};
 ghost use lib.ListN.{length, getD};

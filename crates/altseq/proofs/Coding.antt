@@ -16,9 +16,10 @@ use Rattle.rules.specs.Protein.{proteinOf}
 use Rattle.rules.specs.Views.{referenceOf}
 use Rattle.rules.proofs.Tests.{and-left, and-right, all-drop}
 use Rattle.rules.proofs.Over.{tail-is}
-use Rattle.codons.specs.Tables.{isBase}
-use Rattle.translation.specs.Residues.{Walks, codonsWalked}
-use Rattle.translation.proofs.Strict.{strict-letters, strict-translated, whole-bases, bases-fold}
+use Rattle.letters.specs.Sets.{isBase}
+use Rattle.places.specs.Looked.{Walks}
+use Rattle.walks.specs.Walks.{codonsWalked}
+use Rattle.places.proofs.Strict.{strict-letters, strict-translated, whole-bases, bases-fold}
 use Rattle.reference.specs.declared.Known.{Known}
 use Rattle.exceptions.proofs.Moving.{moved-is}
 use Rattle.altseq.specs.Carried.{Codes}

@@ -24,9 +24,10 @@ use Rattle.rules.proofs.Span.{span}
 use Rattle.rules.proofs.Kept.{nothing}
 use Rattle.rules.proofs.Pieces.{known-once}
 use Rattle.rules.proofs.Altered.{altered-length, altered-fits}
-use Rattle.codons.specs.Tables.{isBase}
-use Rattle.translation.specs.Residues.{Walks, codonsWalked}
-use Rattle.translation.proofs.Strict.{strict-letters, whole-bases, bases-fold}
+use Rattle.letters.specs.Sets.{isBase}
+use Rattle.places.specs.Looked.{Walks}
+use Rattle.walks.specs.Walks.{codonsWalked}
+use Rattle.places.proofs.Strict.{strict-letters, whole-bases, bases-fold}
 use Rattle.reference.specs.declared.Known.{Known}
 use Rattle.reference.specs.Bounds.{Bounded}
 use Rattle.edits.specs.declared.plans.Plan.{Plan}

@@ -35,8 +35,8 @@ use Rattle.rules.proofs.Kept.{nothing, cut-span}
 use Rattle.rules.proofs.Pieces.{reads-if, resumes-if, pieces-fit, length-middle, pieces-read, pieces-stopped, pieces-resumed, known-once}
 use Rattle.rules.proofs.Looked.{looked-read, looked-middle, excepted-looks}
 use Rattle.rules.proofs.Altered.{altered-length, altered-letters}
-use Rattle.translation.specs.Residues.{codonsWalked}
-use Rattle.translation.proofs.Strict.{strict-translated}
+use Rattle.walks.specs.Walks.{codonsWalked}
+use Rattle.places.proofs.Strict.{strict-translated}
 use Rattle.edits.specs.declared.plans.Plan.{Plan}
 use Rattle.edits.specs.Plans.{sourceOf, planOf}
 use Rattle.transcript.proofs.Transcripts.{carried-by-is}

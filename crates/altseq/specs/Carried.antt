@@ -18,8 +18,8 @@ use Rattle.rules.specs.Protein.{proteinOf}
 use Rattle.rules.specs.Record.{isUnknown, recordFrom}
 use Rattle.rules.specs.Refusal.{refusal}
 use Rattle.rules.specs.Views.{cdsOf, bare, asked, referenceOf}
-use Rattle.codons.specs.Tables.{isBase}
-use Rattle.translation.specs.Residues.{codonsWalked}
+use Rattle.letters.specs.Sets.{isBase}
+use Rattle.walks.specs.Walks.{codonsWalked}
 use Rattle.reference.specs.declared.Known.{Known}
 use Rattle.reference.specs.Bounds.{Sound}
 use Rattle.reference.specs.Known.{Knows}

@@ -10,7 +10,7 @@ use lib.Seq.{length-take-le, take-length}
 use Rattle.rules.proofs.Over.{tail-is}
 use Rattle.text_answers.specs.Stage.{Stage, isEnded}
 use Rattle.text_lines.specs.declared.State.{State}
-use Rattle.text_lines.specs.Steps.{after, Steps}
+use Rattle.text_gather.specs.Steps.{after, Steps}
 use Rattle.text_lines.specs.Memory.{fresh, stageOf, Rooms, Keeps}
 use Rattle.text_lines.proofs.Turns.{row-reached}
 use Rattle.text_lines.proofs.Room.{takes-some}

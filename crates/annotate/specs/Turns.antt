@@ -6,7 +6,7 @@ use mathlib.Core.List.{List}
 use lib.Dec.{eqb, ltb}
 use lib.ListN.{length, getD}
 use Rattle.text_answers.specs.Stage.{Stage, opening, editing, ended, isEnded}
-use Rattle.text_lines.specs.Steps.{after}
+use Rattle.text_gather.specs.Steps.{after}
 use Rattle.annotate.specs.declared.Next.{Next}
 use Rattle.annotate.specs.declared.Next.the-variants.{Read, Finish, Stop, Unread, Unwritten}
 

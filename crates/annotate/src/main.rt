@@ -23,7 +23,7 @@ ghost use mathlib.Core.List.{List};
 ghost use Prim.Native.Nat.{ℕ, _≤_};
 ghost use lib.ListN.{length, take};
 ghost use Rattle.text_answers.specs.Stage.{isEnded};
-ghost use Rattle.text_lines.specs.Steps.{after, Steps};
+ghost use Rattle.text_gather.specs.Steps.{after, Steps};
 ghost use Rattle.text_lines.specs.Memory.{stageOf, Rooms, Keeps};
 ghost use Rattle.annotate.specs.Turns.{pieceRoom, nextBy, isRead, Turned};
 

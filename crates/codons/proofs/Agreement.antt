@@ -10,8 +10,9 @@ use borrow.Author.Tests.{eqb-true, eqb-false}
 use Rattle.rules.specs.Bytes.{byte, if_then_else_}
 use Rattle.rules.specs.Codons.{residueX, geneticCode, plainCodon, withBase, basesOf, forEach, residues, allAre, isAmong, noThird, mixed, agreed, codonRule}
 use Rattle.codons.specs.Expansion.{expanded, mixedWith, joinedAll}
-use Rattle.codons.specs.Tables.{HoldsPlain, baseSet}
-use Rattle.codons.proofs.Sets.{and-left, and-right}
+use Rattle.codons.specs.Tables.{HoldsPlain}
+use Rattle.letters.specs.Sets.{baseSet}
+use Rattle.letters.proofs.Sets.{and-left, and-right}
 
 each-same : (is : List ℕ) (f g : ℕ → List ℕ) → ((i : ℕ) → f i ≡ g i) → forEach is f ≡ forEach is g
 each-same [] f g same = refl

@@ -1,9 +1,5 @@
--- Laws of letters and tables, which the functions' proofs and the crates above cite.
-pub mod Listed
-pub mod Loops
-pub mod Sets
-pub mod Partners
-pub mod Rowed
+-- Laws of codons and tables, which the functions' proofs and the crates above cite.
+pub mod Plain
 pub mod Expanded
 pub mod Agreement
 pub mod Single

@@ -6,11 +6,7 @@ use Prim.Native.Nat.{ℕ, _+_, _*_, _/_, _%_, _<_}
 use native.Mathlib.Omega.{arith}
 use lib.ListN.{length, getD}
 use lib.Seq.{ext-getD}
-use Rattle.codons.specs.Tables.{HoldsSets, HoldsCode, HoldsPlain, HoldsComplements}
-use Rattle.codons.specs.Rows.{HoldsLetters}
-
-pub sets-once : (read : ℕ → ℕ) (xs ys : List ℕ) → length xs ≡ 256 → length ys ≡ 256 → HoldsSets read xs → HoldsSets read ys → xs ≡ ys
-sets-once read xs ys n m h k = ext-getD 0 xs ys (n ∙ sym m) (λ i l. h .entry i (omega arith) ∙ sym (k .entry i (omega arith)))
+use Rattle.codons.specs.Tables.{HoldsCode, HoldsPlain}
 
 pub code-once : (t : ℕ) (xs ys : List ℕ) → length xs ≡ 4096 → length ys ≡ 4096 → HoldsCode t xs → HoldsCode t ys → xs ≡ ys
 code-once t xs ys n m h k =
@@ -22,16 +18,6 @@ code-once t xs ys n m h k =
     ∙ sym (k .entry (i / 256) (i / 16 % 16) (i % 16) (omega arith) (omega arith) (omega arith))
     ∙ ap (λ (j : ℕ). getD ys j 0) place)
 
-pub letters-once : (t : ℕ) (xs ys : List ℕ) → length xs ≡ 4096 → length ys ≡ 4096 → HoldsLetters t xs → HoldsLetters t ys → xs ≡ ys
-letters-once t xs ys n m h k =
-    ext-getD 0 xs ys (n ∙ sym m)
-    (λ i l.
-    let place : i / 256 * 256 + i / 16 % 16 * 16 + i % 16 ≡ i = omega arith in
-    ap (λ (j : ℕ). getD xs j 0) (sym place)
-    ∙ h .entry (i / 16 % 16) (i % 16) (i / 256) (omega arith) (omega arith) (omega arith)
-    ∙ sym (k .entry (i / 16 % 16) (i % 16) (i / 256) (omega arith) (omega arith) (omega arith))
-    ∙ ap (λ (j : ℕ). getD ys j 0) place)
-
 pub plain-once : (t : ℕ) (xs ys : List ℕ) → length xs ≡ 64 → length ys ≡ 64 → HoldsPlain t xs → HoldsPlain t ys → xs ≡ ys
 plain-once t xs ys n m h k =
     ext-getD 0 xs ys (n ∙ sym m)
@@ -41,6 +27,3 @@ plain-once t xs ys n m h k =
     ∙ h .entry (i / 16) (i / 4 % 4) (i % 4) (omega arith) (omega arith) (omega arith)
     ∙ sym (k .entry (i / 16) (i / 4 % 4) (i % 4) (omega arith) (omega arith) (omega arith))
     ∙ ap (λ (j : ℕ). getD ys j 0) place)
-
-pub complements-once : (xs ys : List ℕ) → length xs ≡ 32 → length ys ≡ 32 → HoldsComplements xs → HoldsComplements ys → xs ≡ ys
-complements-once xs ys n m h k = ext-getD 0 xs ys (n ∙ sym m) (λ i l. h .entry i (omega arith) ∙ sym (k .entry i (omega arith)))

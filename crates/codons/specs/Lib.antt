@@ -1,4 +1,3 @@
--- What the crate's tables hold, and what its reader expands and joins, over the definitions of `rules`.
+-- What tables of residues hold, and what the plain codon reader expands and joins, over the definitions of `rules`.
 pub mod Tables
-pub mod Rows
 pub mod Expansion

@@ -1,8 +1,3 @@
-// Letters as sets of bases, their complements, and the residue of a codon of three sets in each of the three tables.
-//
-// A table is loaded once, by the function that returns it, and lent from there: a constant that is indexed in a loop is laid out anew at each use.
-pub mod complement;
-pub mod letters;
+// The residue of a codon of three letter sets: by the plain codons that its letters stand for, and in a table that is lent.
 pub mod reader;
-pub mod rows;
 pub mod tables;

@@ -20,10 +20,10 @@ use Rattle.rules.proofs.Lists.{all-at}
 use Rattle.rules.proofs.Translation.{length-translated}
 use Rattle.rules.proofs.Reading.{stop-found, no-stop}
 use Rattle.rules.proofs.Tests.{all-take, all-drop}
-use Rattle.codons.specs.Tables.{isBase}
-use Rattle.codons.proofs.Sets.{letter-some}
-use Rattle.translation.specs.Residues.{Reads}
-use Rattle.translation.proofs.Strict.{strict-letters, strict-whole, whole-bases, bases-fold}
+use Rattle.letters.specs.Sets.{isBase}
+use Rattle.letters.proofs.Sets.{letter-some}
+use Rattle.places.specs.Looked.{Reads}
+use Rattle.places.proofs.Strict.{strict-letters, strict-whole, whole-bases, bases-fold}
 use Rattle.edits.specs.declared.cut.Cut.{Cut}
 use Rattle.edits.specs.Cuts.{cutOf, Cuts}
 

@@ -34,7 +34,7 @@ use Rattle.rules.specs.Views.{cdsOf, bare, asked}
 use Rattle.reference.specs.declared.Known.{Known}
 use Rattle.reference.specs.Bounds.{Sound}
 use Rattle.reference.specs.Known.{Checks}
-use Rattle.codons.specs.Tables.{isBase}
+use Rattle.letters.specs.Sets.{isBase}
 use Rattle.edits.specs.Cuts.{cutOf, Cuts}
 use Rattle.edits.specs.Plans.{sourceOf, planOf, sourceBytes, goesIn, Planned, Ranges, Replaces, Inserts, Keeps}
 use Rattle.edits.proofs.Cuts.{cut-le, cuts-part}

@@ -7,7 +7,7 @@ use lib.ListN.{length}
 use Rattle.rules.specs.Bytes.{all}
 use Rattle.rules.specs.Letters.{isLetter}
 use Rattle.rules.specs.Altered.{hasStop, cutAtStop}
-use Rattle.codons.specs.Tables.{isBase}
+use Rattle.letters.specs.Sets.{isBase}
 use Rattle.edits.specs.declared.cut.Cut.{Cut}
 
 -- the stop cut behind so many letters N: whether a `*` appears, and how many of the bytes stay

@@ -1,9 +1,9 @@
 // The stop cut: what goes in ends with its first stop codon.
-use codons::letters::letter_set;
 use codons::reader::read_codon;
+use letters::letter_set;
 use rules::Exception;
 use rules::Exceptions;
-use translation::first_stop;
+use walks::first_stop;
 ghost use Prim.Native.Nat.{_+_, _<_, _≤_};
 ghost use mathlib.Core.Path.{_≡_};
 ghost use mathlib.Core.Bool.{true};

@@ -23,8 +23,8 @@ use Rattle.rules.specs.Check.{Proposal, checksNothing, checkBy, checkOutcome}
 use Rattle.rules.specs.Answer.{outcome}
 use Rattle.rules.specs.Stored.{exceptionsIn}
 use Rattle.rules.proofs.Answers.{refused-by}
-use Rattle.stored.specs.Held.{exceptionsOf}
-use Rattle.stored.proofs.Held.{list-few, list-length, list-uneven}
+use Rattle.stored_fields.specs.Held.{exceptionsOf}
+use Rattle.stored_fields.proofs.Held.{list-few, list-length, list-uneven}
 use Rattle.rules.specs.declared.Cds.{Cds}
 use Rattle.garumbott.specs.Host.{exceptionsAt}
 use Rattle.altseq.specs.Transcribing.{edited}

@@ -6,10 +6,10 @@ use Rattle.rules.specs.Bytes.{Result, given, refused}
 use Rattle.rules.specs.Reference.{Reference}
 use Rattle.rules.specs.Refusal.{limits}
 use Rattle.rules.specs.Stored.{storedReference}
-use Rattle.stored.specs.declared.places.StoredAt.{StoredAt}
-use Rattle.stored.specs.declared.places.Stored.{Stored}
-use Rattle.stored.specs.declared.places.Stored.the-variants.{Refused, At}
-use Rattle.stored.specs.Reading.{toldReference, Reads}
+use Rattle.stored_fields.specs.declared.places.StoredAt.{StoredAt}
+use Rattle.stored_fields.specs.declared.places.Stored.{Stored}
+use Rattle.stored_fields.specs.declared.places.Stored.the-variants.{Refused, At}
+use Rattle.stored_fields.specs.Reading.{toldReference, Reads}
 use Rattle.garumbott.specs.Keeping.{refusedNumbers, placedNumbers, numbersBy, storedNumbers}
 
 module _ (s : List ℕ) (x : Stored) (reads : Reads s (storedReference (limits .longest) s) x) where

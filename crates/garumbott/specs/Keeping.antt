@@ -8,7 +8,7 @@ use Rattle.rules.specs.Refusal.{limits}
 use Rattle.rules.specs.Stored.{storedReference}
 use Rattle.rules.specs.Views.{cdsOf}
 use Rattle.fields.specs.Places.{contentAt, partOrEmpty}
-use Rattle.stored.specs.declared.places.StoredAt.{StoredAt}
+use Rattle.stored_fields.specs.declared.places.StoredAt.{StoredAt}
 use Rattle.garumbott.specs.declared.reading.GarumbottStored.{GarumbottStored}
 
 abbrev pub refusedNumbers : ℕ → GarumbottStored

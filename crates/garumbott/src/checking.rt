@@ -5,7 +5,7 @@ use crate::numbers::checked_of;
 use crate::numbers::edit_at;
 use checks::Question;
 use checks::check_altseq;
-use stored::exceptions_in;
+use stored_fields::exceptions_in;
 ghost use mathlib.Core.Path.{_≡_};
 ghost use Rattle.rules.specs.Refusal.{limits};
 ghost use Rattle.rules.specs.Check.{checkOutcome};

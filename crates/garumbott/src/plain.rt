@@ -2,7 +2,7 @@
 use crate::numbers::GarumbottLength;
 use crate::numbers::length_of;
 use crate::numbers::wide;
-use stored::exceptions_in;
+use stored_fields::exceptions_in;
 use translation::translate_cds;
 use translation::translate_cds_with_exceptions;
 ghost use mathlib.Core.Path.{_≡_};

@@ -1,7 +1,7 @@
 // Stored references.
-use stored::Stored;
-use stored::StoredAt;
 use stored::read_stored;
+use stored_fields::Stored;
+use stored_fields::StoredAt;
 ghost use mathlib.Core.Path.{_≡_};
 ghost use Rattle.garumbott.specs.Keeping.{placedNumbers, refusedNumbers, storedNumbers};
 

@@ -6,7 +6,7 @@ use crate::numbers::edit_at;
 use crate::numbers::transcribed_of;
 use altseq::build_altseq;
 use altseq::build_transcript;
-use stored::exceptions_in;
+use stored_fields::exceptions_in;
 ghost use mathlib.Core.Path.{_≡_};
 ghost use lib.ListN.{length};
 ghost use Rattle.rules.specs.Bytes.{over};

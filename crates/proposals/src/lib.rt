@@ -1,5 +1,5 @@
 // "Check records from older annotators": a proposed record's form, and its two answers over two proteins, R and A.
-use codons::letters::is_residue;
+use letters::is_residue;
 use numbers::least;
 use sequences::common_prefix_len;
 use sequences::common_suffix_len;

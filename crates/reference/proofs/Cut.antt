@@ -19,7 +19,7 @@ use Rattle.rules.proofs.Tests.{all-take}
 use Rattle.rules.proofs.Translation.{length-translated}
 use Rattle.rules.proofs.Reading.{restOf, length-whole, whole-and-rest}
 use Rattle.rules.proofs.Reference.{length-cds}
-use Rattle.translation.proofs.Strict.{strict-translated}
+use Rattle.places.proofs.Strict.{strict-translated}
 use Rattle.reference.specs.Known.{endRefusal, Readable}
 use Rattle.reference.proofs.Stops.{count-append}
 use Rattle.reference.proofs.Reading.{cds-part, part-letters}

@@ -19,7 +19,7 @@ use Rattle.rules.specs.Refusal.{referenceRefusal}
 use Rattle.rules.specs.Views.{bare, referenceOf}
 use Rattle.rules.proofs.Tests.{and-right, first-clear, first-behind, first-before}
 use Rattle.rules.proofs.Reference.{bounds-of}
-use Rattle.codons.specs.Tables.{isBase}
+use Rattle.letters.specs.Sets.{isBase}
 use Rattle.reference.specs.declared.Judged.{Judged}
 use Rattle.reference.specs.declared.Judged.the-variants.{Refused, Clear}
 use Rattle.reference.specs.Known.{earlyRefusal, endRefusal, judgedBy, judgedOf, Readable}

@@ -17,7 +17,7 @@ use Rattle.rules.specs.Reference.{atStop, size, cdsSize, cds, codons, reference
 use Rattle.rules.proofs.Lists.{all-at}
 use Rattle.rules.proofs.Reading.{residue-at}
 use Rattle.rules.proofs.Reference.{length-cds, whole-codons}
-use Rattle.codons.proofs.Sets.{letter-some}
+use Rattle.letters.proofs.Sets.{letter-some}
 use Rattle.rules.specs.declared.Cds.{Cds}
 use Rattle.rules.specs.Views.{referenceOf}
 use Rattle.reference.specs.Known.{Readable}

@@ -19,9 +19,10 @@ use Rattle.rules.proofs.Tests.{and-left, all-take, all-drop}
 use Rattle.rules.proofs.Over.{length-over, read-back}
 use Rattle.rules.proofs.Translation.{length-exceptions}
 use Rattle.rules.proofs.Reference.{length-cds, length-protein}
-use Rattle.codons.specs.Tables.{isBase}
-use Rattle.translation.specs.Residues.{foldToBases, Reads, Walks}
-use Rattle.translation.proofs.Strict.{strict-letters, strict-translated, whole-bases, bases-fold}
+use Rattle.letters.specs.Sets.{isBase}
+use Rattle.places.specs.Places.{foldToBases}
+use Rattle.places.specs.Looked.{Reads, Walks}
+use Rattle.places.proofs.Strict.{strict-letters, strict-translated, whole-bases, bases-fold}
 use Rattle.reference.specs.declared.Known.{Known}
 use Rattle.reference.specs.Known.{knownOf, Readable}
 use Rattle.reference.proofs.Testing.{size-of}

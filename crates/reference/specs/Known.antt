@@ -14,7 +14,7 @@ use Rattle.rules.specs.Translation.{isResidue, residueCount}
 use Rattle.rules.specs.Reference.{Reference, cdsSize, fitExceptions, referenceProtein, referenceTests}
 use Rattle.rules.specs.Refusal.{referenceRefusal}
 use Rattle.rules.specs.Views.{bare, referenceOf}
-use Rattle.codons.specs.Tables.{isBase}
+use Rattle.letters.specs.Sets.{isBase}
 use Rattle.reference.specs.declared.Known.{Known}
 use Rattle.reference.specs.declared.Judged.{Judged}
 use Rattle.reference.specs.declared.Judged.the-variants as judged

@@ -15,7 +15,7 @@ ghost use Rattle.rules.specs.Bytes.{byte, all, count, over};
 ghost use Rattle.rules.specs.Translation.{residueCount};
 ghost use Rattle.rules.specs.Reference.{cdsSize, referenceProtein};
 ghost use Rattle.rules.specs.Views.{bare, referenceOf};
-ghost use Rattle.codons.specs.Tables.{isBase};
+ghost use Rattle.letters.specs.Sets.{isBase};
 ghost use Rattle.reference.specs.Known.{knownOf, Readable};
 
 // 1 for a stop, else 0.

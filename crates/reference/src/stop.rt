@@ -1,18 +1,18 @@
 // Refusal 6, by the last CDS codon alone, or 28, by a search for a stop, and so all of a reference's refusals without a buffer for R.
 use crate::Judged;
 use crate::tests::early_refusal;
-use codons::letters::letter_set;
 use codons::reader::read_codon;
+use excepted::excepted_at;
+use letters::letter_set;
 use rules::Cds;
 use rules::Exceptions;
-use translation::excepted_at;
-use translation::first_stop;
+use walks::first_stop;
 ghost use mathlib.Core.Path.{_≡_};
 ghost use Prim.Native.Nat.{_<_};
 ghost use Rattle.rules.specs.Bytes.{all};
 ghost use Rattle.rules.specs.Reference.{atStop, isShortEnd, endsInStop, isCutShort};
 ghost use Rattle.rules.specs.Views.{referenceOf};
-ghost use Rattle.codons.specs.Tables.{isBase};
+ghost use Rattle.letters.specs.Sets.{isBase};
 ghost use Rattle.reference.specs.Known.{endRefusal, judgedOf, Readable};
 
 // Whether the last CDS codon, exceptions applied, reads `*`, where none of 1 to 5 applies and the CDS ends at a stop.

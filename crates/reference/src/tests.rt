@@ -1,6 +1,6 @@
 // Refusals 1 to 5: what is judged of a reference before a codon is read.
 use crate::Judged;
-use codons::letters::is_residue;
+use letters::is_residue;
 use rules::Cds;
 use rules::Exception;
 use rules::Exceptions;
@@ -15,7 +15,7 @@ ghost use Rattle.rules.specs.Letters.{isLetter};
 ghost use Rattle.rules.specs.Translation.{exceptionList};
 ghost use Rattle.rules.specs.Reference.{fitsEnd, areBounds, areRising};
 ghost use Rattle.rules.specs.Views.{bare};
-ghost use Rattle.codons.specs.Tables.{isBase};
+ghost use Rattle.letters.specs.Sets.{isBase};
 ghost use Rattle.reference.specs.Known.{isException, earlyOf};
 
 // Divisible by 3; for a cut codon not.

@@ -11,7 +11,7 @@ use Rattle.rules.specs.Bytes.{byte, if_then_else_}
 use Rattle.rules.specs.Translation.{exceptionList, beforeStop, throughStop, foldedTranslated}
 use Rattle.rules.specs.Reference.{atStop}
 use Rattle.rules.specs.Altered.{part}
-use Rattle.translation.specs.Residues.{Walks}
+use Rattle.places.specs.Looked.{Walks}
 use Rattle.edits.specs.declared.plans.Plan.{Plan}
 use Rattle.edits.specs.declared.plans.Source.{Source}
 use Rattle.edits.specs.declared.plans.Source.the-variants.{New, Copy, Turned}

@@ -1,14 +1,14 @@
 // A in three pieces: residues of R, residues that are read, residues of R.
 use crate::pieces::Pieces;
 use rules::Exceptions;
-use translation::write_through_stop;
+use walks::write_through_stop;
 ghost use mathlib.Core.Path.{_≡_};
 ghost use mathlib.Core.List.{[]};
 ghost use Prim.Native.Nat.{_+_};
 ghost use lib.ListN.{length, drop};
 ghost use Rattle.rules.specs.Bytes.{over};
 ghost use Rattle.rules.specs.Translation.{foldedTranslated};
-ghost use Rattle.translation.specs.Residues.{codonsWalked};
+ghost use Rattle.walks.specs.Walks.{codonsWalked};
 ghost use Rattle.reuse.specs.Reusing.{endsInStop, resumed, behindOf, Resumes, reusedBy, Reuses, readBy};
 
 // How many residues were written, how many codons were looked up, and how many of R's residues stand behind what was read.

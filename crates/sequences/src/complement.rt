@@ -1,7 +1,7 @@
 // The reverse complement of letters.
-use codons::complement::complement_of;
-use codons::complement::complements;
-use codons::letters::is_letter;
+use letters::complement::complement_of;
+use letters::complement::complements;
+use letters::is_letter;
 use rules::Written;
 ghost use mathlib.Core.Path.{_≡_};
 ghost use mathlib.Core.Bool.{true};
@@ -11,7 +11,7 @@ ghost use Rattle.rules.specs.Bytes.{all, over};
 ghost use Rattle.rules.specs.Letters.{isLetter};
 ghost use Rattle.rules.specs.Complement.{reverseComplement, complemented};
 ghost use Rattle.rules.specs.Answer.{writtenOf, bytesOf};
-ghost use Rattle.codons.specs.Tables.{HoldsComplements};
+ghost use Rattle.letters.specs.Sets.{HoldsComplements};
 
 // Whether each byte is one of the fifteen letters. No byte ends the loop early, so that it goes many at a time.
 pub fn all_letters(seq: &[u8]) -> bool

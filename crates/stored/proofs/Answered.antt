@@ -24,12 +24,12 @@ use Rattle.rules.proofs.Answers.{refused-by, Alike, single}
 use Rattle.altseq.proofs.Answering.{writes-nothing}
 use Rattle.altseq.proofs.Promised as promised
 use Rattle.altseq.proofs.Promised.{Replays}
-use Rattle.stored.specs.declared.places.StoredAt.{StoredAt}
-use Rattle.stored.specs.declared.places.Stored.{Stored}
-use Rattle.stored.specs.declared.places.Stored.the-variants.{At}
-use Rattle.stored.specs.Held.{exceptionsOf}
+use Rattle.stored_fields.specs.declared.places.StoredAt.{StoredAt}
+use Rattle.stored_fields.specs.declared.places.Stored.{Stored}
+use Rattle.stored_fields.specs.declared.places.Stored.the-variants.{At}
+use Rattle.stored_fields.specs.Held.{exceptionsOf}
 use Rattle.stored.specs.Outcomes.{outcomeOf}
-use Rattle.stored.specs.Reading.{placedReference, Placed, Reads}
+use Rattle.stored_fields.specs.Reading.{placedReference, Placed, Reads}
 use Rattle.stored.proofs.Judged.{takenAt, taken-refusal, taken-same, taken, is-checked}
 
 pub refuses : (m : Limits) (x : Result Reference) (a : Asked) (room : Room) (t p q : List ℕ) (n : ℕ) → x ≡ refused n

@@ -19,18 +19,18 @@ use Rattle.rules.specs.Refusal.{referenceRefusal}
 use Rattle.rules.specs.Stored.{referenceForm, fields, exceptionsIn, assembledIn, checked, storedReference}
 use Rattle.rules.specs.Views.{referenceOf}
 use Rattle.rules.proofs.Reference.{accepted}
-use Rattle.codons.specs.Tables.{isBase}
+use Rattle.letters.specs.Sets.{isBase}
 use Rattle.reference.specs.declared.Judged.{Judged}
 use Rattle.reference.specs.declared.Judged.the-variants as judged
 use Rattle.reference.specs.Known.{judgedOf}
 use Rattle.reference.proofs.Judging.{was-refused, was-clear}
 use Rattle.fields.proofs.Places.{length-of-part}
-use Rattle.stored.specs.declared.places.StoredAt.{StoredAt}
-use Rattle.stored.specs.declared.places.Stored.{Stored}
-use Rattle.stored.specs.declared.places.Stored.the-variants.{Refused, At}
-use Rattle.stored.specs.Held.{exceptionsOf}
-use Rattle.stored.specs.Reading.{placedReference, toldReference, Placed, Reads}
-use Rattle.stored.proofs.Held.{list-few, list-length}
+use Rattle.stored_fields.specs.declared.places.StoredAt.{StoredAt}
+use Rattle.stored_fields.specs.declared.places.Stored.{Stored}
+use Rattle.stored_fields.specs.declared.places.Stored.the-variants.{Refused, At}
+use Rattle.stored_fields.specs.Held.{exceptionsOf}
+use Rattle.stored_fields.specs.Reading.{placedReference, toldReference, Placed, Reads}
+use Rattle.stored_fields.proofs.Held.{list-few, list-length}
 
 -- a reference with other exceptions
 abbrev withExceptions : List ℕ → Cds → List Exception → Reference

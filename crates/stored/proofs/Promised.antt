@@ -8,11 +8,11 @@ use native.Mathlib.Omega.{arith}
 use Rattle.rules.specs.Bytes.{Result, given, refused}
 use Rattle.rules.specs.Reference.{Reference}
 use Rattle.rules.specs.Stored.{storedReference}
-use Rattle.stored.specs.declared.places.StoredAt.{StoredAt}
-use Rattle.stored.specs.declared.places.Stored.{Stored}
-use Rattle.stored.specs.declared.places.Stored.the-variants.{Refused, At}
-use Rattle.stored.specs.Reading.{placedReference, toldReference, Reads}
-use Rattle.stored.proofs.Reading.{single}
+use Rattle.stored_fields.specs.declared.places.StoredAt.{StoredAt}
+use Rattle.stored_fields.specs.declared.places.Stored.{Stored}
+use Rattle.stored_fields.specs.declared.places.Stored.the-variants.{Refused, At}
+use Rattle.stored_fields.specs.Reading.{placedReference, toldReference, Reads}
+use Rattle.stored_fields.proofs.Reading.{single}
 
 -- the answer isn't a refusal, and tells of this reference
 pub record Accepts (s : List ℕ) (r : Stored) (x : Reference) : Type 0 where

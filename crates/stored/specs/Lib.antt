@@ -1,4 +1,2 @@
 -- What only this crate's contracts want said.
-pub mod Held
-pub mod Reading
 pub mod Outcomes

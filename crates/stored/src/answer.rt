@@ -1,18 +1,18 @@
 // An edit of a stored reference.
-use crate::exceptions::exceptions_in;
-use crate::places::Stored;
-use crate::places::StoredAt;
-use crate::places::find_stored;
 use altseq::build_altseq;
 use fields::bytes_at;
 use rules::Answer;
 use rules::Edit;
+use stored_fields::Stored;
+use stored_fields::StoredAt;
+use stored_fields::exceptions_in;
+use stored_fields::find_stored;
 ghost use Rattle.rules.specs.Refusal.{limits};
 ghost use Rattle.rules.specs.Stored.{storedReference};
 ghost use Rattle.rules.specs.Answer.{outcome, Answers};
 ghost use Rattle.rules.specs.Views.{asked, roomOf};
 ghost use Rattle.stored.specs.Outcomes.{outcomeOf};
-ghost use Rattle.stored.specs.Reading.{placedReference, Placed};
+ghost use Rattle.stored_fields.specs.Reading.{placedReference, Placed};
 
 // The answer to an edit of a reference that stands in the bytes.
 fn answer_at(

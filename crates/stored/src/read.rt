@@ -1,16 +1,16 @@
 // Refusals 20 to 23, then 1 to 5, 6 or 28, of a stored reference.
-use crate::exceptions::exceptions_in;
-use crate::places::Stored;
-use crate::places::StoredAt;
-use crate::places::find_stored;
 use fields::bytes_at;
 use reference::Judged;
 use reference::judge_reference;
 use rules::LONGEST;
+use stored_fields::Stored;
+use stored_fields::StoredAt;
+use stored_fields::exceptions_in;
+use stored_fields::find_stored;
 ghost use mathlib.Core.Path.{_≡_};
 ghost use Rattle.rules.specs.Refusal.{limits, referenceRefusal};
 ghost use Rattle.rules.specs.Stored.{storedReference};
-ghost use Rattle.stored.specs.Reading.{placedReference, Placed, Reads};
+ghost use Rattle.stored_fields.specs.Reading.{placedReference, Placed, Reads};
 
 // The first of 1 to 5, 6 or 28 that applies to a reference that stands in the bytes, or 0.
 fn refusal_at(s: &[u8], p: StoredAt) -> usize

@@ -1,5 +1,5 @@
 // What stands behind the positions: the kind and its new bases.
-use codons::letters::is_capital;
+use letters::is_capital;
 use rules::Kind;
 use sequences::equals;
 ghost use mathlib.Core.Path.{_≡_};

@@ -28,10 +28,10 @@ use Rattle.text_answers.specs.Rooms.{lineRoom}
 use Rattle.text_answers.specs.Stage.{Stage, opening, editing, ended, accepted, behindFirst, nextLine, answered}
 use Rattle.text_answers.specs.Lines.{stageBy, KnownIn, Opens}
 use Rattle.text_lines.specs.declared.State.{State}
-use Rattle.text_lines.specs.Steps.{kept, longer, after, printed, within, Gathers, Moves, Steps}
+use Rattle.text_gather.specs.Steps.{kept, longer, after, printed, within, Gathers, Moves, Steps}
 use Rattle.text_lines.specs.Memory.{stageOf, heldBehind, Keeps, firstEnd, Fills, Put, Begins}
-use Rattle.text_lines.proofs.Pieces.{after-ended, printed-ended}
-use Rattle.text_lines.proofs.Puts.{put-bytes, put-none, over-none}
+use Rattle.text_gather.proofs.Pieces.{after-ended, printed-ended}
+use Rattle.text_gather.proofs.Puts.{put-bytes, put-none, over-none}
 use Rattle.text_lines.proofs.Turns.{moves-none, full-all, moves-line, full-feed, moves-feed, row-reached, row-prints, row-steps}
 
 -- nothing is kept behind the first line, nor of an empty one

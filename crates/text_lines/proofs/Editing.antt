@@ -14,8 +14,8 @@ use Rattle.rules.specs.Answer.{writtenOf, bytesOf}
 use Rattle.rules.specs.Reference.{Reference}
 use Rattle.text_answers.specs.Rooms.{lineRoom, Ample}
 use Rattle.text_answers.specs.Stage.{Stage, editing, nextLine, answered}
-use Rattle.text_lines.specs.Steps.{longer, within, Gathers, Moves, Full, Steps}
-use Rattle.text_lines.proofs.Puts.{put-bytes, put-none, over-none}
+use Rattle.text_gather.specs.Steps.{longer, within, Gathers, Moves, Full, Steps}
+use Rattle.text_gather.proofs.Puts.{put-bytes, put-none, over-none}
 use Rattle.text_lines.proofs.Turns.{moves-none, full-all, moves-line, full-feed, moves-feed, row-moves, row-full}
 
 pub ample-kept : (t q t′ q′ : List ℕ) → Ample t q → length t′ ≡ length t → length q′ ≡ length q → Ample t′ q′

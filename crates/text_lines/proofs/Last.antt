@@ -18,10 +18,10 @@ use Rattle.text_answers.specs.Rooms.{lineRoom}
 use Rattle.text_answers.specs.Stage.{Stage, answered}
 use Rattle.text_answers.specs.Lines.{stageBy}
 use Rattle.text_lines.specs.declared.State.{State}
-use Rattle.text_lines.specs.Steps.{printed, printedLast, last, Steps}
+use Rattle.text_gather.specs.Steps.{printed, printedLast, last, Steps}
 use Rattle.text_lines.specs.Memory.{stageOf, Keeps}
-use Rattle.text_lines.proofs.Pieces.{printed-feed}
-use Rattle.text_lines.proofs.Puts.{within-fits, within-not, put-bytes}
+use Rattle.text_gather.proofs.Pieces.{printed-feed}
+use Rattle.text_gather.proofs.Puts.{within-fits, within-not, put-bytes}
 
 -- an empty line isn't answered
 empty-last : (p : Phase) (letters : List ℕ) → printedLast (stageBy p [] letters) ≡ []

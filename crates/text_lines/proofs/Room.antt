@@ -28,7 +28,7 @@ use Rattle.text_answers.specs.Rooms.{proteinRoom, alteredRoom, answerRoom}
 use Rattle.text_answers.specs.Stage.{Stage, answered}
 use Rattle.text_answers.specs.Lines.{stageBy, KnownIn}
 use Rattle.text_lines.specs.declared.State.{State}
-use Rattle.text_lines.specs.Steps.{lineOf, printed, printedLast, Steps}
+use Rattle.text_gather.specs.Steps.{lineOf, printed, printedLast, Steps}
 use Rattle.text_lines.specs.Memory.{stageOf, Keeps}
 use Rattle.text_prints.proofs.Sizes.{refused-size, record-size}
 

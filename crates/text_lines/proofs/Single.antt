@@ -7,8 +7,8 @@ use native.Mathlib.Omega.{arith}
 use lib.ListN.{length, take, drop, length-append}
 use lib.Seq.{take-add}
 use Rattle.text_answers.specs.Stage.{Stage}
-use Rattle.text_lines.specs.Steps.{after, printed, Steps}
-use Rattle.text_lines.proofs.Pieces.{printed-append}
+use Rattle.text_gather.specs.Steps.{after, printed, Steps}
+use Rattle.text_gather.proofs.Pieces.{printed-append}
 
 -- more bytes print no less
 pub printed-grows : (x : Stage) (input : List ℕ) (m n : ℕ) → m ≤ n → length (printed x (take m input)) ≤ length (printed x (take n input))

@@ -13,9 +13,9 @@ use Rattle.rules.specs.Bytes.{over}
 use Rattle.rules.specs.Run.{lineFeed}
 use Rattle.rules.proofs.Over.{length-over, lent-on-by, tail-is}
 use Rattle.text_answers.specs.Stage.{Stage, ended, nextLine, answered}
-use Rattle.text_lines.specs.Steps.{longer, after, printed, Moves, Full, Steps}
-use Rattle.text_lines.proofs.Pieces.{after-append, printed-append, after-ended, printed-ended, after-feed, printed-feed, after-plain, printed-plain, Short, Plain}
-use Rattle.text_lines.proofs.Feeds.{plain-before, feed-at}
+use Rattle.text_gather.specs.Steps.{longer, after, printed, Moves, Full, Steps}
+use Rattle.text_gather.proofs.Pieces.{after-append, printed-append, after-ended, printed-ended, after-feed, printed-feed, after-plain, printed-plain, Short, Plain}
+use Rattle.text_gather.proofs.Feeds.{plain-before, feed-at}
 
 -- nothing taken
 pub moves-none : (x : Stage) (input out : List ℕ) → Moves x x input 0 0 out out

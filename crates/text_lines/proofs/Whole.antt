@@ -13,9 +13,9 @@ use Rattle.rules.specs.Refusal.{referenceRefusal}
 use Rattle.rules.specs.Line.{textLimits, referenceLine, fitsLine}
 use Rattle.rules.specs.Run.{refusedLine, editLineAnswer, answersFrom, answersOf, answers, lineFeed, linesFrom, lines, unlines, run}
 use Rattle.text_answers.specs.Stage.{Stage, opening, editing, ended, start, acceptedBy, accepted, behindFirst, nextLine, answered}
-use Rattle.text_lines.specs.Steps.{kept, longer, after, printed, printedLast}
-use Rattle.text_lines.proofs.Kept.{kept-front, kept-fits, kept-unfit}
-use Rattle.text_lines.proofs.Pieces.{after-append, printed-append, after-ended, printed-ended}
+use Rattle.text_gather.specs.Steps.{kept, longer, after, printed, printedLast}
+use Rattle.text_gather.proofs.Kept.{kept-front, kept-fits, kept-unfit}
+use Rattle.text_gather.proofs.Pieces.{after-append, printed-append, after-ended, printed-ended}
 
 -- what is printed from a stage on, to the end of the input
 unfoldable pub printedAll : Stage → List ℕ → List ℕ

@@ -13,7 +13,7 @@ use Rattle.text_answers.specs.Rooms.{lineRoom, lettersRoom, proteinRoom}
 use Rattle.text_answers.specs.Stage.{Stage, opening, editing, ended, nextLine, answered}
 use Rattle.text_answers.specs.Lines.{stageBy, KnownIn, lettersOf, proteinOf}
 use Rattle.text_lines.specs.declared.State.{State}
-use Rattle.text_lines.specs.Steps.{kept, Moves, Full}
+use Rattle.text_gather.specs.Steps.{kept, Moves, Full}
 
 -- before the first byte
 abbrev pub fresh : State

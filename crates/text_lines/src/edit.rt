@@ -1,12 +1,12 @@
 // The edit lines of a reference.
-use crate::gather::gather;
-use crate::gather::put;
 use reference::Known;
 use rules::Written;
 use text_answers::ALTERED;
 use text_answers::Phase;
 use text_answers::TRANSCRIPT;
 use text_answers::answer_edit;
+use text_gather::gather;
+use text_gather::put;
 ghost use mathlib.Core.Path.{_≡_};
 ghost use mathlib.Core.Bool.{true, false};
 ghost use Prim.Native.Nat.{_≤_, _<_};
@@ -19,7 +19,7 @@ ghost use Rattle.reference.specs.Known.{Knows};
 ghost use Rattle.text_answers.specs.Rooms.{lineRoom, Ample};
 ghost use Rattle.text_answers.specs.Stage.{editing, answered};
 ghost use Rattle.text_answers.specs.Lines.{noExceptions, KnownIn};
-ghost use Rattle.text_lines.specs.Steps.{within, Full, Moves, Steps};
+ghost use Rattle.text_gather.specs.Steps.{within, Full, Moves, Steps};
 
 // What is known of the reference, and how many bytes of the line so far are held.
 struct Kept {

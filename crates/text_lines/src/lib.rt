@@ -1,7 +1,6 @@
 // "Text program": the run as a step over pieces of input of any size. Between two steps a state is kept, and three buffers: the line so far, and
 // the letters and the protein R of the reference.
 mod edit;
-mod gather;
 mod open;
 
 use edit::edit_some;
@@ -17,7 +16,7 @@ ghost use Rattle.rules.specs.Answer.{writtenOf, bytesOf};
 ghost use Rattle.rules.specs.Run.{lineFeed};
 ghost use Rattle.text_answers.specs.Rooms.{lineRoom};
 ghost use Rattle.text_answers.specs.Stage.{Stage, isEnded};
-ghost use Rattle.text_lines.specs.Steps.{last, Steps};
+ghost use Rattle.text_gather.specs.Steps.{last, Steps};
 ghost use Rattle.text_lines.specs.Memory.{fresh, stageOf, Rooms, Keeps, firstEnd, Fills, Begins};
 
 // `held` bytes of the line so far are kept, of a refused first line too; one more than the longest line has stands for any larger number.

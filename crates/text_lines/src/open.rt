@@ -1,13 +1,13 @@
 // The first line, up to its end.
 use crate::State;
 use crate::Stepped;
-use crate::gather::gather;
-use crate::gather::put;
 use rules::Written;
 use text_answers::FIRST;
 use text_answers::Opened;
 use text_answers::Phase;
 use text_answers::answer_first;
+use text_gather::gather;
+use text_gather::put;
 ghost use mathlib.Core.Path.{_≡_};
 ghost use Prim.Native.Nat.{_≤_};
 ghost use lib.ListN.{length, take};

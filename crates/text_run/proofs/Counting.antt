@@ -19,14 +19,14 @@ use Rattle.rules.proofs.Over.{lent-on-by, tail-is, length-over}
 use Rattle.text_answers.specs.Rooms.{answerRoom}
 use Rattle.text_answers.specs.Stage.{Stage, start}
 use Rattle.text_lines.specs.declared.State.{State}
-use Rattle.text_lines.specs.Steps.{after, printed, printedLast, last, Steps}
+use Rattle.text_gather.specs.Steps.{after, printed, printedLast, last, Steps}
 use Rattle.text_lines.specs.Memory.{fresh, stageOf, Rooms, Keeps}
 use Rattle.text_lines.proofs.Turns.{row-reached, row-prints}
 use Rattle.text_lines.proofs.Whole.{printedAll, whole}
 use Rattle.text_lines.proofs.Single.{printed-grows}
 use Rattle.text_lines.proofs.Room.{last-size, takes-some}
 use Rattle.text_lines.proofs.Last.{last-fits}
-use Rattle.text_lines.proofs.Puts.{within-fits, within-not, put-bytes, put-none, over-none}
+use Rattle.text_gather.proofs.Puts.{within-fits, within-not, put-bytes, put-none, over-none}
 use Rattle.text_lines.proofs.Rooms.{fresh-keeps, rooms-kept}
 use Rattle.text_run.specs.Runs.{runWithin, Counted, Wrote}
 

@@ -7,7 +7,7 @@ use Rattle.rules.specs.Bytes.{Result, over}
 use Rattle.rules.specs.Run.{run}
 use Rattle.text_answers.specs.Stage.{Stage, start}
 use Rattle.text_lines.specs.declared.State.{State}
-use Rattle.text_lines.specs.Steps.{after, printed, within}
+use Rattle.text_gather.specs.Steps.{after, printed, within}
 use Rattle.text_lines.specs.Memory.{stageOf, Rooms, Keeps}
 
 -- what the program prints on an input, or 15 where that doesn't fit

@@ -17,7 +17,7 @@ ghost use Rattle.rules.specs.Bytes.{over};
 ghost use Rattle.rules.specs.Answer.{writtenOf, bytesOf};
 ghost use Rattle.rules.specs.Run.{run};
 ghost use Rattle.text_answers.specs.Rooms.{answerRoom};
-ghost use Rattle.text_lines.specs.Steps.{printedLast};
+ghost use Rattle.text_gather.specs.Steps.{printedLast};
 ghost use Rattle.text_lines.specs.Memory.{stageOf, Rooms, Keeps};
 ghost use Rattle.text_run.specs.Runs.{runWithin, Counted, Wrote};
 

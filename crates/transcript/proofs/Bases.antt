@@ -15,8 +15,8 @@ use Rattle.rules.specs.Altered.{part, carried, swapBy, swap, kept, cutSwap, alt
 use Rattle.rules.proofs.Tests.{all-take, all-drop, all-both, all-reverse, all-map}
 use Rattle.rules.proofs.Complement.{of-letters}
 use Rattle.rules.proofs.Altered.{kept-is}
-use Rattle.codons.specs.Tables.{isBase}
-use Rattle.codons.proofs.Sets.{base-is-letter}
+use Rattle.letters.specs.Sets.{isBase}
+use Rattle.letters.proofs.Sets.{base-is-letter}
 
 implied : (a b : Bool) → (not a || b) ≡ true → a ≡ true → b ≡ true
 implied true b h k = h

@@ -17,12 +17,13 @@ use Rattle.rules.specs.Translation.{areExceptions, wholeCodons, foldToLetters, 
 use Rattle.rules.specs.Answer.{writtenOf, bytesOf}
 use Rattle.rules.proofs.Lists.{all-map}
 use Rattle.rules.proofs.Tests.{first-clear}
-use Rattle.codons.specs.Tables.{foldsToBase}
-use Rattle.codons.proofs.Loops.{all-implied}
-use Rattle.codons.proofs.Sets.{base-letter}
-use Rattle.translation.specs.Residues.{foldToBases, exceptedFrom}
-use Rattle.translation.proofs.Residues.{length-plain}
-use Rattle.translation.proofs.Excepted.{excepted-over}
+use Rattle.letters.specs.Sets.{foldsToBase}
+use Rattle.letters.proofs.Loops.{all-implied}
+use Rattle.letters.proofs.Sets.{base-letter}
+use Rattle.excepted.specs.Exceptions.{exceptedFrom}
+use Rattle.places.specs.Places.{foldToBases}
+use Rattle.places.proofs.Residues.{length-plain}
+use Rattle.excepted.proofs.Putting.{excepted-over}
 
 module _ (t : ℕ) (es : List Exception) (full : Bool) (s : List ℕ) (room : ℕ) where
   pub no-table : 2 < t → translation t es full s room ≡ refused 4

@@ -1,13 +1,13 @@
 // Which letters a byte string has.
-use codons::letters::folds_to_base;
-use codons::letters::folds_to_letter;
-use codons::letters::is_base;
+use letters::folds_to_base;
+use letters::folds_to_letter;
+use letters::is_base;
 use numbers::least;
 ghost use mathlib.Core.Path.{_≡_};
 ghost use mathlib.Core.List.{map};
 ghost use Rattle.rules.specs.Bytes.{all};
 ghost use Rattle.rules.specs.Letters.{isLetter, folded};
-ghost use Rattle.codons.specs.Tables.{foldsToBase, isBase};
+ghost use Rattle.letters.specs.Sets.{foldsToBase, isBase};
 
 // The tests below go eight bytes at a time or more, and one at a time over what is left. So that nothing is left, the last eight are tested by
 // themselves.

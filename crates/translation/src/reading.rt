@@ -1,15 +1,13 @@
 // Codons read by the tables, without exceptions.
-use crate::packed::entries_at;
-use crate::packed::entry_at;
-use crate::packed::pair_at;
-use crate::packed::place_at;
-use codons::letters::folded_set;
-use codons::letters::is_base_letter;
-use codons::letters::set_of_letter;
 use codons::reader::read_by_plain;
-use codons::rows::residues_by_number;
 use codons::tables::plain_code;
-use codons::tables::residue_in;
+use letters::is_base_letter;
+use letters::set_of_letter;
+use places::entries_at;
+use places::entry_at;
+use places::pair_at;
+use places::place_at;
+use rows::residues_by_number;
 ghost use mathlib.Core.Path.{_≡_};
 ghost use mathlib.Core.Bool.{true};
 ghost use mathlib.Core.List.{[], map};
@@ -18,29 +16,10 @@ ghost use lib.ListN.{length};
 ghost use Rattle.rules.specs.Bytes.{over};
 ghost use Rattle.rules.specs.Letters.{folded};
 ghost use Rattle.rules.specs.Translation.{residueCount, foldToLetters, foldedTranslated};
-ghost use Rattle.codons.specs.Tables.{HoldsCode, HoldsPlain, HoldsSets, foldedSet};
-ghost use Rattle.codons.specs.Rows.{HoldsLetters};
-ghost use Rattle.translation.specs.Residues.{codonAt, foldToBases};
-
-// The residue of codon i, counted from 0, by the tables of sets and of residues.
-pub(crate) fn codon_at(
-    seq: &[u8],
-    table: usize,
-    sets: &[u8; 256],
-    residues: &[u8; 4096],
-    i: usize,
-) -> u8
-    requires { ⌜ HoldsSets foldedSet (now sets) ⌝ }
-    requires { ⌜ HoldsCode table (now residues) ⌝ }
-    requires { ⌜ foldToLetters (now seq) ≡ true ⌝ }
-    requires { ⌜ i < length (now seq) / 3 ⌝ }
-    ensures { λ r. ⌜ r ≡ codonAt table (map folded (now (seq .entry))) i ⌝ }
-{
-    let a = folded_set(sets, seq[i * 3]);
-    let b = folded_set(sets, seq[i * 3 + 1]);
-    let c = folded_set(sets, seq[i * 3 + 2]);
-    residue_in(table, residues, a, b, c)
-}
+ghost use Rattle.letters.specs.Sets.{HoldsSets, foldedSet};
+ghost use Rattle.codons.specs.Tables.{HoldsCode, HoldsPlain};
+ghost use Rattle.rows.specs.Rows.{HoldsLetters};
+ghost use Rattle.places.specs.Places.{codonAt, foldToBases};
 
 // Writes the residues of bases, without exceptions, to the buffer's start: four codons at a time, then those that are left.
 fn write_plain(seq: &[u8], table: usize, code: &[u8; 64], out: &mut [u8])

@@ -1,9 +1,9 @@
 // Plain translation of a byte string, without and with exceptions.
 use crate::bases::all_fold_to_bases;
 use crate::bases::all_fold_to_letters;
-use crate::exceptions::are_exceptions;
-use crate::exceptions::put_exceptions;
 use crate::reading::write_letters;
+use excepted::are_exceptions;
+use excepted::put_exceptions;
 use numbers::thirds;
 use rules::Exceptions;
 use rules::Written;
@@ -13,7 +13,7 @@ ghost use lib.ListN.{length};
 ghost use Rattle.rules.specs.Bytes.{over};
 ghost use Rattle.rules.specs.Translation.{exceptionList, foldedTranslated, translation};
 ghost use Rattle.rules.specs.Answer.{writtenOf, bytesOf};
-ghost use Rattle.translation.specs.Residues.{Walks};
+ghost use Rattle.places.specs.Looked.{Walks};
 
 // Writes the translation of letters that were looked at to the buffer's start.
 pub fn write_translated(seq: &[u8], table: usize, plain: bool, e: Exceptions, out: &mut [u8])

@@ -4,7 +4,7 @@ use crate::plain::print_answer;
 use crate::plain::print_number;
 use codons::reader::read_codon;
 use codons::tables::residue_in;
-use codons::tables::residues_of;
+use tables::residues_of;
 use translation::translate_cds;
 ghost use mathlib.Core.Path.{_≡_};
 ghost use Prim.Native.Nat.{_<_};

@@ -87,6 +87,18 @@ pub fn count_of(s: &[u8], b: u8) -> usize
     n
 }
 
+// The number of residues, and how many of a buffer's bytes are K, X and as they were.
+fn print_counts(m: usize, out: &[u8]) {
+    io::write_all(1, b" residues ");
+    print_number(m);
+    io::write_all(1, b" K ");
+    print_number(count_of(out, b'K'));
+    io::write_all(1, b" X ");
+    print_number(count_of(out, b'X'));
+    io::write_all(1, b" kept ");
+    print_number(count_of(out, b'.'));
+}
+
 // Translates so many letters A: the number of residues, and how many of them are K and X.
 fn print_length(letters: &[u8], n: usize) {
     let mut out = [b'.'; RESIDUES];
@@ -96,16 +108,7 @@ fn print_length(letters: &[u8], n: usize) {
         return;
     }
     match translate_cds(&letters[0..n], 0, false, &mut out) {
-        Written::Bytes(m) => {
-            io::write_all(1, b" residues ");
-            print_number(m);
-            io::write_all(1, b" K ");
-            print_number(count_of(&out, b'K'));
-            io::write_all(1, b" X ");
-            print_number(count_of(&out, b'X'));
-            io::write_all(1, b" kept ");
-            print_number(count_of(&out, b'.'));
-        }
+        Written::Bytes(m) => print_counts(m, &out),
         Written::Refused(m) => {
             io::write_all(1, b" refused ");
             print_number(m);

@@ -45,18 +45,30 @@ fn exceptions(codon: usize, residue: u8, count: usize) -> Exceptions
     }
 }
 
-fn print_translations() {
+fn print_tables() {
     try_translation(b"table 3", b"ATG", 3, no_exceptions(), false);
     try_translation(b"table 255", b"ATG", 255, no_exceptions(), false);
     try_translation(b"table 3, no bases", b"", 3, no_exceptions(), false);
+}
+
+fn print_exceptions() {
     try_translation(b"16 exceptions", b"ATG", 0, exceptions(1, b'U', 16), false);
     try_translation(b"17 exceptions", b"ATG", 0, exceptions(1, b'U', 17), false);
     try_translation(b"codon 0", b"ATG", 0, exceptions(0, b'U', 1), false);
+}
+
+fn print_residues() {
     try_translation(b"codon 2 of one", b"ATG", 0, exceptions(2, b'U', 1), false);
     try_translation(b"residue a", b"ATG", 0, exceptions(1, b'a', 1), false);
     try_translation(b"residue *", b"ATG", 0, exceptions(1, b'*', 1), false);
+}
+
+fn print_rests() {
     try_translation(b"a rest, full codons", b"ATGA", 0, no_exceptions(), true);
     try_translation(b"a rest", b"ATGA", 0, no_exceptions(), false);
+}
+
+fn print_lengths() {
     try_translation(
         b"exactly full",
         b"ATGATGATGATGATGATGATGATG",
@@ -78,6 +90,9 @@ fn print_translations() {
         no_exceptions(),
         false,
     );
+}
+
+fn print_codons() {
     try_translation(
         b"byte 0 in the last codon",
         b"ATGAT\x00",
@@ -92,6 +107,9 @@ fn print_translations() {
         no_exceptions(),
         false,
     );
+}
+
+fn print_ends() {
     try_translation(
         b"byte 0 in the rest",
         b"ATGA\x00",
@@ -116,6 +134,16 @@ fn print_translations() {
     );
 }
 
+fn print_translations() {
+    print_tables();
+    print_exceptions();
+    print_residues();
+    print_rests();
+    print_lengths();
+    print_codons();
+    print_ends();
+}
+
 fn try_names(name: &[u8], one: &[u8]) {
     let mut out = [b'.'; 8];
     let answer = aa1_to_aa3(one, &mut out);
@@ -134,17 +162,23 @@ fn try_complement(name: &[u8], seq: &[u8]) {
     print_outcome(name, answer, &out);
 }
 
-fn print_others() {
+fn print_names() {
     try_names(b"names of AK", b"AK");
     try_names(b"names of AKW", b"AKW");
     try_names(b"names of J", b"AJ");
     try_names(b"names of a", b"a");
     try_names(b"no names", b"");
+}
+
+fn print_letters() {
     try_letters(b"letters of AlaTer", b"AlaTer");
     try_letters(b"letters of ALA", b"ALA");
     try_letters(b"letters of Pyl", b"AlaPyl");
     try_letters(b"letters of Al", b"AlaAl");
     try_letters(b"letters of nine", b"AlaAlaAlaAlaAlaAlaAlaAlaAla");
+}
+
+fn print_complements() {
     try_complement(b"complement of 8", b"ACGTRYKM");
     try_complement(b"complement of 9", b"ACGTRYKMB");
     try_complement(b"complement of 9, a bad letter", b"ACGTRYKMU");
@@ -154,5 +188,7 @@ fn print_others() {
 
 pub fn print_refusals() {
     print_translations();
-    print_others();
+    print_names();
+    print_letters();
+    print_complements();
 }

@@ -1,8 +1,8 @@
 // What is read, as text.
 use rules::Part;
-use stored::Stored;
-use stored::StoredAt;
 use stored::read_stored;
+use stored_fields::Stored;
+use stored_fields::StoredAt;
 
 pub fn print_number(before: &[u8], n: usize) {
     io::write_all(1, before);

@@ -4,7 +4,7 @@ use Prim.Native.Nat.{_-_}
 use borrow.Author.Needs.{needs}
 use lib.ListN.{length}
 use Rattle.rules.specs.Translation.{isResidue}
-use Rattle.codons.proofs.Loops.{Tested, tested-none, tested-more, tested-all}
+use Rattle.letters.proofs.Loops.{Tested, tested-none, tested-more, tested-all}
 use Rattle.proposals.proofs.are_residues.Statement.{statement}
 use Rattle.proposals.proofs.are_residues.Tie as tie
 

@@ -5,7 +5,7 @@ use lib.ListN.{length}
 use Rattle.rules.specs.Bytes.{all}
 use Rattle.rules.specs.Refusal.{referenceRefusal}
 use Rattle.rules.specs.Views.{referenceOf}
-use Rattle.codons.specs.Tables.{isBase}
+use Rattle.letters.specs.Sets.{isBase}
 use Rattle.reference.specs.Known.{judgedOf}
 use Rattle.reference.proofs.Judging.{was-refused, was-clear, readable, protein-room, accepted-early}
 use Rattle.reference.proofs.Checking.{check-refused, nothing-read, check-known, all-read}

@@ -1,7 +1,7 @@
 -- `codons::tables::plain_code` meets its contract: each of the three tables lists the rule for plain codons, which antt computes. Assumes nothing.
 use native.Mathlib.Omega.{arith}
 use Rattle.rules.specs.Codons.{codonRule}
-use Rattle.codons.proofs.Listed.{plainAt, holds-plain}
+use Rattle.codons.proofs.Plain.{plainAt, holds-plain}
 use Rattle.codons.proofs.tables.plain_code.Statement.{statement}
 use Rattle.codons.proofs.tables.plain_code.Tie as tie
 

@@ -3,7 +3,7 @@ use mathlib.Core.Path.{sym, _∙_}
 use borrow.Author.Needs.{needs}
 use Rattle.rules.specs.Bytes.{all}
 use Rattle.rules.specs.Views.{referenceOf}
-use Rattle.codons.specs.Tables.{isBase}
+use Rattle.letters.specs.Sets.{isBase}
 use Rattle.reference.specs.Known.{earlyRefusal, earlyOf}
 use Rattle.reference.proofs.Judging.{was-refused, was-clear, readable, judged-early, judged-clear, judged-late}
 use Rattle.reference.proofs.stop.judge_reference.Statement.{statement}

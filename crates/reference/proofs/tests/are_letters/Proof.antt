@@ -1,7 +1,7 @@
 -- `reference::tests::are_letters` meets its contract. Assumes nothing.
 use mathlib.Core.Path.{_≡_, sym, _∙_}
 use borrow.Author.Needs.{needs}
-use Rattle.translation.proofs.Strict.{bases-are-letters}
+use Rattle.places.proofs.Strict.{bases-are-letters}
 use Rattle.reference.proofs.tests.are_letters.Statement.{statement}
 use Rattle.reference.proofs.tests.are_letters.Tie as tie
 

@@ -4,7 +4,7 @@ use Prim.Native.Nat.{_-_}
 use borrow.Author.Needs.{needs}
 use lib.ListN.{length}
 use Rattle.rules.specs.Letters.{isLetter}
-use Rattle.codons.proofs.Loops.{Tested, tested-none, tested-more, tested-all}
+use Rattle.letters.proofs.Loops.{Tested, tested-none, tested-more, tested-all}
 use Rattle.sequences.proofs.complement.all_letters.Statement.{statement}
 use Rattle.sequences.proofs.complement.all_letters.Tie as tie
 

@@ -3,7 +3,7 @@ use mathlib.Core.Path.{ap, _∙_}
 use borrow.Author.Needs.{needs}
 use Rattle.rules.specs.Refusal.{limits}
 use Rattle.rules.specs.Views.{asked, roomOf}
-use Rattle.stored.specs.Held.{exceptionsOf}
+use Rattle.stored_fields.specs.Held.{exceptionsOf}
 use Rattle.stored.proofs.Answered.{answers}
 use Rattle.stored.proofs.answer.answer_at.Statement.{statement}
 use Rattle.stored.proofs.answer.answer_at.Tie as tie

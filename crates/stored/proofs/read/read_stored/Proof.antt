@@ -2,7 +2,7 @@
 use mathlib.Core.Path.{sym, _∙_}
 use borrow.Author.Needs.{needs}
 use Rattle.rules.specs.Refusal.{limits}
-use Rattle.stored.proofs.Reading.{refuses}
+use Rattle.stored_fields.proofs.Reading.{refuses}
 use Rattle.stored.proofs.Judged.{unfound, refused-at, reads-at}
 use Rattle.stored.proofs.read.read_stored.Statement.{statement}
 use Rattle.stored.proofs.read.read_stored.Tie as tie

@@ -2,7 +2,7 @@
 use mathlib.Core.Path.{ap, _∙_}
 use borrow.Author.Needs.{needs}
 use Rattle.rules.specs.Refusal.{limits}
-use Rattle.stored.specs.Held.{exceptionsOf}
+use Rattle.stored_fields.specs.Held.{exceptionsOf}
 use Rattle.stored.proofs.Judged.{judged-refused, judged-clear}
 use Rattle.stored.proofs.read.refusal_at.Statement.{statement}
 use Rattle.stored.proofs.read.refusal_at.Tie as tie

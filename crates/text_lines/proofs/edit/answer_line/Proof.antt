@@ -1,7 +1,7 @@
 -- `text_lines::edit::answer_line` meets its contract. Assumes nothing.
 use mathlib.Core.Path.{sym}
 use lib.Seq.{length-take-le}
-use Rattle.text_lines.proofs.Puts.{put-as}
+use Rattle.text_gather.proofs.Puts.{put-as}
 use borrow.Author.Needs.{needs}
 use Rattle.text_lines.proofs.edit.answer_line.Statement.{statement}
 use Rattle.text_lines.proofs.edit.answer_line.Tie as tie

@@ -4,8 +4,8 @@ use Prim.Native.Nat.{_-_}
 use native.Mathlib.Omega.{arith}
 use borrow.Author.Needs.{needs}
 use lib.ListN.{length}
-use Rattle.codons.specs.Tables.{isBase}
-use Rattle.codons.proofs.Loops.{Passed, passed-none, passed-more, passed-not, passed-all}
+use Rattle.letters.specs.Sets.{isBase}
+use Rattle.letters.proofs.Loops.{Passed, passed-none, passed-more, passed-not, passed-all}
 use Rattle.translation.proofs.bases.all_bases.Statement.{statement}
 use Rattle.translation.proofs.bases.all_bases.Tie as tie
 

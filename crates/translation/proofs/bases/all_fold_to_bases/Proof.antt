@@ -5,8 +5,8 @@ use native.Mathlib.Omega.{arith}
 use borrow.Author.Needs.{needs}
 use lib.ListN.{length, take, drop}
 use lib.Seq.{length-take-le}
-use Rattle.codons.specs.Tables.{foldsToBase}
-use Rattle.codons.proofs.Loops.{rest-fails, front-decides}
+use Rattle.letters.specs.Sets.{foldsToBase}
+use Rattle.letters.proofs.Loops.{rest-fails, front-decides}
 use Rattle.translation.proofs.bases.all_fold_to_bases.Statement.{statement}
 use Rattle.translation.proofs.bases.all_fold_to_bases.Tie as tie
 

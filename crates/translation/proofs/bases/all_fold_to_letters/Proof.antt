@@ -8,7 +8,7 @@ use lib.ListN.{length, take, drop}
 use lib.Seq.{length-take-le}
 use Rattle.rules.specs.Letters.{isLetter, folded}
 use Rattle.rules.proofs.Lists.{all-map}
-use Rattle.codons.proofs.Loops.{both-parts}
+use Rattle.letters.proofs.Loops.{both-parts}
 use Rattle.translation.proofs.bases.all_fold_to_letters.Statement.{statement}
 use Rattle.translation.proofs.bases.all_fold_to_letters.Tie as tie
 

@@ -3,8 +3,8 @@
 use Prim.Native.Nat.{_-_}
 use native.Mathlib.Omega.{arith}
 use lib.ListN.{length}
-use Rattle.codons.specs.Tables.{foldsToBase}
-use Rattle.codons.proofs.Loops.{Tested, tested-none, tested-more, tested-all}
+use Rattle.letters.specs.Sets.{foldsToBase}
+use Rattle.letters.proofs.Loops.{Tested, tested-none, tested-more, tested-all}
 use Rattle.translation.proofs.bases.block_folds_to_bases.Statement.{statement}
 use Rattle.translation.proofs.bases.block_folds_to_bases.Tie as tie
 

@@ -6,7 +6,7 @@ use native.Mathlib.Omega.{arith}
 use lib.ListN.{length}
 use Rattle.rules.specs.Letters.{isLetter, folded}
 use Rattle.rules.proofs.Lists.{all-map}
-use Rattle.codons.proofs.Loops.{Tested, tested-none, tested-more, tested-all}
+use Rattle.letters.proofs.Loops.{Tested, tested-none, tested-more, tested-all}
 use Rattle.translation.proofs.bases.block_folds_to_letters.Statement.{statement}
 use Rattle.translation.proofs.bases.block_folds_to_letters.Tie as tie
 

@@ -2,8 +2,8 @@
 use Prim.Native.Nat.{_+_, _*_}
 use native.Mathlib.Omega.{arith}
 use borrow.Author.Needs.{needs}
-use Rattle.translation.proofs.Residues.{codon-sets, letter-at, set-there}
-use Rattle.translation.proofs.Places.{place-small, tested-read}
+use Rattle.places.proofs.Residues.{codon-sets, letter-at, set-there}
+use Rattle.places.proofs.Places.{place-small, tested-read}
 use Rattle.translation.proofs.reading.codon_by_plain.Statement.{statement}
 use Rattle.translation.proofs.reading.codon_by_plain.Tie as tie
 

@@ -9,7 +9,7 @@ use lib.ListN.{length, length-set}
 use Rattle.rules.specs.Bytes.{over}
 use Rattle.rules.specs.Translation.{residueCount, foldedTranslated}
 use Rattle.rules.proofs.Over.{overFrom, from-start}
-use Rattle.translation.proofs.Residues.{leftFrom, left-all, codon-turn, last-turn, no-rest, with-rest}
+use Rattle.places.proofs.Residues.{leftFrom, left-all, codon-turn, last-turn, no-rest, with-rest}
 use Rattle.translation.proofs.reading.write_few.Statement.{statement}
 use Rattle.translation.proofs.reading.write_few.Tie as tie
 

@@ -9,8 +9,8 @@ use lib.ListN.{length, length-set}
 use Rattle.rules.specs.Bytes.{over}
 use Rattle.rules.specs.Translation.{residueCount, foldedTranslated}
 use Rattle.rules.proofs.Over.{overFrom, from-start}
-use Rattle.translation.proofs.Residues.{leftFrom, left-all, codon-turn, four-turn, last-turn, no-rest, with-rest}
-use Rattle.translation.proofs.Places.{place-small, place-read}
+use Rattle.places.proofs.Residues.{leftFrom, left-all, codon-turn, four-turn, last-turn, no-rest, with-rest}
+use Rattle.places.proofs.Places.{place-small, place-read}
 use Rattle.translation.proofs.reading.write_plain.Statement.{statement}
 use Rattle.translation.proofs.reading.write_plain.Tie as tie
 

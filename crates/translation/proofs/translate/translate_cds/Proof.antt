@@ -9,9 +9,9 @@ use lib.ListN.{length}
 use lib.Seq.{length-take-le}
 use Rattle.rules.specs.Translation.{wholeCodons, foldToLetters, residueCount, foldedTranslated, translation}
 use Rattle.rules.proofs.Fills.{refuses, gives}
-use Rattle.translation.specs.Residues.{foldToBases}
-use Rattle.translation.proofs.Residues.{never}
-use Rattle.translation.proofs.Residues.{length-plain}
+use Rattle.places.specs.Places.{foldToBases}
+use Rattle.excepted.proofs.Putting.{never}
+use Rattle.places.proofs.Residues.{length-plain}
 use Rattle.translation.proofs.Answers.{no-table, not-full, no-room, no-letter, all-fold-to-letters, bases-letters, none-taken}
 use Rattle.translation.proofs.translate.translate_cds.Statement.{statement}
 use Rattle.translation.proofs.translate.translate_cds.Tie as tie

@@ -4,7 +4,7 @@ use mathlib.Core.Path.{_∙_}
 use native.Mathlib.Omega.{arith}
 use borrow.Author.Needs.{needs}
 use Rattle.rules.specs.Translation.{exceptionList, residueCount}
-use Rattle.translation.proofs.Excepted.{excepted-over}
+use Rattle.excepted.proofs.Putting.{excepted-over}
 use Rattle.translation.proofs.translate.write_translated.Statement.{statement}
 use Rattle.translation.proofs.translate.write_translated.Tie as tie
 

@@ -1,0 +1,2 @@
+-- Exceptions over residues, over the definitions of `rules`.
+pub mod Exceptions

@@ -1,0 +1,2 @@
+-- What the crate's tables hold, over the definitions of `rules`.
+pub mod Sets

@@ -1,0 +1,3 @@
+-- Laws of rows, which the functions' proofs cite.
+pub mod Rowed
+pub mod Single

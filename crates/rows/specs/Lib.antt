@@ -1,0 +1,2 @@
+-- Codons by the numbers of their letters, over the definitions of `rules`.
+pub mod Rows

@@ -1,0 +1,3 @@
+-- What is held and found in stored fields.
+pub mod Held
+pub mod Reading

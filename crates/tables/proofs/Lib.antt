@@ -1,0 +1,2 @@
+-- Laws of the tables, which the function's proof cites.
+pub mod Ruled

@@ -1,2 +1,0 @@
--- Definitions that the contracts of the crate's inner functions cite.
-pub mod Residues

@@ -1,0 +1,3 @@
+-- Laws of walks to the first stop.
+pub mod Walks
+pub mod PlainWalks
