@@ -1,8 +1,9 @@
 /* garumbott.h: the Garumbott variant module, for programs written in C.
  *
  * Given a reference transcript and one coding edit, the module builds the altered transcript, reads the altered protein from it and answers
- * one protein record, or the one numbered refusal that its rules give. It also says whether a record that another program made fits its edit.
- * References can be read from a stored form. Translation, residue names, the reverse complement and two trims can be called by themselves.
+ * one protein record, or the one numbered refusal that its rules give. It also says whether a record that another program made fits its edit,
+ * and which codons differ between two editions of a transcript.
+ * References can be read from a stored form and written in it. Translation, residue names, the reverse complement and two trims can be called by themselves.
  *
  * In ten minutes. Put this into first.c, and
  *     cc -std=c11 first.c $(pkg-config --cflags --libs garumbott) -o first && ./first
@@ -48,7 +49,7 @@
  *   Versions. Later versions add members at the ends of the structs; 0 in a new member means what is done today. The functions over slices and numbers
  *     gain parameters; those over structs keep theirs. New in 2.0.0: the end of a CDS (cds_end in garumbott_record and garumbott_edit, behind
  *     exceptions_len; end in struct garumbott_reference and struct garumbott_stored; tag 8 of stored references; refusal 28), with R's room rounded
- *     up for a cut codon; garumbott_check, with refusals 26 and 27; codons in struct garumbott_answer. Other answers than in 1: a copy of the first
+ *     up for a cut codon; garumbott_write_stored, with refusal 24; garumbott_check, with refusals 26 and 27; garumbott_pair, with refusals 51 to 53; garumbott_compare, with refusals 50, 101 to 106 and 128; codons in struct garumbott_answer; transcripts up to 131,072 bases (rooms and GARUMBOTT_STACK have grown; a buffer for joined letters in garumbott_read_stored and garumbott_reference_at; joined in struct garumbott_stored; tags 5, 6 and 7 of stored references; refusals 25 and 29). Other answers than in 1: a copy of the first
  *     residues is a duplication, and a codon whose plain codons give exactly D and N, or exactly E and Q, is 'B' or 'Z' in R and A, where it was
  *     'X': a record kept with that 'X' no longer replays. The archive can't tell which header its caller was compiled with: compile all of a host
  *     with the header that came with the archive, and anew whenever they change.
@@ -72,11 +73,11 @@ extern "C" {
 /* ---- Limits ------------------------------------------------------------------------------------------------------------------------- */
 
 /* Bytes of stack that a call needs at most; garumbott_run alone needs more. */
-#define GARUMBOTT_STACK 24576
+#define GARUMBOTT_STACK 65536
 #define GARUMBOTT_RUN_STACK 147456
 
-/* The longest reference transcript, and the most new bases of an edit. */
-#define GARUMBOTT_LONGEST 16384
+/* The longest reference transcript, and the most new bases of an edit. The text program takes transcripts up to 16,384 bases. */
+#define GARUMBOTT_LONGEST 131072
 #define GARUMBOTT_MOST_BASES 4096
 
 /* The most exceptions, and the bytes of each. An exception has a codon read as another residue than the table's: the codon's number, from 1, in
@@ -86,9 +87,13 @@ extern "C" {
 
 /* Buffers of these sizes are never too short for garumbott_edit, garumbott_record and garumbott_check. garumbott_transcript_room and the two
  * functions behind it compute smaller ones. */
-#define GARUMBOTT_TRANSCRIPT_ROOM 32768
-#define GARUMBOTT_REFERENCE_ROOM 5462
-#define GARUMBOTT_ALTERED_ROOM 10923
+#define GARUMBOTT_TRANSCRIPT_ROOM 262144
+#define GARUMBOTT_REFERENCE_ROOM 43691
+#define GARUMBOTT_ALTERED_ROOM 87382
+
+/* Bytes of a difference between two editions, and room for all differences that two references can have: garumbott_compare. */
+#define GARUMBOTT_DIFFERENCE_BYTES 4
+#define GARUMBOTT_DIFFERENCES_ROOM 174764
 
 /* ---- Numbers ------------------------------------------------------------------------------------------------------------------------ */
 
@@ -150,10 +155,30 @@ extern "C" {
 #define GARUMBOTT_REFUSAL_TAG 21             /* stored: a tag is unknown, repeated or not rising */
 #define GARUMBOTT_REFUSAL_MISSING 22         /* stored: letters, bounds or table are missing */
 #define GARUMBOTT_REFUSAL_FIELD 23           /* stored: a field's length is wrong for its tag, or tag 8 isn't 1 or 2 */
+#define GARUMBOTT_REFUSAL_STORED_ROOM 24     /* a stored form to be written: the buffer is too short for it */
+#define GARUMBOTT_REFUSAL_PARTS 25           /* stored: both bounds tags, the wrong one for L, or letters go on before a field was full */
 #define GARUMBOTT_REFUSAL_NOT_CHANGED 26     /* a record to be checked: the edit's answer isn't GARUMBOTT_CHANGED */
 #define GARUMBOTT_REFUSAL_PROPOSAL 27        /* a record to be checked: its number is 0 or above R's length plus one, or a byte of it is no residue */
 #define GARUMBOTT_REFUSAL_END 28             /* the end is unknown; or it isn't at a stop, and then ce isn't the last base, or R has a '*' */
+#define GARUMBOTT_REFUSAL_JOINED_ROOM 29     /* stored: the joined letters don't fit their buffer */
 #define GARUMBOTT_REFUSAL_LINE 30            /* a text line isn't in the form */
+#define GARUMBOTT_REFUSAL_LIST 50            /* the list of differences doesn't fit its buffer */
+#define GARUMBOTT_REFUSAL_TOUCHING 51        /* two edits: what they touch meets, or has no base between */
+#define GARUMBOTT_REFUSAL_PAIR_UNKNOWN 52    /* two edits: one of them is Unknown */
+#define GARUMBOTT_REFUSAL_PAIR_STOP 53       /* two edits: the stop cut of one of them finds a stop */
+
+/* The numbers of the panel profile and of settings. No function answers them yet. */
+#define GARUMBOTT_REFUSAL_PROFILE_LETTER 40  /* profile: a reference letter or a new base isn't A, C, G or T */
+#define GARUMBOTT_REFUSAL_PROFILE_EDIT 41    /* profile: a delins, an inversion or an identity, or a position that isn't in the CDS */
+#define GARUMBOTT_REFUSAL_PROFILE_FRAME 42   /* profile: the change of length isn't divisible by three */
+#define GARUMBOTT_REFUSAL_NAMED_BASE 43      /* profile: the base that a substitution names isn't the one there */
+#define GARUMBOTT_REFUSAL_VERSION 60         /* settings: no version that is known; with `newer` beside it, a newer one */
+#define GARUMBOTT_REFUSAL_SETTINGS_FIELD 61  /* settings: a field is missing, cut off, extra, out of order or of wrong length */
+#define GARUMBOTT_REFUSAL_SETTING 62         /* settings: a content is out of range; an edit: its longest edit is above 4,096 */
+#define GARUMBOTT_REFUSAL_SETTINGS_ROOM 63   /* settings: the buffer is too short for the store */
+
+/* Two references compared: what is added to a refusal of the second one, so that 101 to 106 and 128 are its 1 to 6 and 28. */
+#define GARUMBOTT_OF_SECOND 100
 
 /* ---- Answers ------------------------------------------------------------------------------------------------------------------------ */
 
@@ -212,18 +237,26 @@ struct garumbott_checked {
     uint64_t altered_len;
 };
 
+/* What garumbott_pair answers: a refusal's number and 0, 0, or 0 and the bytes written to each buffer. */
+struct garumbott_paired {
+    uint64_t refusal;        /* GARUMBOTT_REFUSAL_.., or 0 */
+    uint64_t transcript_len; /* bytes written to each buffer */
+    uint64_t altered_len;
+};
+
 /* What garumbott_read_stored answers: a refusal's number and every other number 0, or 0, the reference's numbers, and where its letters and its
- * exceptions stand in the bytes that were read. Places count from 0. */
+ * exceptions stand in the bytes that were read, the letters perhaps in the buffer that was lent for them. Places count from 0. */
 struct garumbott_stored {
     uint64_t refusal; /* GARUMBOTT_REFUSAL_.., or 0 */
     uint64_t cs;
     uint64_t ce;
     uint64_t table;
-    uint64_t letters_at; /* the letters: data[letters_at] .. data[letters_at + letters_len - 1] */
+    uint64_t letters_at; /* the letters: data[letters_at] .. data[letters_at + letters_len - 1]; 0 where they are joined */
     uint64_t letters_len;
     uint64_t exceptions_at; /* the exceptions, likewise; without a field for them, 0 bytes at 0 */
     uint64_t exceptions_len;
-    uint64_t end; /* GARUMBOTT_END_.. */
+    uint64_t end;    /* GARUMBOTT_END_.. */
+    uint64_t joined; /* 1 where the letters stand in the buffer that was lent for them, from its start; 0 where they stand in data */
 };
 
 /* ---- Edits -------------------------------------------------------------------------------------------------------------------------- */
@@ -231,7 +264,7 @@ struct garumbott_stored {
 /* The whole answer to one edit of a reference.
  *
  * The reference:
- *   letters, letters_len         the transcript, 1 to 16,384 upper-case letters (1, 2)
+ *   letters, letters_len         the transcript, 1 to 131,072 upper-case letters (1, 2)
  *   cs, ce                       first and last base of the CDS, counted from 1, both included: six bases or more, whole codons, but for a CDS that
  *                                ends in a cut codon (3)
  *   table                        GARUMBOTT_TABLE_..; not NCBI's number (4)
@@ -325,16 +358,67 @@ struct garumbott_checked garumbott_check(const uint8_t *letters, uint64_t letter
                                          const uint8_t *inserted, uint64_t inserted_len, uint8_t *transcript, uint64_t transcript_len,
                                          uint8_t *reference, uint64_t reference_len, uint8_t *altered, uint64_t altered_len);
 
+/* Two edits on one transcript, as a haplotype has them: the transcript that carries both, and its protein. The reference is that of garumbott_record; the
+ * first edit's numbers are kind to bases_len, the second's other_kind to other_bases_len, with the same meanings.
+ *
+ * Each edit must be accepted by itself and not be Unknown, its stop cut must find no stop, and at least one base that neither touches must lie between
+ * the two. An edit touches its start to its end: a duplication the bases that it copies, an identity the bases that it leaves as they are; an insertion
+ * touches the gap alone where its bases go in. Positions are those of the reference for both edits: the one behind is moved by the other's length change,
+ * and a copy or a complement is taken from the reference. New bases go in whole, though the other edit may shift a stop into them.
+ *
+ * The protein is read from cs on, without exceptions, through its first stop; with none, to the end, 'X' for a rest. There is always a residue. Nothing is
+ * said of R, and there is no record: compare the protein with what you hold it against.
+ *
+ * In the reference of the example above "4G>C" and "6C>G" make GGATGCCGAAATGGTAACCTGAC, MPKW*; "4G>C" and "5C>G" are refused with 51. Both orders of two
+ * accepted edits are answered the same.
+ *
+ * Refusals, the first that applies: 1 to 5; 6 or 28; the first edit's 7 to 10; the second's; 51; 52; 53; 11, a transcript buffer shorter than the pair's
+ * length, which is letters_len plus both edits' length changes; 12, a protein buffer shorter than (pair's length - cs + 1) / 3, rounded up. Room that is
+ * enough: garumbott_transcript_room of both edits, added, less letters_len, and garumbott_altered_room of that. GARUMBOTT_TRANSCRIPT_ROOM may be too
+ * short by up to GARUMBOTT_MOST_BASES, where nearly all of the longest transcript is copied and bases are inserted too. */
+struct garumbott_paired garumbott_pair(const uint8_t *letters, uint64_t letters_len, uint64_t cs, uint64_t ce, uint64_t table,
+                                       const uint8_t *exceptions, uint64_t exceptions_len, uint64_t cds_end, uint64_t kind,
+                                       uint64_t start_star, int64_t start, uint64_t end_star, int64_t end, const uint8_t *bases,
+                                       uint64_t bases_len, uint64_t other_kind, uint64_t other_start_star, int64_t other_start,
+                                       uint64_t other_end_star, int64_t other_end, const uint8_t *other_bases, uint64_t other_bases_len,
+                                       uint8_t *transcript, uint64_t transcript_len, uint8_t *altered, uint64_t altered_len);
+
+/* ---- Editions ----------------------------------------------------------------------------------------------------------------------- */
+
+/* Compares two editions of a transcript, codon by codon, and lists what differs. The two references are each as in garumbott_record, of any table and end, each by
+ * itself; they aren't asked to have anything in common.
+ *   out                          gets the list, four bytes a difference: the codon's number in two, high byte first, then its residue in the first
+ *                                reference and in the second, 0 for one that has no such codon. The answer's len is in bytes, 4 for each
+ *                                difference. GARUMBOTT_DIFFERENCES_ROOM is never too short, and neither is 4 bytes for each codon of the longer
+ *                                CDS (50)
+ * Codon n of one CDS stands beside codon n of the other; nothing is aligned. A codon is listed if its letters differ, or if it reads another residue, by its table or
+ * an exception: "2 K K" tells of other letters with the same residue. Behind the end of the shorter CDS each codon of the longer one is listed. The one or two
+ * bases of a cut codon count as a codon that reads 'X', and differ from a whole codon that begins with them. Bases outside the CDS, bounds, table and end are no
+ * difference by themselves. The numbers rise, no codon is listed twice, none that is equal is listed, and the list is empty exactly if the two CDS
+ * have the same letters and residues. With the two references swapped the list is the same with its residues swapped.
+ * ATGAAATAA and ATGAAGCCCTAA give "\0\2KK" "\0\3*P" "\0\4\0*".
+ *
+ * Refusals, the first that applies: 1 to 5, then 6 or 28, of the first reference; the same of the second with GARUMBOTT_OF_SECOND added, 101 to 106 and 128; 50.
+ * Several stops in a CDS are no fault. No memory of the size of a protein is needed. */
+struct garumbott_length garumbott_compare(const uint8_t *letters, uint64_t letters_len, uint64_t cs, uint64_t ce, uint64_t table,
+                                          const uint8_t *exceptions, uint64_t exceptions_len, uint64_t cds_end,
+                                          const uint8_t *second_letters, uint64_t second_letters_len, uint64_t second_cs, uint64_t second_ce,
+                                          uint64_t second_table, const uint8_t *second_exceptions, uint64_t second_exceptions_len,
+                                          uint64_t second_cds_end, uint8_t *out, uint64_t out_len);
+
 /* ---- Stored references -------------------------------------------------------------------------------------------------------------- */
 
 /* Reads a reference from its stored form, and judges it: 1 to 6 and 28 are tested here as in garumbott_record.
  *
  * The stored form is fields, one behind the other, with nothing else between or behind them. A field is a tag of one byte, a length of two
- * bytes and as many bytes of content as the length says. Every number of two bytes has its high byte first. Tags rise, so none comes twice:
- *   1   letters      the transcript
- *   2   bounds       cs, then ce, two bytes each
+ * bytes and as many bytes of content as the length says. Every number of two bytes or four has its high byte first. Tags rise, so none comes twice:
+ *   1   letters      the transcript, its first 65,535 letters at most
+ *   2   bounds       cs, then ce, two bytes each; of a transcript of up to 16,384 letters
  *   3   table        one byte
  *   4   exceptions   three bytes each, as above; the field may be empty, or absent
+ *   5   letters      those that follow, where tag 1 is full with 65,535
+ *   6   letters      those that follow, where tag 5 is full too
+ *   7   bounds       cs, then ce, four bytes each, in place of tag 2; of a longer transcript
  *   8   end          one byte, GARUMBOTT_END_NO_STOP or GARUMBOTT_END_CUT_CODON; absent where the CDS ends at a stop
  * The reference of the example above is "\1\0\27GGATGGCCAAATGGTAACCTGAC" "\2\0\4\0\3\0\21" "\3\0\1\0". ATGGCC without a stop is
  * "\1\0\6ATGGCC" "\2\0\4\0\1\0\6" "\3\0\1\0" "\10\0\1\1".
@@ -342,15 +426,40 @@ struct garumbott_checked garumbott_check(const uint8_t *letters, uint64_t letter
  * Refusals, the first that applies:
  *   20, 21, 23   met in the order of the fields; in one field 21 before 20 before 23.
  *                20: the bytes end within the field.
- *                21: the tag isn't 1 to 4 or 8, or isn't above the tag before it.
- *                23: the length isn't 4 for tag 2, 1 for tags 3 and 8, or divisible by three for tag 4, or tag 8 isn't 1 or 2; tag 1 may have
- *                any length here
- *   22           tag 1, 2 or 3 is missing
+ *                21: the tag isn't 1 to 8, or isn't above the tag before it.
+ *                23: the length isn't 4 for tag 2, 1 for tags 3 and 8, 8 for tag 7, or divisible by three for tag 4, tag 5 or 6 is empty, or
+ *                tag 8 isn't 1 or 2; tag 1 may have any length here
+ *   22           tag 1 or 3 is missing, or there is neither tag 2 nor tag 7
+ *   25           tag 2 with more than 16,384 letters in all, tag 7 with no more, or both; or a tag 5 or 6 though the one before isn't full
  *   1 to 6       the lowest, 28 in 6's place where the CDS doesn't end at a stop
+ *   29           there is a tag 5, and the letters of all fields don't fit `joined`
  *
- * Nothing is copied: the letters and the exceptions stay where they stand in data, which must stay as it is while they are used.
+ * Where there is a tag 5, the letters of all fields are written to `joined`, one behind the other, from its start; GARUMBOTT_LONGEST bytes are always
+ * enough. Else nothing is copied, and `joined` may be NULL with length 0. What stands in data must stay as it is while it is used.
  * garumbott_reference_at, below, makes of the answer what garumbott_record_of, garumbott_edit_of and garumbott_check_of take. */
-struct garumbott_stored garumbott_read_stored(const uint8_t *data, uint64_t data_len);
+struct garumbott_stored garumbott_read_stored(const uint8_t *data, uint64_t data_len, uint8_t *joined, uint64_t joined_len);
+
+/* The other way: writes a reference to out in the stored form above, one byte a letter, and answers the form's length. Tags rise, and a field that would be
+ * empty is left out: no tag 4 without exceptions, no tag 8 for a CDS that ends at a stop. Read again, the form is the same reference; and bytes that
+ * garumbott_read_stored takes are written as they were, but for a tag 4 of length 0, which is left out.
+ *
+ * The form's length follows from the reference's numbers: garumbott_stored_room, below, tells it, exactly. The example's is 37.
+ *     uint64_t room = garumbott_stored_room(r.letters_len, r.exceptions_len, r.end);
+ *     uint8_t *form = malloc(room);
+ *     struct garumbott_length w = garumbott_write_stored_of(&r, form, room);   of a reference that isn't refused: w.len is room
+ *
+ * Refusals, the first that applies:
+ *   1 to 6       the lowest, 28 in 6's place where the CDS isn't said to end at a stop: as of any other call, and as garumbott_read_stored would refuse it. Numbers that
+ *                have no stored form at all (cs 65,537 of six letters, table 256) get theirs, 3 and 4
+ *   24           out is too short for the form */
+struct garumbott_length garumbott_write_stored(
+    const uint8_t *letters, uint64_t letters_len,
+    uint64_t cs,
+    uint64_t ce,
+    uint64_t table,
+    const uint8_t *exceptions, uint64_t exceptions_len,
+    uint64_t cds_end,
+    uint8_t *out, uint64_t out_len);
 
 /* ---- The text program --------------------------------------------------------------------------------------------------------------- */
 
@@ -424,11 +533,12 @@ struct garumbott_buffers {
     uint64_t altered_len;
 };
 
-/* The reference that garumbott_read_stored found in data; it points into data. Of a refusal: a reference without letters, refused with 1. */
-static inline struct garumbott_reference garumbott_reference_at(const struct garumbott_stored *s, const uint8_t *data)
+/* The reference that garumbott_read_stored found in data, with the buffer that it was lent; it points into data, and its letters into `joined` where they
+ * are joined. Of a refusal: a reference without letters, refused with 1. */
+static inline struct garumbott_reference garumbott_reference_at(const struct garumbott_stored *s, const uint8_t *data, const uint8_t *joined)
 {
     struct garumbott_reference r;
-    r.letters = s->letters_len == 0 ? NULL : data + s->letters_at;
+    r.letters = s->letters_len == 0 ? NULL : s->joined != 0 ? joined : data + s->letters_at;
     r.letters_len = s->letters_len;
     r.cs = s->cs;
     r.ce = s->ce;
@@ -462,6 +572,36 @@ static inline struct garumbott_checked garumbott_check_of(const struct garumbott
     return garumbott_check(r->letters, r->letters_len, r->cs, r->ce, r->table, r->exceptions, r->exceptions_len, r->end, e->kind,
                            e->start_star, e->start, e->end_star, e->end, e->bases, e->bases_len, number, deleted, deleted_len, inserted,
                            inserted_len, b->transcript, b->transcript_len, b->reference, b->reference_len, b->altered, b->altered_len);
+}
+
+static inline struct garumbott_length garumbott_write_stored_of(const struct garumbott_reference *r, uint8_t *out, uint64_t out_len)
+{
+    return garumbott_write_stored(r->letters, r->letters_len, r->cs, r->ce, r->table, r->exceptions, r->exceptions_len, r->end, out, out_len);
+}
+
+/* Exactly what 24 asks for: the length of a reference's stored form, of a reference that isn't refused. letters_len is L. Three bytes and a content for each
+ * field: the letters, cs and ce in two bytes each or, above 16,384 letters, in four, the table, the exceptions and the end where there are any; and the letters
+ * beyond 65,535 and beyond 131,070 have a field of their own. */
+static inline uint64_t garumbott_stored_room(uint64_t letters_len, uint64_t exceptions_len, uint64_t cds_end)
+{
+    return letters_len + 14 + (letters_len > 16384 ? 4 : 0) + (letters_len > 65535 ? 3 : 0) + (letters_len > 131070 ? 3 : 0)
+        + (exceptions_len == 0 ? 0 : 3 + exceptions_len) + (cds_end == GARUMBOTT_END_STOP ? 0 : 4);
+}
+
+/* Only the transcript buffer and that of the altered protein are used. */
+static inline struct garumbott_paired garumbott_pair_of(const struct garumbott_reference *r, const struct garumbott_coding_edit *e,
+                                                        const struct garumbott_coding_edit *f, const struct garumbott_buffers *b)
+{
+    return garumbott_pair(r->letters, r->letters_len, r->cs, r->ce, r->table, r->exceptions, r->exceptions_len, r->end, e->kind,
+                          e->start_star, e->start, e->end_star, e->end, e->bases, e->bases_len, f->kind, f->start_star, f->start,
+                          f->end_star, f->end, f->bases, f->bases_len, b->transcript, b->transcript_len, b->altered, b->altered_len);
+}
+
+static inline struct garumbott_length garumbott_compare_of(const struct garumbott_reference *r, const struct garumbott_reference *s,
+                                                           uint8_t *out, uint64_t out_len)
+{
+    return garumbott_compare(r->letters, r->letters_len, r->cs, r->ce, r->table, r->exceptions, r->exceptions_len, r->end, s->letters,
+                             s->letters_len, s->cs, s->ce, s->table, s->exceptions, s->exceptions_len, s->end, out, out_len);
 }
 
 /* Room that is enough for any edit of a kind with so many new bases. Less may do: 11 and 12 ask for the altered length itself, and for a
@@ -516,22 +656,33 @@ static inline const char *garumbott_answer_name(uint64_t answer)
     }
 }
 
+/* The words of what is refused of a reference, the first of two as well as the second. */
+#define GARUMBOTT_WORDS_LENGTH "the transcript's length is 0 or above 131,072 (in the text program 16,384)"
+#define GARUMBOTT_WORDS_LETTER \
+    "a letter is not of ACGTRYSWKMBDHVN, the fifteen of a reference and of a complement; plain translation takes either case, and U as T"
+#define GARUMBOTT_WORDS_BOUNDS \
+    "the bounds break a rule: 1 <= cs <= ce <= length, ce-cs+1 divisible by 3 (not divisible where the CDS ends in a cut codon) " \
+    "and at least 6"
+#define GARUMBOTT_WORDS_TABLE "the table is not 0, 1 or 2"
+#define GARUMBOTT_WORDS_EXCEPTIONS \
+    "the exceptions break a rule: at most 16, codon numbers strictly rising from 1 to the number of whole CDS codons " \
+    "(in plain translation from 1 in any order), residues A to Z or *"
+#define GARUMBOTT_WORDS_LAST_CODON \
+    "the CDS ends at a stop, as stated, but its last codon, exceptions applied, doesn't read *"
+#define GARUMBOTT_WORDS_END \
+    "the CDS's stated end is unknown; or the CDS is cut short, and then ce is not the last base, or a codon reads *, exceptions applied"
+
 /* When a refusal is given, in words for a user. They may change with the version: tell refusals apart by their numbers. */
 static inline const char *garumbott_refusal_words(uint64_t number)
 {
     switch (number) {
     case 0: return "not refused";
-    case GARUMBOTT_REFUSAL_LENGTH: return "the transcript's length is 0 or above 16,384";
-    case GARUMBOTT_REFUSAL_LETTER:
-        return "a letter is not of ACGTRYSWKMBDHVN, the fifteen of a reference and of a complement; plain translation takes either case, and U as T";
-    case GARUMBOTT_REFUSAL_BOUNDS:
-        return "the bounds break a rule: 1 <= cs <= ce <= length, ce-cs+1 divisible by 3 (not divisible where the CDS ends in a cut codon) "
-               "and at least 6";
-    case GARUMBOTT_REFUSAL_TABLE: return "the table is not 0, 1 or 2";
-    case GARUMBOTT_REFUSAL_EXCEPTIONS:
-        return "the exceptions break a rule: at most 16, codon numbers strictly rising from 1 to the number of whole CDS codons "
-               "(in plain translation from 1 in any order), residues A to Z or *";
-    case GARUMBOTT_REFUSAL_LAST_CODON: return "the CDS ends at a stop, as stated, but its last codon, exceptions applied, doesn't read *";
+    case GARUMBOTT_REFUSAL_LENGTH: return GARUMBOTT_WORDS_LENGTH;
+    case GARUMBOTT_REFUSAL_LETTER: return GARUMBOTT_WORDS_LETTER;
+    case GARUMBOTT_REFUSAL_BOUNDS: return GARUMBOTT_WORDS_BOUNDS;
+    case GARUMBOTT_REFUSAL_TABLE: return GARUMBOTT_WORDS_TABLE;
+    case GARUMBOTT_REFUSAL_EXCEPTIONS: return GARUMBOTT_WORDS_EXCEPTIONS;
+    case GARUMBOTT_REFUSAL_LAST_CODON: return GARUMBOTT_WORDS_LAST_CODON;
     case GARUMBOTT_REFUSAL_POSITION:
         return "a position is 0, star 0 or above 65,535, past the CDS or before base 1 of the transcript, "
                "or a duplication's end is behind the transcript";
@@ -549,14 +700,41 @@ static inline const char *garumbott_refusal_words(uint64_t number)
                "or an output doesn't fit (of names, a translation, a complement or a run)";
     case GARUMBOTT_REFUSAL_CUT: return "a stored field is cut off";
     case GARUMBOTT_REFUSAL_TAG: return "a stored tag is unknown, repeated or not rising";
-    case GARUMBOTT_REFUSAL_MISSING: return "stored tag 1, 2 or 3 (letters, bounds, table) is missing";
-    case GARUMBOTT_REFUSAL_FIELD: return "a stored field's length is wrong for its tag, or the content of tag 8 is not 1 or 2";
+    case GARUMBOTT_REFUSAL_MISSING: return "stored tag 1 or 3 (letters, table) is missing, or one of tags 2 and 7 (bounds)";
+    case GARUMBOTT_REFUSAL_FIELD:
+        return "a stored field's length is wrong for its tag, tag 5 or 6 is empty, or the content of tag 8 is not 1 or 2";
+    case GARUMBOTT_REFUSAL_STORED_ROOM: return "the buffer is too short for the stored form";
+    case GARUMBOTT_REFUSAL_PARTS:
+        return "a stored reference has both bounds tags, the wrong one for L, or a letter field begun before the last was full";
     case GARUMBOTT_REFUSAL_NOT_CHANGED: return "the edit's answer isn't Changed: it is unknown, silent or no protein, and has no record to check";
     case GARUMBOTT_REFUSAL_PROPOSAL:
         return "the proposed record's number is 0 or above the length of R plus one, or a residue byte of it is not A to Z or *";
-    case GARUMBOTT_REFUSAL_END:
-        return "the CDS's stated end is unknown; or the CDS is cut short, and then ce is not the last base, or a codon reads *, exceptions applied";
+    case GARUMBOTT_REFUSAL_END: return GARUMBOTT_WORDS_END;
+    case GARUMBOTT_REFUSAL_JOINED_ROOM: return "the joined letters of a stored reference don't fit their buffer";
     case GARUMBOTT_REFUSAL_LINE: return "the text line is not in the form";
+    case GARUMBOTT_REFUSAL_LIST: return "the list of differences doesn't fit its buffer";
+    case GARUMBOTT_REFUSAL_TOUCHING: return "the ranges that the two edits touch meet, or have no base between";
+    case GARUMBOTT_REFUSAL_PAIR_UNKNOWN: return "one of the two edits is Unknown";
+    case GARUMBOTT_REFUSAL_PAIR_STOP: return "the stop cut of one of the two edits finds a *";
+    case GARUMBOTT_REFUSAL_PROFILE_LETTER: return "a reference letter or a new base is outside the four that the profile takes, A, C, G and T";
+    case GARUMBOTT_REFUSAL_PROFILE_EDIT:
+        return "the kind or a position is outside the profile: substitutions, deletions, duplications and insertions with both ends in the CDS";
+    case GARUMBOTT_REFUSAL_PROFILE_FRAME: return "the net change of length is not divisible by three, as the profile wants it";
+    case GARUMBOTT_REFUSAL_NAMED_BASE: return "the base named in the substitution differs from the one there";
+    case GARUMBOTT_REFUSAL_VERSION:
+        return "the settings' version, a first field of tag 1 and one byte, is missing, unknown or newer than the reader";
+    case GARUMBOTT_REFUSAL_SETTINGS_FIELD: return "a field of the settings is missing, cut off, extra, out of order or of wrong length";
+    case GARUMBOTT_REFUSAL_SETTING:
+        return "a content of the settings is out of range (table 0 to 2, profile 0 or 1, width 1 or 3, longest edit 1 to 4,096), a version 1 store "
+               "was asked for with a smaller longest edit, or a call's longest edit is above 4,096";
+    case GARUMBOTT_REFUSAL_SETTINGS_ROOM: return "the buffer is too short for the store of the settings";
+    case GARUMBOTT_OF_SECOND + GARUMBOTT_REFUSAL_LENGTH: return "of the second reference: " GARUMBOTT_WORDS_LENGTH;
+    case GARUMBOTT_OF_SECOND + GARUMBOTT_REFUSAL_LETTER: return "of the second reference: " GARUMBOTT_WORDS_LETTER;
+    case GARUMBOTT_OF_SECOND + GARUMBOTT_REFUSAL_BOUNDS: return "of the second reference: " GARUMBOTT_WORDS_BOUNDS;
+    case GARUMBOTT_OF_SECOND + GARUMBOTT_REFUSAL_TABLE: return "of the second reference: " GARUMBOTT_WORDS_TABLE;
+    case GARUMBOTT_OF_SECOND + GARUMBOTT_REFUSAL_EXCEPTIONS: return "of the second reference: " GARUMBOTT_WORDS_EXCEPTIONS;
+    case GARUMBOTT_OF_SECOND + GARUMBOTT_REFUSAL_LAST_CODON: return "of the second reference: " GARUMBOTT_WORDS_LAST_CODON;
+    case GARUMBOTT_OF_SECOND + GARUMBOTT_REFUSAL_END: return "of the second reference: " GARUMBOTT_WORDS_END;
     default: return "a refusal that this header doesn't know";
     }
 }

@@ -10,6 +10,7 @@
  * error says how often each answer was given. Exit status: 0, or 1 where a read or a write fails. */
 #define _POSIX_C_SOURCE 200809L
 #include "garumbott.h"
+#include "lines.h"
 #include <errno.h>
 #include <inttypes.h>
 #include <stdbool.h>
@@ -17,8 +18,6 @@
 #include <stdlib.h>
 #include <string.h>
 #include <unistd.h>
-
-enum { LONGEST_LINE = 20480, MOST_DIGITS = 5 };
 
 static void fail(const char *words)
 {
@@ -74,31 +73,6 @@ static bool next_line(struct line *line)
     return true;
 }
 
-/* What is left of a line. Each function below takes its part from it, or answers false. */
-struct text {
-    const uint8_t *at, *end;
-};
-
-static bool take(struct text *s, const char *word)
-{
-    size_t n = strlen(word);
-    if ((size_t)(s->end - s->at) < n || memcmp(s->at, word, n) != 0) return false;
-    s->at += n;
-    return true;
-}
-
-/* Decimal, at most five digits, no leading zero but in a lone 0. */
-static bool take_number(struct text *s, uint64_t *n)
-{
-    const uint8_t *first = s->at;
-    *n = 0;
-    for (; s->at != s->end && *s->at >= '0' && *s->at <= '9'; s->at++) {
-        if (s->at - first == MOST_DIGITS) return false;
-        *n = 10 * *n + (uint64_t)(*s->at - '0');
-    }
-    return s->at != first && (*first != '0' || s->at - first == 1);
-}
-
 static bool take_position(struct text *s, uint64_t *star, int64_t *number)
 {
     bool minus = take(s, "-");
@@ -107,16 +81,6 @@ static bool take_position(struct text *s, uint64_t *star, int64_t *number)
     if (!take_number(s, &n)) return false;
     *number = minus ? -(int64_t)n : (int64_t)n;
     return true;
-}
-
-/* One or more bytes from `low` to `high`. */
-static bool take_bytes(struct text *s, uint8_t low, uint8_t high, const uint8_t **bytes, uint64_t *len)
-{
-    const uint8_t *first = s->at;
-    while (s->at != s->end && *s->at >= low && *s->at <= high) s->at++;
-    *bytes = first;
-    *len = (uint64_t)(s->at - first);
-    return *len != 0;
 }
 
 static bool take_edit(struct text *s, struct garumbott_coding_edit *e)
@@ -153,9 +117,7 @@ static bool take_residues(struct text *s, const uint8_t **residues, uint64_t *le
 static bool read_reference(const struct line *line, struct garumbott_reference *r)
 {
     struct text s = {line->text, line->text + line->len};
-    memset(r, 0, sizeof *r);
-    return line->whole && take(&s, "ref ") && take_number(&s, &r->cs) && take(&s, " ") && take_number(&s, &r->ce) && take(&s, " ")
-        && take_number(&s, &r->table) && take(&s, " ") && take_bytes(&s, 'A', 'Z', &r->letters, &r->letters_len) && s.at == s.end;
+    return line->whole && take_reference(&s, r);
 }
 
 struct record {
@@ -193,12 +155,16 @@ static void answer(const struct garumbott_reference *reference, const struct lin
     }
 }
 
+/* The longest transcript that a text line names. */
+enum { TEXT_LONGEST = 16384 };
+
 /* R of a reference that isn't refused. Whether it is, an edit that changes nothing and has no room tells: it is Unknown or refused with 11 otherwise. */
 static uint64_t answer_reference(const struct garumbott_reference *r)
 {
     static uint8_t R[GARUMBOTT_REFERENCE_ROOM];
     static const struct garumbott_coding_edit nothing = {.kind = GARUMBOTT_IDENTITY, .start = 1, .end = 1};
     static const struct garumbott_buffers none;
+    if (r->letters_len > TEXT_LONGEST) return GARUMBOTT_REFUSAL_LENGTH;
     uint64_t refusal = garumbott_record_of(r, &nothing, &none).refusal;
     if (refusal != 0 && refusal != GARUMBOTT_REFUSAL_TRANSCRIPT_ROOM) return refusal;
     struct garumbott_length n = garumbott_translate(r->letters + (r->cs - 1), r->ce + 1 - r->cs, r->table, 1, NULL, 0, R, sizeof R);

@@ -1,8 +1,9 @@
-"""A second account of documents 01 and 02 (E2, E4, E5, E7, E8), in Python, written from their text and not from the definitions or the code.
+"""A second account of documents 01 and 02 (E1, E2, E4, E5, E7, E8, E9, E11, E12, E13), in Python, written from their text and not from the definitions or the code.
 
 What the programs print is compared with it. It is only as good as its reading of the documents: where it and the proved module differ, one of
 the two is wrong. `python3 account.py < input` prints what the text program prints, `python3 account.py records < input` what check-records does.
 """
+import itertools
 import sys
 
 LETTERS = {"A": "A", "C": "C", "G": "G", "T": "T", "R": "AG", "Y": "CT", "S": "CG", "W": "AT", "K": "GT", "M": "AC",
@@ -13,7 +14,9 @@ OTHER_CODONS = [{}, {"TGA": "U"}, {"TGA": "W", "ATA": "M", "AGA": "*", "AGG": "*
 MIXES = {"DN": "B", "EQ": "Z"}
 KINDS = ["substitution", "deletion", "delins", "insertion", "duplication", "inversion", "identity"]
 WITH_BASES = ["substitution", "delins", "insertion"]
-LONGEST, MOST_BASES, MOST_EXCEPTIONS, LONGEST_LINE = 16384, 4096, 16, 20480
+LONGEST, MOST_BASES, MOST_EXCEPTIONS = 131072, 4096, 16
+TEXT_LONGEST, LONGEST_LINE = 16384, 20480
+FULL = 65535  # letters of a full field (E6)
 
 
 class Refused(Exception):
@@ -77,9 +80,9 @@ class Reference:
     def __init__(self, letters, cs, ce, table, exceptions=(), end=AT_STOP):
         self.letters, self.cs, self.ce, self.table, self.exceptions, self.end = letters, cs, ce, table, list(exceptions), end
 
-    def check(self):
+    def check(self, longest=LONGEST):
         size, codon_count = self.ce - self.cs + 1, (self.ce - self.cs + 1) // 3
-        refuse(1, not 1 <= len(self.letters) <= LONGEST)
+        refuse(1, not 1 <= len(self.letters) <= longest)
         refuse(2, any(letter not in LETTERS for letter in self.letters))
         refuse(3, not (1 <= self.cs <= self.ce <= len(self.letters) and (size % 3 != 0) == (self.end == CUT_CODON) and size >= 6))
         refuse(4, self.table not in (0, 1, 2))
@@ -122,7 +125,13 @@ def index(ref, position):
     return {"": ref.cs + n - 2, "-": ref.cs - 1, "*": min(ref.ce + n - 1, len(ref.letters))}[sign]
 
 
-def check_edit(ref, edit):
+def most_bases(longest):
+    """Refusal 10's limit by the longest edit of a call (E12): 0 is 4,096."""
+    refuse(62, longest > MOST_BASES)
+    return longest or MOST_BASES
+
+
+def check_edit(ref, edit, longest=0):
     refuse(7, is_outside(ref, edit.start) or is_outside(ref, edit.end))
     first, last = place(ref, edit.start), place(ref, edit.end)
     refuse(7, edit.kind == "duplication" and last >= len(ref.letters))
@@ -130,7 +139,7 @@ def check_edit(ref, edit):
     signs = edit.start[0] + edit.end[0]
     refuse(9, signs in ("--", "**") or edit.kind == "insertion" and edit.start[0] == "-")
     refuse(10, edit.kind not in KINDS)
-    most = {"substitution": 1}.get(edit.kind, MOST_BASES) if edit.kind in WITH_BASES else 0
+    most = {"substitution": 1}.get(edit.kind, most_bases(longest)) if edit.kind in WITH_BASES else 0
     refuse(10, not (edit.kind in WITH_BASES) <= len(edit.bases) <= most or any(base not in LETTERS for base in edit.bases))
 
 
@@ -245,9 +254,20 @@ def record_of(ref, edit, altered):
     return Record(word, number, (s, len(deleted)), (s, n), number - n if word == "duplication" else 0)
 
 
-def answer(ref, edit):
-    """The record of an edit of a checked reference, and what it makes; None for Unknown."""
-    check_edit(ref, edit)
+def check_panel(ref, edit, named):
+    """What the panel profile refuses of an edit that isn't refused (E9); `named` is the base that a substitution names, as a number."""
+    refuse(40, any(letter not in "ACGT" for letter in ref.letters + edit.bases))
+    refuse(41, edit.kind not in ("substitution", "deletion", "duplication", "insertion") or edit.start[0] + edit.end[0] != "")
+    first, last = place(ref, edit.start), place(ref, edit.end)
+    refuse(42, {"substitution": 0, "insertion": len(edit.bases)}.get(edit.kind, last - first + 1) % 3 != 0)
+    refuse(43, edit.kind == "substitution" and named != ord(ref.letters[first]))
+
+
+def answer(ref, edit, longest=0, named=None):
+    """The record of an edit of a checked reference, and what it makes; None for Unknown. Where a base is named, under the panel profile."""
+    check_edit(ref, edit, longest)
+    if named is not None:
+        check_panel(ref, edit, named)
     if is_unknown(ref, edit):
         return Record("unknown"), None
     altered = Altered(ref, edit)
@@ -282,14 +302,89 @@ def proposal_answers(r, a, number, deleted, inserted):
     return first, first and number == shared_first(r, a) + 1 and len(deleted) == least_deleted(r, a)
 
 
-def checked(ref, edit, number, deleted, inserted, room=None):
+def checked(ref, edit, number, deleted, inserted, room=None, longest=0):
     """The two answers to a proposal for an edit of a checked reference, and what the edit makes."""
-    record, altered = answer(ref, edit)
+    record, altered = answer(ref, edit, longest)
     refuse(26, record.word == "unknown")
     if room is not None:
         check_room(ref, altered, *room)
     refuse(26, record.word in ("no-protein", "silent"))
     return proposal_answers(ref.protein, altered.protein, number, deleted, inserted), altered
+
+
+# Two edits on one transcript (E13)
+
+def touched(ref, edit):
+    """The indices of the bases that an edit touches, as a first and a last half place: a gap lies between two bases."""
+    start, end = index(ref, edit.start), min(index(ref, edit.end) + 1, len(ref.letters))
+    return (2 * start + 1, 2 * start + 1) if edit.kind == "insertion" else (2 * start, 2 * (end - 1))
+
+
+def made_by(ref, edit):
+    """What an edit puts where each base stands and before it: a dictionary from a base's index to what takes its place, and one from a gap, by the index of
+    the base behind it, to what goes in there."""
+    letters = ref.letters
+    start, end = index(ref, edit.start), min(index(ref, edit.end) + 1, len(letters))
+    if edit.kind == "insertion":
+        return {}, {start + 1: edit.bases}
+    if edit.kind == "duplication":
+        return {}, {end: letters[start:end]}
+    if edit.kind == "identity":
+        return {}, {}
+    put = reverse_complement(letters[start:end]) if edit.kind == "inversion" else edit.bases
+    return {i: put if i == start else "" for i in range(start, end)}, {}
+
+
+def paired(ref, first, second, room=None):
+    """The transcript of two edits of a checked reference, and its protein, read without exceptions; `room` is that of the two buffers."""
+    check_edit(ref, first)
+    check_edit(ref, second)
+    (a, b), (c, d) = sorted((touched(ref, first), touched(ref, second)))
+    refuse(51, not any(b < 2 * i < c for i in range(len(ref.letters))))
+    refuse(52, is_unknown(ref, first) or is_unknown(ref, second))
+    refuse(53, any(edit.kind in ("insertion", "duplication") and stops_in(ref, edit) for edit in (first, second)))
+    bases, gaps = {}, {}
+    for edit in (first, second):
+        bases.update(made_by(ref, edit)[0])
+        gaps.update(made_by(ref, edit)[1])
+    places = range(len(ref.letters) + 1)
+    transcript = "".join(gaps.get(i, "") + bases.get(i, ref.letters[i:i + 1]) for i in places)
+    protein = translated(ref.table, transcript[ref.cs - 1:])
+    if room is not None:
+        refuse(11, room[0] < len(transcript))
+        refuse(12, room[1] < len(protein))
+    return transcript, protein[:protein.find("*") + 1] or protein
+
+
+def stops_in(ref, edit):
+    """Whether the stop cut of an insertion or a duplication finds a stop."""
+    (at, put), = made_by(ref, edit)[1].items()
+    return "*" in translated(ref.table, "N" * ((at - (ref.cs - 1)) % 3) + put)
+
+
+# Two editions of a transcript (E11)
+
+def cds_codons(ref):
+    """The codons of a checked reference's CDS: their letters, one or two for a cut one, each with its residue."""
+    letters = ref.letters[ref.cs - 1:ref.ce]
+    return [(letters[3 * i:3 * i + 3], x) for i, x in enumerate(ref.protein)]
+
+
+def compared(first, second, room=None):
+    """The differences of two references that weren't checked: a codon's number and both residues, None for a codon that isn't there."""
+    first.check()
+    try:
+        second.check()
+    except Refused as refusal:
+        raise Refused(100 + refusal.number)
+    pairs = enumerate(itertools.zip_longest(cds_codons(first), cds_codons(second), fillvalue=("", None)), 1)
+    differences = [(n, a[1], b[1]) for n, (a, b) in pairs if a != b]
+    refuse(50, room is not None and room < 4 * len(differences))
+    return differences
+
+
+def difference_bytes(differences):
+    return b"".join(bytes([n // 256, n % 256, ord(a or "\0"), ord(b or "\0")]) for n, a, b in differences)
 
 
 # The functions that stand alone
@@ -327,23 +422,91 @@ def complement_alone(text, room):
 
 # Stored reference
 
-def stored(data):
+def stored(data, room=LONGEST):
+    """The reference that bytes store, where `room` bytes are lent for letters in more than one field."""
     fields, last, at = {}, 0, 0
     while at < len(data):
         tag, header = data[at], data[at + 1:at + 3]
-        refuse(21, tag not in (1, 2, 3, 4, 8) or tag <= last)
+        refuse(21, not 1 <= tag <= 8 or tag <= last)
         refuse(20, len(header) < 2)
         size = header[0] * 256 + header[1]
         content = data[at + 3:at + 3 + size]
         refuse(20, len(content) < size)
         refuse(23, tag == 2 and size != 4 or tag == 3 and size != 1 or tag == 4 and size % 3 != 0)
+        refuse(23, tag in (5, 6) and size == 0 or tag == 7 and size != 8)
         refuse(23, tag == 8 and content not in (b"\1", b"\2"))
         fields[tag], last, at = content, tag, at + 3 + size
-    refuse(22, not {1, 2, 3} <= fields.keys())
-    bounds, exceptions = fields[2], fields.get(4, b"")
+    refuse(22, not {1, 3} <= fields.keys() or not {2, 7} & fields.keys())
+    letters = fields[1] + fields.get(5, b"") + fields.get(6, b"")
+    refuse(25, {2, 7} <= fields.keys() or (7 in fields) != (len(letters) > TEXT_LONGEST))
+    refuse(25, any(tag in fields and len(fields.get(before, b"")) != FULL for before, tag in ((1, 5), (5, 6))))
+    bounds, exceptions = fields[7] if 7 in fields else fields[2], fields.get(4, b"")
+    cs, ce = (int.from_bytes(half, "big") for half in (bounds[:len(bounds) // 2], bounds[len(bounds) // 2:]))
     listed = [(exceptions[i] * 256 + exceptions[i + 1], chr(exceptions[i + 2])) for i in range(0, len(exceptions), 3)]
     end = fields[8][0] if 8 in fields else AT_STOP
-    return Reference(fields[1].decode("latin-1"), bounds[0] * 256 + bounds[1], bounds[2] * 256 + bounds[3], fields[3][0], listed, end).check()
+    ref = Reference(letters.decode("latin-1"), cs, ce, fields[3][0], listed, end).check()
+    refuse(29, 5 in fields and room < len(letters))
+    return ref
+
+
+def stored_form(ref):
+    """A reference that isn't refused, as bytes (E1): fields in rising tags, none of them empty."""
+    field = lambda tag, content: bytes([tag, len(content) >> 8, len(content) & 255]) + content if content else b""
+    letters, long = ref.letters.encode(), len(ref.letters) > 16384
+    bounds = b"".join(n.to_bytes(4 if long else 2, "big") for n in (ref.cs, ref.ce))
+    listed = b"".join(number.to_bytes(2, "big") + residue.encode() for number, residue in ref.exceptions)
+    contents = {1: letters[:65535], 2: b"" if long else bounds, 3: bytes([ref.table]), 4: listed, 5: letters[65535:131070], 6: letters[131070:],
+                7: bounds if long else b"", 8: bytes([ref.end] if ref.end != AT_STOP else [])}
+    return b"".join(field(tag, content) for tag, content in contents.items())
+
+
+def written(ref, room):
+    """What a reference that may be refused is written as, in so many bytes."""
+    form = stored_form(ref.check())
+    refuse(24, room < len(form))
+    return form
+
+
+# Settings (E12): version, table, profile, width and longest edit
+
+FORMS = {1: ((1, 1), (2, 1), (3, 1), (4, 1)), 2: ((1, 1), (2, 1), (3, 1), (4, 1), (5, 2))}  # of each version: tags, and the bytes of each content
+
+
+class Newer(Refused):
+    """60 with the mark of a newer version."""
+
+    def __init__(self):
+        super().__init__(60)
+
+
+def check_settings(version, table, profile, width, longest):
+    refuse(62, table not in (0, 1, 2) or profile not in (0, 1) or width not in (1, 3) or not 1 <= longest <= MOST_BASES)
+    refuse(62, version == 1 and longest != MOST_BASES)
+
+
+def read_settings(newest, data):
+    """What a reader that knows the versions up to `newest` reads."""
+    refuse(60, newest not in FORMS or len(data) < 4 or data[:3] != b"\1\0\1" or data[3] == 0)
+    version = data[3]
+    if version > newest:
+        raise Newer
+    contents, at = [], 0
+    for tag, size in FORMS[version]:
+        refuse(61, data[at:at + 3] != bytes([tag, 0, size]) or len(data) < at + 3 + size)
+        contents.append(int.from_bytes(data[at + 3:at + 3 + size], "big"))
+        at += 3 + size
+    refuse(61, at != len(data))
+    settings = tuple(contents) + (MOST_BASES,) * (version == 1)
+    check_settings(*settings)
+    return settings
+
+
+def write_settings(version, table, profile, width, longest, room):
+    refuse(60, version not in FORMS)
+    check_settings(version, table, profile, width, longest)
+    store = b"".join(bytes([tag, 0, size]) + n.to_bytes(size, "big") for (tag, size), n in zip(FORMS[version], (version, table, profile, width, longest)))
+    refuse(63, room < len(store))
+    return store
 
 
 # Text program
@@ -427,7 +590,7 @@ def run(data):
             parsed = None if len(line) > LONGEST_LINE else reference_line(line) if ref is None else edit_line(line)
             refuse(30, parsed is None)
             if ref is None:
-                ref = parsed.check()
+                ref = parsed.check(TEXT_LONGEST)
                 out.append("reference " + ref.protein)
             else:
                 out.append(answer_line(ref, parsed))
@@ -462,7 +625,7 @@ def check_run(data):
     try:
         parsed = None if len(lines[0]) > LONGEST_LINE else reference_line(lines[0])
         refuse(30, parsed is None)
-        ref = parsed.check()
+        ref = parsed.check(TEXT_LONGEST)
     except Refused as refusal:
         return f"refused {refusal.number}\n".encode(), None
     out = ["reference " + ref.protein]

@@ -101,8 +101,8 @@ int main(void)
         r.exceptions = string(exceptions, &r.exceptions_len);
         r.end = byte();
         string(form, &len);
-        struct garumbott_stored s = garumbott_read_stored(form, len);
-        struct garumbott_reference found = garumbott_reference_at(&s, form);
+        struct garumbott_stored s = garumbott_read_stored(form, len, NULL, 0);
+        struct garumbott_reference found = garumbott_reference_at(&s, form, NULL);
         put(&s, sizeof s);
         uint64_t edits = byte() * UINT64_C(256);
         for (edits += byte(); edits != 0; edits--) {

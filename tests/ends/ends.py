@@ -197,9 +197,9 @@ def stored(data, exceptions):
     try:
         ref = account.stored(data)
     except account.Refused as refusal:
-        return bytes([refusal.number] + [0] * 8)
+        return bytes([refusal.number] + [0] * 9)
     size = len(ref.letters)
-    return bytes([0, ref.cs, ref.ce, ref.table, 3, size, 17 + size if exceptions else 0, len(exceptions), ref.end])
+    return bytes([0, ref.cs, ref.ce, ref.table, 3, size, 17 + size if exceptions else 0, len(exceptions), ref.end, 0])
 
 
 def block(done, letters, cs, ce, table, exceptions, end, edits):
@@ -229,10 +229,10 @@ def differs(number, want, got):
     reference = next(itertools.islice(references(), number, None))
     edits, size, calls = reference[-1], NUMBERS + sum(SIZES), 3 if want[0] == 0 else 2
     said = f"letters {reference[0]} cs {reference[1]} ce {reference[2]} table {reference[3]} exceptions {reference[4]} end {reference[5]}"
-    if want[:9] != got[:9]:
-        return f"{said}: garumbott_read_stored {list(got[:9])}, not {list(want[:9])}"
+    if want[:10] != got[:10]:
+        return f"{said}: garumbott_read_stored {list(got[:10])}, not {list(want[:10])}"
     at = next(i for i, pair in enumerate(itertools.zip_longest(want, got)) if pair[0] != pair[1])
-    number, rest = divmod(at - 9, calls * size + 2)
+    number, rest = divmod(at - 10, calls * size + 2)
     edit, call, first = edits[number][0], rest // size, at - rest % size
     said = f"{said}, {edit.kind} {''.join(map(str, edit.start))}_{''.join(map(str, edit.end))} {edit.bases}"
     if rest == calls * size:

@@ -38,14 +38,14 @@ static int one_in(uint64_t n)
 /* Numbers at the ends of the widths. */
 static uint64_t strange(void)
 {
-    static const uint64_t all[] = {0, 1, 2, 3, 4, 8, 16, 17, 99, 255, 256, 257, 4096, 4097, 16384, 16385, 65535, 65536, INT32_MAX, UINT32_MAX,
+    static const uint64_t all[] = {0, 1, 2, 3, 4, 8, 16, 17, 99, 255, 256, 257, 4096, 4097, 16384, 16385, 65535, 65536, 131072, 131073, INT32_MAX, UINT32_MAX,
                                    UINT64_C(1) << 32, (UINT64_C(1) << 32) + 1, INT64_MAX, UINT64_C(1) << 63, UINT64_MAX - 2, UINT64_MAX};
     return one_in(4) ? chance() : all[below(sizeof all / sizeof *all)];
 }
 
 /* ---- checks ------------------------------------------------------------------------------------------------------------------------- */
 
-static unsigned long checks, faults, found[3], ends[3], begun, answers[5], classes[10], refusals[64], verdicts[3];
+static unsigned long checks, faults, found[3], ends[3], begun, answers[5], classes[10], refusals[64], verdicts[3], long_forms[2];
 static const char *doing = "";
 
 static void check(int good, const char *what)
@@ -59,7 +59,11 @@ static void check(int good, const char *what)
 }
 
 enum { LETTERS, EXCEPTIONS, BASES, TRANSCRIPT, REFERENCE, ALTERED, STORED, DELETED, INSERTED, FENCES };
-static struct fence small[FENCES], large[FENCES], *fences;
+static struct fence small[FENCES], large[FENCES], huge[FENCES], *fences;
+
+/* Letters that a stored form has in one field, those that it has with bounds of two bytes, and the room for edits of as many. */
+enum { FULL = 65535, SHORT = 16384 };
+static const size_t short_room[3] = {2 * SHORT, 5462, 10923};
 
 static const uint8_t *lend(int which, enum fence_side side, const uint8_t *from, uint64_t len)
 {
@@ -93,9 +97,9 @@ static uint8_t residue_at(const uint8_t *codon, uint64_t table)
 /* A reference that isn't refused; mostly one that has a single stop, or, where it is cut short, none. */
 static void make_reference(void)
 {
-    int big = one_in(60);
+    int big = one_in(60), very = one_in(1500);
     uint64_t end = one_in(2) ? GARUMBOTT_END_STOP : 1 + below(2), rest = end == GARUMBOTT_END_CUT_CODON ? 1 + below(2) : 0;
-    uint64_t codons = big ? below(5461 - 2) + 2 : below(14) + 2, before = below(big ? 3 : 8), behind = end == GARUMBOTT_END_STOP ? below(8) : 0;
+    uint64_t codons = very ? below(43690 - 2) + 2 : big ? below(5461 - 2) + 2 : below(14) + 2, before = below(big || very ? 3 : 8), behind = end == GARUMBOTT_END_STOP ? below(8) : 0;
     uint64_t single = end != GARUMBOTT_END_STOP || !one_in(12);
     while (before + 3 * codons + rest + behind > GARUMBOTT_LONGEST) behind = 0, before = 0;
     memset(&ref, 0, sizeof ref);
@@ -244,8 +248,8 @@ static void edit_call(int alone, enum fence_side side, const size_t size[3], str
 }
 
 /* Of each base of the altered transcript: where it stands in the reference, from 0, or PUT for one that the edit put there. */
-enum { PUT = UINT16_MAX };
-static uint16_t sources[GARUMBOTT_TRANSCRIPT_ROOM];
+enum { PUT = INT32_MAX };
+static uint32_t sources[GARUMBOTT_TRANSCRIPT_ROOM];
 static uint64_t edited_at;
 
 /* The altered transcript, made in the plainest way, and its sources; an identity puts nothing there. */
@@ -275,9 +279,9 @@ static uint64_t plain_transcript(uint8_t *out)
     memcpy(out + from, put, put_len);
     memcpy(out + from + put_len, letters + to, L - to);
     edited_at = from;
-    for (uint64_t i = 0; i < from; i++) sources[i] = (uint16_t)i;
-    for (uint64_t i = 0; i < put_len; i++) sources[from + i] = edit.kind == GARUMBOTT_IDENTITY ? (uint16_t)(from + i) : PUT;
-    for (uint64_t i = to; i < L; i++) sources[from + put_len + (i - to)] = (uint16_t)i;
+    for (uint64_t i = 0; i < from; i++) sources[i] = (uint32_t)i;
+    for (uint64_t i = 0; i < put_len; i++) sources[from + i] = edit.kind == GARUMBOTT_IDENTITY ? (uint32_t)(from + i) : PUT;
+    for (uint64_t i = to; i < L; i++) sources[from + put_len + (i - to)] = (uint32_t)i;
     return from + put_len + (L - to);
 }
 
@@ -494,9 +498,10 @@ static void fuzz_edit(void)
     make_edit();
     for (uint64_t i = one_in(2) ? 0 : 1 + below(3); i != 0; i--) damage_call();
     int big = ref.letters_len > 1000 || edit.bases_len > 1000;
-    fences = big ? large : small;
+    int very = ref.letters_len > SHORT;
+    fences = very ? huge : big ? large : small;
     static const size_t modest[3] = {3000, 1000, 1000};
-    const size_t *most = big ? plenty : modest;
+    const size_t *most = very ? plenty : big ? short_room : modest;
     edit_call(0, FENCE_END, most, &wide);
     if (wide.a.answer < 2) {
         for (int i = 0; i < 3; i++) room[i] = one_in(2) ? 0 : below(most[i]);
@@ -536,9 +541,122 @@ static void fuzz_edit(void)
     fuzz_check(most, &wide, refusal);
 }
 
+/* ---- pairs -------------------------------------------------------------------------------------------------------------------------- */
+
+/* An edit with its new bases, and what it does in the plainest way: what goes in for the letters from..to, which bases it touches, and whether the stop cut
+ * finds a stop. */
+struct carried {
+    struct garumbott_coding_edit edit;
+    uint8_t bases[GARUMBOTT_MOST_BASES + 8], put[GARUMBOTT_LONGEST];
+    uint64_t from, to, put_len, touched_from, touched_to, stops;
+    struct garumbott_answer answer;
+};
+
+static uint64_t plain_index(uint64_t star, int64_t number)
+{
+    uint64_t first = ref.cs - 1, at = star ? ref.ce + (uint64_t)number - 1 : number < 0 ? first : first + (uint64_t)number - 1;
+    return at < ref.letters_len ? at : ref.letters_len;
+}
+
+static void plain_carried(struct carried *c)
+{
+    static uint8_t framed[GARUMBOTT_LONGEST + 2], read[GARUMBOTT_LONGEST];
+    uint64_t start = plain_index(c->edit.start_star, c->edit.start), last = plain_index(c->edit.end_star, c->edit.end);
+    uint64_t end = last < ref.letters_len ? last + 1 : ref.letters_len, kind = c->edit.kind;
+    c->from = c->touched_from = start;
+    c->to = c->touched_to = end;
+    if (kind == GARUMBOTT_INSERTION) c->from = c->to = c->touched_from = c->touched_to = start + 1;
+    if (kind == GARUMBOTT_DUPLICATION) c->from = c->to = end;
+    memcpy(c->put, c->bases, c->put_len = c->edit.bases_len);
+    if (kind >= GARUMBOTT_DUPLICATION) memcpy(c->put, letters + start, c->put_len = end - start);
+    if (kind == GARUMBOTT_INVERSION) garumbott_complement(letters + start, c->put_len, c->put, c->put_len);
+    c->stops = 0;
+    if (kind == GARUMBOTT_INSERTION || kind == GARUMBOTT_DUPLICATION) {
+        uint64_t frame = (c->from - (ref.cs - 1)) % 3;
+        memset(framed, 'N', frame);
+        memcpy(framed + frame, c->put, c->put_len);
+        struct garumbott_length n = garumbott_translate(framed, frame + c->put_len, ref.table, 0, NULL, 0, read, sizeof read);
+        c->stops = memchr(read, '*', n.len) != NULL;
+    }
+}
+
+/* The pair in this order with so much room: its answer is `want`, and `t` and `p` are written. */
+static void pair_call(const struct carried *one, const struct carried *two, const size_t size[3], const struct garumbott_paired *want, const uint8_t *t, const uint8_t *p)
+{
+    enum fence_side side = one_in(2) ? FENCE_END : FENCE_START;
+    struct garumbott_reference r = ref;
+    struct garumbott_coding_edit e = one->edit, f = two->edit;
+    r.letters = lend(LETTERS, side, letters, ref.letters_len);
+    r.exceptions = lend(EXCEPTIONS, side, exceptions, ref.exceptions_len);
+    e.bases = lend(BASES, side, one->bases, e.bases_len);
+    f.bases = lend(INSERTED, side, two->bases, f.bases_len);
+    struct garumbott_buffers b = {fence_fill(&fences[TRANSCRIPT], side, NULL, size[0]), size[0], NULL, 0, fence_fill(&fences[ALTERED], side, NULL, size[2]), size[2]};
+    doing = "garumbott_pair";
+    struct garumbott_paired got = garumbott_pair_of(&r, &e, &f, &b);
+    check(memcmp(&got, want, sizeof got) == 0, "answer");
+    check(unchanged(LETTERS, r.letters) && unchanged(EXCEPTIONS, r.exceptions) && unchanged(BASES, e.bases) && unchanged(INSERTED, f.bases), "input changed");
+    check(fence_check(&fences[TRANSCRIPT], t, want->transcript_len), "transcript buffer");
+    check(fence_check(&fences[ALTERED], p, want->altered_len), "altered buffer");
+    refusals[got.refusal < 64 ? got.refusal : 0]++;
+}
+
+/* Two edits of one reference, in both orders; small references only. */
+static void fuzz_pair(void)
+{
+    static struct carried two[2];
+    static struct outcome o;
+    static uint8_t t[GARUMBOTT_LONGEST], p[GARUMBOTT_ALTERED_ROOM];
+    static const size_t most[3] = {3000, 1000, 1000};
+    do make_reference(); while (ref.letters_len > 200);
+    fences = small;
+    for (int i = 0; i < 2; i++) {
+        do make_edit(); while (edit.bases_len > 200);
+        two[i].edit = edit;
+        memcpy(two[i].bases, bases, edit.bases_len);
+    }
+    for (int i = 0; i < 4; i++) { /* damage, to the reference too, before either is answered alone */
+        edit = two[i % 2].edit;
+        memcpy(bases, two[i % 2].bases, edit.bases_len);
+        if (i < 2 && one_in(12)) damage_call();
+        two[i % 2].edit = edit;
+        memcpy(two[i % 2].bases, bases, edit.bases_len);
+        if (i < 2) continue;
+        edit_call(0, FENCE_END, most, &o);
+        two[i % 2].answer = o.a;
+    }
+    struct garumbott_paired want[2] = {{0}, {0}}, less = {0};
+    for (int i = 0; i < 2; i++) want[i].refusal = two[i].answer.refusal != 0 ? two[i].answer.refusal : two[1 - i].answer.refusal;
+    if (want[0].refusal == 0) {
+        plain_carried(&two[0]);
+        plain_carried(&two[1]);
+        const struct carried *ahead = &two[two[1].touched_to < two[0].touched_from], *behind = ahead == two ? &two[1] : two;
+        uint64_t between = ahead->touched_to < behind->touched_from, n = 0;
+        if (!between) want[0].refusal = 51;
+        else if (two[0].answer.answer == GARUMBOTT_UNKNOWN || two[1].answer.answer == GARUMBOTT_UNKNOWN) want[0].refusal = 52;
+        else if (two[0].stops || two[1].stops) want[0].refusal = 53;
+        if (want[0].refusal == 0) {
+            memcpy(t, letters, n = ahead->from);
+            memcpy(t + n, ahead->put, ahead->put_len), n += ahead->put_len;
+            memcpy(t + n, letters + ahead->to, behind->from - ahead->to), n += behind->from - ahead->to;
+            memcpy(t + n, behind->put, behind->put_len), n += behind->put_len;
+            memcpy(t + n, letters + behind->to, ref.letters_len - behind->to), n += ref.letters_len - behind->to;
+            struct garumbott_length read = garumbott_translate(t + ref.cs - 1, n + 1 - ref.cs, ref.table, 0, NULL, 0, p, sizeof p);
+            const uint8_t *stop = memchr(p, '*', read.len);
+            want[0].transcript_len = n;
+            want[0].altered_len = stop == NULL ? read.len : (uint64_t)(stop - p) + 1;
+            size_t size[3] = {n - below(2), 0, garumbott_altered_room(n, ref.cs) - below(2)};
+            less.refusal = size[0] < n ? 11 : size[2] < garumbott_altered_room(n, ref.cs) ? 12 : 0;
+            pair_call(&two[0], &two[1], size, less.refusal != 0 ? &less : &want[0], t, p);
+        }
+        want[1] = want[0];
+    }
+    pair_call(&two[0], &two[1], most, &want[0], t, p);
+    pair_call(&two[1], &two[0], most, &want[1], t, p);
+}
+
 /* ---- stored references -------------------------------------------------------------------------------------------------------------- */
 
-static uint8_t form[GARUMBOTT_LONGEST + 256];
+static uint8_t form[GARUMBOTT_LONGEST + 256], joined[GARUMBOTT_LONGEST + 8];
 static uint64_t form_len;
 
 static void put_field(uint8_t tag, const void *content, uint64_t len)
@@ -554,10 +672,18 @@ static void put_field(uint8_t tag, const void *content, uint64_t len)
 static void store(const char *order)
 {
     uint8_t bounds[4] = {(uint8_t)(ref.cs >> 8), (uint8_t)ref.cs, (uint8_t)(ref.ce >> 8), (uint8_t)ref.ce}, table = (uint8_t)ref.table, end = (uint8_t)ref.end;
+    uint8_t wide[8] = {(uint8_t)(ref.cs >> 24), (uint8_t)(ref.cs >> 16), (uint8_t)(ref.cs >> 8), (uint8_t)ref.cs,
+                       (uint8_t)(ref.ce >> 24), (uint8_t)(ref.ce >> 16), (uint8_t)(ref.ce >> 8), (uint8_t)ref.ce};
+    uint64_t part[3] = {ref.letters_len, 0, 0};
+    for (int i = 0; i < 2; i++)
+        if (part[i] > FULL) part[i + 1] = part[i] - FULL, part[i] = FULL;
     form_len = 0;
     for (; *order != 0; order++) {
         switch (*order) {
-        case '1': put_field(1, letters, ref.letters_len); break;
+        case '1': put_field(1, letters, part[0]); break;
+        case '5': if (part[1] != 0 || one_in(9)) put_field(5, letters + FULL, part[1]); break;
+        case '6': if (part[2] != 0 || one_in(9)) put_field(6, letters + 2 * FULL, part[2]); break;
+        case '7': put_field(7, wide, 8); break;
         case '2': put_field(2, bounds, 4); break;
         case '3': put_field(3, &table, 1); break;
         case '4': put_field(4, exceptions, ref.exceptions_len); break;
@@ -570,15 +696,28 @@ static void store(const char *order)
 static void make_stored(void)
 {
     static const char *const orders[] = {"123", "1234", "1324", "2134", "12344", "11234", "12234", "12334", "124", "134", "234", "12", "4", "34", "1238", "12348",
-                                         "12384", "81234", "12388", "128", "348", "8", "12358", "12368", "12378", "12389", "12385"};
-    char usual[] = "12348", *to = usual + 3;
+                                         "12384", "81234", "12388", "128", "348", "8", "12358", "12368", "12378", "12389", "12385",
+                                         "137", "13567", "1237", "123567", "15637", "1367", "13576", "1357", "1356", "13456", "134567", "1345678"};
+    char usual[] = "1345678", *to = usual;
     make_reference();
     for (uint64_t i = one_in(2) ? 0 : 1 + below(2); i != 0; i--) damage_call();
-    if (one_in(100)) {
-        ref.letters_len = GARUMBOTT_LONGEST + below(3);
-        for (uint64_t i = 0; i < ref.letters_len; i++) letters[i] = letter();
+    if (one_in(15)) { /* around the lengths at which the form changes, the reference at the start or at the end of its letters */
+        static const uint64_t lengths[] = {SHORT, FULL, 2 * FULL, GARUMBOTT_LONGEST};
+        uint64_t from = ref.letters_len, size = lengths[below(4)] + below(5) - 2, first = size > from && one_in(2) ? size - from : 0;
+        memmove(letters + first, letters, from < size ? from : size);
+        for (uint64_t k = 0; k < first; k++) letters[k] = letter();
+        for (uint64_t k = first + from; k < size; k++) letters[k] = letter();
+        ref.letters_len = size;
+        ref.cs += first;
+        ref.ce += first;
     }
+    int wide = ref.letters_len > SHORT, parts = ref.letters_len > FULL;
+    *to++ = '1';
+    if (!wide) *to++ = '2';
+    *to++ = '3';
     if (one_in(2) || ref.exceptions_len != 0) *to++ = '4';
+    if (parts) *to++ = '5', *to++ = '6';
+    if (wide) *to++ = '7';
     if (ref.end != GARUMBOTT_END_STOP) *to++ = '8';
     *to = 0;
     store(one_in(6) ? orders[below(sizeof orders / sizeof *orders)] : usual);
@@ -590,29 +729,46 @@ static void make_stored(void)
     }
 }
 
-/* The form read in the plainest way: its refusal but for 1 to 6 and 28, or its parts. */
+/* The form read in the plainest way: its refusal but for 1 to 6, 28 and 29, or its parts, the letters of several fields in `joined`. */
 static struct garumbott_stored plain_stored(void)
 {
     struct garumbott_stored s = {0}, no = {0};
-    uint64_t at = 0, last = 0, seen = 0;
+    uint64_t at = 0, last = 0, seen = 0, sizes[3] = {0}, places[3] = {0};
     while (at < form_len && no.refusal == 0) {
         uint64_t tag = form[at], len = form_len - at < 3 ? UINT64_MAX : form[at + 1] * UINT64_C(256) + form[at + 2];
         const uint8_t *content = form + at + 3;
-        if ((tag > 4 && tag != 8) || tag <= last) no.refusal = 21;
+        if (tag > 8 || tag <= last) no.refusal = 21;
         else if (len > form_len || at + 3 + len > form_len) no.refusal = 20;
         else if ((tag == 2 && len != 4) || (tag == 3 && len != 1) || (tag == 4 && len % 3 != 0) || (tag == 8 && len != 1)) no.refusal = 23;
+        else if (((tag == 5 || tag == 6) && len == 0) || (tag == 7 && len != 8)) no.refusal = 23;
         else if (tag == 8 && content[0] != 1 && content[0] != 2) no.refusal = 23;
-        else if (tag == 1) s.letters_at = at + 3, s.letters_len = len;
+        else if (tag == 1) places[0] = at + 3, sizes[0] = len;
         else if (tag == 2) s.cs = content[0] * UINT64_C(256) + content[1], s.ce = content[2] * UINT64_C(256) + content[3];
         else if (tag == 3) s.table = content[0];
         else if (tag == 4) s.exceptions_at = at + 3, s.exceptions_len = len;
-        else s.end = content[0];
+        else if (tag < 7) places[tag - 4] = at + 3, sizes[tag - 4] = len;
+        else if (tag == 8) s.end = content[0];
+        else
+            for (int i = 0; i < 4; i++) s.cs = s.cs * 256 + content[i], s.ce = s.ce * 256 + content[4 + i];
         seen |= UINT64_C(1) << (tag & 15);
         last = tag;
         at += 3 + len;
     }
-    if (no.refusal == 0 && (seen & 14) != 14) no.refusal = 22;
-    return no.refusal == 0 ? s : no;
+    if (no.refusal != 0) return no;
+    s.letters_len = sizes[0] + sizes[1] + sizes[2];
+    s.letters_at = places[0];
+    s.joined = sizes[1] != 0;
+    uint64_t narrow = seen >> 2 & 1, wide = seen >> 7 & 1;
+    if ((seen & 10) != 10 || narrow + wide == 0) no.refusal = 22;
+    else if (narrow + wide == 2 || wide != (s.letters_len > SHORT)) no.refusal = 25;
+    else if ((sizes[1] != 0 && sizes[0] != FULL) || (sizes[2] != 0 && sizes[1] != FULL)) no.refusal = 25;
+    if (no.refusal != 0) return no;
+    if (s.joined) {
+        s.letters_at = 0;
+        for (uint64_t i = 0, n = 0; i < 3; n += sizes[i++])
+            if (n + sizes[i] <= sizeof joined) memcpy(joined + n, form + places[i], sizes[i]);
+    }
+    return s;
 }
 
 /* What garumbott_record says of the parts alone: 1 to 6 or 28, or 0. The edit changes nothing, and there is no room. */
@@ -620,7 +776,8 @@ static uint64_t judged(const struct garumbott_stored *s, const uint8_t *data)
 {
     static const struct garumbott_coding_edit nothing = {.kind = GARUMBOTT_IDENTITY, .start = 1, .end = 1};
     static const struct garumbott_buffers none;
-    struct garumbott_reference r = garumbott_reference_at(s, data);
+    if (s->letters_len > GARUMBOTT_LONGEST) return 1;
+    struct garumbott_reference r = garumbott_reference_at(s, data, joined);
     struct garumbott_answer a = garumbott_record_of(&r, &nothing, &none);
     check(a.answer == GARUMBOTT_UNKNOWN || a.refusal == 11 || (a.refusal >= 1 && a.refusal <= 6) || a.refusal == 28, "garumbott_record on the parts");
     return a.refusal == 11 ? 0 : a.refusal;
@@ -629,27 +786,34 @@ static uint64_t judged(const struct garumbott_stored *s, const uint8_t *data)
 static void fuzz_stored(void)
 {
     make_stored();
-    fences = form_len > 3000 ? large : small;
-    doing = "garumbott_read_stored";
     struct garumbott_stored plain = plain_stored(), want = plain, got[2];
+    uint64_t space = !plain.joined || one_in(6) ? below(3) : one_in(6) ? plain.letters_len - 1 : plain.letters_len + below(3);
+    if (space > GARUMBOTT_LONGEST + 2) space = GARUMBOTT_LONGEST;
+    fences = form_len > 40000 ? huge : form_len > 3000 ? large : small;
+    doing = "garumbott_read_stored";
     for (int side = FENCE_END; side <= FENCE_START; side++) {
         const uint8_t *data = lend(STORED, side, form, form_len);
-        got[side] = garumbott_read_stored(data, form_len);
+        uint8_t *lent = fence_fill(&fences[TRANSCRIPT], side, NULL, space);
+        got[side] = garumbott_read_stored(data, form_len, lent, space);
         check(unchanged(STORED, data), "input changed");
         const struct garumbott_stored *g = &got[side], none = {.refusal = g->refusal};
-        check(g->refusal <= 6 || (g->refusal >= 20 && g->refusal <= 23) || g->refusal == 28, "refusal's number");
+        check(g->refusal <= 6 || (g->refusal >= 20 && g->refusal <= 23) || g->refusal == 25 || g->refusal == 28 || g->refusal == 29, "refusal's number");
         if (g->refusal != 0) check(memcmp(g, &none, sizeof none) == 0, "a refusal tells more");
-        check(g->letters_at <= form_len && g->letters_len <= form_len - g->letters_at, "letters outside the bytes");
+        check(g->joined <= 1 && (g->joined == 0 || (g->letters_at == 0 && g->letters_len <= space)), "joined letters outside the buffer");
+        check(g->joined == 1 || (g->letters_at <= form_len && g->letters_len <= form_len - g->letters_at), "letters outside the bytes");
         check(g->exceptions_at <= form_len && g->exceptions_len <= form_len - g->exceptions_at, "exceptions outside the bytes");
         check(g->end <= 2, "an end that should be refused");
         if (plain.refusal == 0) {
             uint64_t n = judged(&plain, data);
+            if (n == 0 && plain.joined && space < plain.letters_len) n = 29;
             if (n != 0) want = (struct garumbott_stored){.refusal = n};
             check(unchanged(STORED, data), "input changed");
         }
         check(memcmp(g, &want, sizeof want) == 0, "the form read plainly, judged by garumbott_record, says otherwise");
+        check(fence_check(&fences[TRANSCRIPT], joined, want.joined ? want.letters_len : 0), "the buffer for joined letters");
     }
     refusals[got[0].refusal]++;
+    long_forms[got[0].refusal == 0 && got[0].joined]++;
     if (got[0].refusal == 0) found[got[0].end <= 2 ? got[0].end : 0]++;
 }
 
@@ -765,15 +929,16 @@ int main(int argc, char **argv)
 {
     double seconds = argc > 1 ? strtod(argv[1], NULL) : 30;
     uint64_t seed = argc > 2 ? strtoull(argv[2], NULL, 10) : 1, calls = 0;
-    static const int wanted[] = {1, 2, 3, 4, 5, 6, 7, 8, 9, 10, 11, 12, 14, 15, 20, 21, 22, 23, 26, 27, 28};
+    static const int wanted[] = {1, 2, 3, 4, 5, 6, 7, 8, 9, 10, 11, 12, 14, 15, 20, 21, 22, 23, 25, 26, 27, 28, 29, 51, 52, 53};
     enum { LEAST = 10000 }; /* a slow machine too must meet every answer, class and refusal */
     time_t until = time(NULL) + (time_t)seconds;
-    for (int i = 0; i < FENCES; i++) fence_make(&small[i], 4000), fence_make(&large[i], 40000);
+    for (int i = 0; i < FENCES; i++) fence_make(&small[i], 4000), fence_make(&large[i], 40000), fence_make(&huge[i], GARUMBOTT_TRANSCRIPT_ROOM + 64);
     do {
         for (int i = 0; i < 100; i++, calls++) {
             case_seed = state = seed + calls * UINT64_C(0x1000003);
             if (i % 4 == 3) fuzz_strings();
             else if (i % 4 == 1) fuzz_stored();
+            else if (i % 8 == 6) fuzz_pair();
             else fuzz_edit();
         }
     } while (time(NULL) < until || calls < LEAST);
@@ -781,6 +946,7 @@ int main(int argc, char **argv)
     for (int i = 0; i < 3; i++)
         printf("end %d: %lu edits, %lu stored references\n", i, ends[i], found[i]), check(ends[i] != 0 && found[i] != 0, "an end never came up");
     for (int i = 0; i < 3; i++) printf("records %s: %lu\n", (const char *[]){"no no", "yes no", "yes yes"}[i], verdicts[i]), check(verdicts[i] != 0, "an answer to a record never came up");
+    printf("stored references with joined letters: %lu\n", long_forms[1]), check(long_forms[1] != 0, "no letters were joined");
     printf("R the beginning of A: %lu\n", begun), check(begun != 0, "R was never the beginning of A");
     for (int i = 1; i < 10; i++) printf("%s: %lu\n", garumbott_class_name((uint64_t)i), classes[i]), check(classes[i] != 0, "a class never came up");
     for (size_t i = 0; i < sizeof wanted / sizeof *wanted; i++) printf("refused %d: %lu\n", wanted[i], refusals[wanted[i]]), check(refusals[wanted[i]] != 0, "a refusal never came up");

@@ -109,12 +109,14 @@ wanted |= {"TABLE_STANDARD": 0, "TABLE_SELENOCYSTEINE": 1, "TABLE_VERTEBRATE_MIT
 wanted["TRANSCRIPT_ROOM"] = wanted["LONGEST"] + max(wanted["LONGEST"], wanted["MOST_BASES"])
 wanted["REFERENCE_ROOM"] = (wanted["LONGEST"] + 2) // 3
 wanted["ALTERED_ROOM"] = (wanted["TRANSCRIPT_ROOM"] + 2) // 3
+wanted["DIFFERENCE_BYTES"], wanted["DIFFERENCES_ROOM"] = 4, 4 * wanted["REFERENCE_ROOM"]
+wanted["OF_SECOND"] = int(re.search(r"↯ \((\d+) \+ referenceRefusal longest s\)", text(f"{SPECS}/Editions.antt")).group(1))
 for name, n in sorted(wanted.items()):
     same(name, f"GARUMBOTT_{name}", str(n))
 refusals = set()
 for name in sorted(os.listdir(SPECS)):
     body = re.sub(r"--.*", "", text(f"{SPECS}/{name}"))
-    refusals |= {int(n) for n in re.findall(r"↯ (\d+)", body)} | {int(n) for n in re.findall(r"\brefused(?:Line)? (\d+)", body)}
+    refusals |= {int(n) for n in re.findall(r"↯ (\d+)", body)} | {int(n) for n in re.findall(r"\b[rR]efused(?:Line)? (\d+)", body)}
     refusals |= {int(n) for a, b in re.findall(r"refused \(if .* then (\d+) else (\d+)\)", body) for n in (a, b)}
 given = {v for n, v in constants.items() if n.startswith("REFUSAL_")}
 if given != refusals:

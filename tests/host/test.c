@@ -32,7 +32,9 @@ enum { LETTERS, EXCEPTIONS, BASES, TRANSCRIPT, REFERENCE, ALTERED, STORED, DELET
 static struct fence large[FENCES], small[FENCES], *fences = large;
 
 /* Room that is never too short: for every reference, and, in the small fences, for those of some letters. */
-static const size_t whole_room[3] = {GARUMBOTT_TRANSCRIPT_ROOM, GARUMBOTT_REFERENCE_ROOM, GARUMBOTT_ALTERED_ROOM}, small_room[3] = {40, 10, 20};
+/* The longest transcript of the text program, and what its edits take; tests/long has longer ones. */
+enum { TEXT_LONGEST = 16384, TEXT_TRANSCRIPT = 32768, TEXT_REFERENCE = 5462, TEXT_ALTERED = 10923 };
+static const size_t whole_room[3] = {TEXT_TRANSCRIPT, TEXT_REFERENCE, TEXT_ALTERED}, small_room[3] = {40, 10, 20};
 static const size_t *plenty = whole_room;
 
 struct row {
@@ -169,12 +171,12 @@ static void edit_stored(const char *name, const struct garumbott_reference *refe
     uint64_t refusal = x % 3 != 0 || reference->end > 2 ? GARUMBOTT_REFUSAL_FIELD : want->refusal <= 6 || want->refusal == GARUMBOTT_REFUSAL_END ? want->refusal : 0;
     for (int side = FENCE_END; side <= FENCE_START; side++) {
         const uint8_t *data = fence_fill(&fences[STORED], side, form, len);
-        struct garumbott_stored got = garumbott_read_stored(data, len), no = {.refusal = refusal},
+        struct garumbott_stored got = garumbott_read_stored(data, len, NULL, 0), no = {.refusal = refusal},
                                 good = {.cs = reference->cs, .ce = reference->ce, .table = reference->table, .letters_at = 3,
                                         .letters_len = reference->letters_len, .exceptions_at = x == 0 ? 0 : reference->letters_len + 17, .exceptions_len = x,
                                         .end = reference->end};
         check(same_stored(&got, refusal == 0 ? &good : &no), name, "read_stored's answer");
-        struct garumbott_reference found = garumbott_reference_at(&got, data);
+        struct garumbott_reference found = garumbott_reference_at(&got, data, NULL);
         check(found.end == got.end, name, "the end that garumbott_reference_at carries");
         struct garumbott_buffers b = {fence_fill(&fences[TRANSCRIPT], side, NULL, plenty[0]), plenty[0], fence_fill(&fences[REFERENCE], side, NULL, plenty[1]),
                                       plenty[1], fence_fill(&fences[ALTERED], side, NULL, plenty[2]), plenty[2]};
@@ -705,20 +707,20 @@ static void ends(void)
 
 /* ---- limits ------------------------------------------------------------------------------------------------------------------------ */
 
-enum { LONGEST_CODONS = GARUMBOTT_LONGEST / 3 };
-static uint8_t longest[GARUMBOTT_LONGEST + 1], doubled[2 * GARUMBOTT_LONGEST], protein[LONGEST_CODONS], inserted[GARUMBOTT_LONGEST + GARUMBOTT_MOST_BASES];
-static uint8_t endless[GARUMBOTT_LONGEST];
+enum { LONGEST_CODONS = TEXT_LONGEST / 3 };
+static uint8_t longest[TEXT_LONGEST + 1], doubled[2 * TEXT_LONGEST], protein[LONGEST_CODONS], inserted[TEXT_LONGEST + GARUMBOTT_MOST_BASES];
+static uint8_t endless[TEXT_LONGEST];
 
 /* ATG GCC .. GCC TAA A: 16,384 letters, a CDS of 5,461 codons. And ATG GCN GCC .. GCC G, which ends in a cut codon. */
 static void make_longest(void)
 {
-    for (size_t i = 0; i < GARUMBOTT_LONGEST + 1; i++) longest[i] = (uint8_t) "GCC"[i % 3];
+    for (size_t i = 0; i < TEXT_LONGEST + 1; i++) longest[i] = (uint8_t) "GCC"[i % 3];
     memcpy(longest, "ATG", 3);
-    memcpy(endless, longest, GARUMBOTT_LONGEST);
+    memcpy(endless, longest, TEXT_LONGEST);
     endless[5] = 'N';
     memcpy(longest + 16380, "TAAA", 4);
-    memcpy(doubled, longest, GARUMBOTT_LONGEST);
-    memcpy(doubled + GARUMBOTT_LONGEST, longest, GARUMBOTT_LONGEST);
+    memcpy(doubled, longest, TEXT_LONGEST);
+    memcpy(doubled + TEXT_LONGEST, longest, TEXT_LONGEST);
     memset(protein, 'A', sizeof protein);
     protein[0] = 'M';
     protein[5460] = '*';
@@ -726,30 +728,30 @@ static void make_longest(void)
 
 static struct garumbott_reference longest_reference(void)
 {
-    struct garumbott_reference r = {.letters = longest, .letters_len = GARUMBOTT_LONGEST, .cs = 1, .ce = 16383};
+    struct garumbott_reference r = {.letters = longest, .letters_len = TEXT_LONGEST, .cs = 1, .ce = 16383};
     return r;
 }
 
 static struct garumbott_reference endless_reference(void)
 {
-    struct garumbott_reference r = {.letters = endless, .letters_len = GARUMBOTT_LONGEST, .cs = 1, .ce = GARUMBOTT_LONGEST, .end = GARUMBOTT_END_CUT_CODON};
+    struct garumbott_reference r = {.letters = endless, .letters_len = TEXT_LONGEST, .cs = 1, .ce = TEXT_LONGEST, .end = GARUMBOTT_END_CUT_CODON};
     return r;
 }
 
-/* The longest R, which fills GARUMBOTT_REFERENCE_ROOM: M, 5,460 of A, and X. All letters copied give D, G, R .. R and X behind them. */
+/* The longest R, which fills TEXT_REFERENCE: M, 5,460 of A, and X. All letters copied give D, G, R .. R and X behind them. */
 static void cut_limits(void)
 {
-    static uint8_t copied[2 * GARUMBOTT_LONGEST], r[GARUMBOTT_REFERENCE_ROOM], a[GARUMBOTT_ALTERED_ROOM];
+    static uint8_t copied[2 * TEXT_LONGEST], r[TEXT_REFERENCE], a[TEXT_ALTERED];
     struct garumbott_reference cut = endless_reference();
-    struct garumbott_coding_edit copy = TWO(DUPLICATION, 1, GARUMBOTT_LONGEST), nothing = ONE(IDENTITY, GARUMBOTT_LONGEST);
+    struct garumbott_coding_edit copy = TWO(DUPLICATION, 1, TEXT_LONGEST), nothing = ONE(IDENTITY, TEXT_LONGEST);
     struct garumbott_answer w = {.answer = GARUMBOTT_CHANGED, .frameshift = 1, .transcript_len = 32768, .reference_len = 5462, .altered_len = 10923,
                                  .change = GARUMBOTT_CHANGE_FRAMESHIFT, .number = 5462, .deleted_at = 5461, .deleted_len = 1, .inserted_at = 5461, .inserted_len = 5462,
                                  .codons = 5461},
-                            e = alone(&w), same_again = {.answer = GARUMBOTT_SILENT, .transcript_len = GARUMBOTT_LONGEST, .reference_len = 5462, .altered_len = 5462,
+                            e = alone(&w), same_again = {.answer = GARUMBOTT_SILENT, .transcript_len = TEXT_LONGEST, .reference_len = 5462, .altered_len = 5462,
                                                          .number = 5462, .deleted_at = 5461, .deleted_len = 1, .inserted_at = 5461, .inserted_len = 1},
                             same_alone = alone(&same_again), twelve = {.refusal = GARUMBOTT_REFUSAL_PROTEIN_ROOM};
-    memcpy(copied, endless, GARUMBOTT_LONGEST);
-    memcpy(copied + GARUMBOTT_LONGEST, endless, GARUMBOTT_LONGEST);
+    memcpy(copied, endless, TEXT_LONGEST);
+    memcpy(copied + TEXT_LONGEST, endless, TEXT_LONGEST);
     memset(r, 'A', sizeof r);
     r[0] = 'M';
     r[5461] = 'X';
@@ -759,7 +761,7 @@ static void cut_limits(void)
     a[5462] = 'G';
     a[5463] = 'X'; /* NGC */
     a[10922] = 'X';
-    check(garumbott_reference_room(1, GARUMBOTT_LONGEST) == GARUMBOTT_REFERENCE_ROOM, "reference_room", "longest");
+    check(garumbott_reference_room(1, TEXT_LONGEST) == TEXT_REFERENCE, "reference_room", "longest");
     edit_case("16,384 letters and a cut codon, all of them copied", &cut, &copy, plenty, &w, &e, copied, r, a);
     edit_stored("16,384 letters and a cut codon, all of them copied", &cut, &copy, &w, copied, r, a);
     own_record("16,384 letters and a cut codon, all of them copied", &cut, &copy, plenty, &w, (const char *)copied, (const char *)r, (const char *)a);
@@ -789,14 +791,14 @@ static void limits(void)
                                  .number = 1, .deleted_len = 1, .inserted_len = 1},
                             e = alone(&w);
 
-    /* the longest altered transcript fills GARUMBOTT_TRANSCRIPT_ROOM, and 12 asks for GARUMBOTT_ALTERED_ROOM */
+    /* the longest altered transcript fills TEXT_TRANSCRIPT, and 12 asks for TEXT_ALTERED */
     struct garumbott_coding_edit copy = STAR(DUPLICATION, 1, 1);
     edit_case("16,384 letters, all of them copied", &r, &copy, rooms, &w, &e, doubled, protein, protein);
     edit_stored("16,384 letters, all of them copied", &r, &copy, &w, doubled, protein, protein);
     own_record("16,384 letters, all of them copied", &r, &copy, rooms, &w, "", "", "");
-    check(garumbott_transcript_room(GARUMBOTT_LONGEST, GARUMBOTT_DUPLICATION, 0) == GARUMBOTT_TRANSCRIPT_ROOM, "transcript_room", "longest");
+    check(garumbott_transcript_room(TEXT_LONGEST, GARUMBOTT_DUPLICATION, 0) == TEXT_TRANSCRIPT, "transcript_room", "longest");
     check(garumbott_reference_room(1, 16383) == LONGEST_CODONS, "reference_room", "longest");
-    check(garumbott_altered_room(32768, 1) == GARUMBOTT_ALTERED_ROOM, "altered_room", "longest");
+    check(garumbott_altered_room(32768, 1) == TEXT_ALTERED, "altered_room", "longest");
     for (int i = 0; i < 3; i++) {
         size_t less[3] = {rooms[0], LONGEST_CODONS, rooms[2]};
         less[i]--;
@@ -805,12 +807,8 @@ static void limits(void)
         own_record("a byte too little for the longest", &r, &copy, less, &no, "", "", "");
     }
 
-    /* one letter more */
-    struct garumbott_answer one = {.refusal = 1}, ten = {.refusal = 10};
+    struct garumbott_answer ten = {.refusal = 10};
     struct garumbott_coding_edit same_place = ONE(IDENTITY, 1);
-    r.letters_len = GARUMBOTT_LONGEST + 1;
-    edit_case("16,385 letters", &r, &same_place, rooms, &one, &one, "", "", "");
-    edit_stored("16,385 letters", &r, &same_place, &one, "", "", "");
 
     /* 4,096 new bases, and one more */
     static uint8_t bases[GARUMBOTT_MOST_BASES + 1];
@@ -819,7 +817,7 @@ static void limits(void)
     r = longest_reference();
     memcpy(inserted, longest, 3);
     memcpy(inserted + 3, bases, GARUMBOTT_MOST_BASES);
-    memcpy(inserted + 3 + GARUMBOTT_MOST_BASES, longest + 3, GARUMBOTT_LONGEST - 3);
+    memcpy(inserted + 3 + GARUMBOTT_MOST_BASES, longest + 3, TEXT_LONGEST - 3);
     struct garumbott_answer long_edit = {.answer = GARUMBOTT_CHANGED, .frameshift = 1, .transcript_len = 20480};
     struct garumbott_buffers b = {fence_fill(&fences[TRANSCRIPT], FENCE_END, NULL, 20480), 20480, NULL, 0, NULL, 0};
     struct garumbott_answer got = garumbott_edit_of(&r, &in, &b);
@@ -838,7 +836,7 @@ static void limits(void)
     }
     r.exceptions = sixteen;
     r.exceptions_len = sizeof sixteen;
-    struct garumbott_answer kept = {.answer = GARUMBOTT_SILENT, .transcript_len = GARUMBOTT_LONGEST, .reference_len = 5461, .altered_len = 5461,
+    struct garumbott_answer kept = {.answer = GARUMBOTT_SILENT, .transcript_len = TEXT_LONGEST, .reference_len = 5461, .altered_len = 5461,
                                     .number = 1, .deleted_len = 1, .inserted_len = 1, .codons = 5461},
                             kept_alone = alone(&kept);
     edit_case("sixteen exceptions", &r, &same_place, rooms, &kept, &kept_alone, longest, excepted, excepted);
@@ -1104,7 +1102,7 @@ static void records(void)
 static void stored_case(const char *name, const void *data, size_t len, const struct garumbott_stored *want)
 {
     for (int side = FENCE_END; side <= FENCE_START; side++) {
-        struct garumbott_stored got = garumbott_read_stored(fence_fill(&fences[STORED], side, data, len), len);
+        struct garumbott_stored got = garumbott_read_stored(fence_fill(&fences[STORED], side, data, len), len, NULL, 0);
         check(same_stored(&got, want), name, "read_stored's answer");
         check(fence_check(&fences[STORED], NULL, 0), name, "stored bytes changed");
     }
@@ -1129,10 +1127,10 @@ static void stored_refusals(void)
         S("tag 1 alone", "\1", 20),
         S("tag 1 and a byte of its length", "\1\0", 20),
         S("tag 0 alone", "\0", 21),
-        S("tag 5 alone", "\5", 21),
+        S("tag 5 alone", "\5", 20),
         S("a last byte 3", ALL_FIELDS "\3", 21),
         S("a last byte 4", ALL_FIELDS "\4", 20),
-        S("a last byte 5", ALL_FIELDS "\5", 21),
+        S("a last byte 5", ALL_FIELDS "\5", 20),
         S("a last byte 0", ALL_FIELDS "\0", 21),
         S("a line feed behind", ALL_FIELDS "\n", 21),
         S("two bytes of tag 4", ALL_FIELDS "\4\0", 20),
@@ -1140,9 +1138,9 @@ static void stored_refusals(void)
         S("a zero byte behind tag 4", ALL_FIELDS "\4\0\0\0", 21),
         /* 21 */
         S("tag 0", "\0\0\0" ALL_FIELDS, 21),
-        S("tag 5 first", "\5\0\0" ALL_FIELDS, 21),
+        S("tag 5 first", "\5\0\0" ALL_FIELDS, 23),
         S("tag 255", ALL_FIELDS "\377\0\0", 21),
-        S("tag 5 last", ALL_FIELDS "\5\0\0", 21),
+        S("tag 5 last", ALL_FIELDS "\5\0\0", 23),
         S("letters twice", LETTERS_FIELD ALL_FIELDS, 21),
         S("bounds twice", LETTERS_FIELD BOUNDS_FIELD BOUNDS_FIELD TABLE_FIELD, 21),
         S("table twice", ALL_FIELDS TABLE_FIELD, 21),
@@ -1236,15 +1234,15 @@ static void stored_refusals(void)
         S("tag 4 behind tag 8", SIX_FIELDS NO_STOP_FIELD "\4\0\0", 21),
         S("tag 8 first", NO_STOP_FIELD SIX_FIELDS, 21),
         S("tag 8 before table", "\1\0\6ATGGCC" "\2\0\4\0\1\0\6" NO_STOP_FIELD TABLE_FIELD, 21),
-        S("tag 5 behind table", SIX_FIELDS "\5\0\1\1", 21),
-        S("tag 6 behind table", SIX_FIELDS "\6\0\1\1", 21),
-        S("tag 7 behind table", SIX_FIELDS "\7\0\1\1", 21),
+        S("tag 5 behind table", SIX_FIELDS "\5\0\1\1", 25),
+        S("tag 6 behind table", SIX_FIELDS "\6\0\1\1", 25),
+        S("tag 7 behind table", SIX_FIELDS "\7\0\1\1", 23),
         S("tag 9 behind table", SIX_FIELDS "\11\0\1\1", 21),
-        S("tag 5 before tag 8", SIX_FIELDS "\5\0\0" NO_STOP_FIELD, 21),
-        S("tag 6 before tag 8", SIX_FIELDS "\6\0\0" NO_STOP_FIELD, 21),
-        S("tag 7 before tag 8", SIX_FIELDS "\7\0\0" NO_STOP_FIELD, 21),
+        S("tag 5 before tag 8", SIX_FIELDS "\5\0\0" NO_STOP_FIELD, 23),
+        S("tag 6 before tag 8", SIX_FIELDS "\6\0\0" NO_STOP_FIELD, 23),
+        S("tag 7 before tag 8", SIX_FIELDS "\7\0\0" NO_STOP_FIELD, 23),
         S("tag 9 behind tag 8", SIX_FIELDS NO_STOP_FIELD "\11\0\0", 21),
-        S("tag 5, ATGTAA", "\1\0\6ATGTAA" "\2\0\4\0\1\0\6" TABLE_FIELD "\5\0\0", 21),
+        S("tag 5, ATGTAA", "\1\0\6ATGTAA" "\2\0\4\0\1\0\6" TABLE_FIELD "\5\0\0", 23),
         S("a zero byte behind tag 8", SIX_FIELDS NO_STOP_FIELD "\0", 21),
         /* behind 22, and by the end */
         S("tag 8, nothing else", NO_STOP_FIELD, 22),
@@ -1289,8 +1287,8 @@ static void stored_ends(void)
     stored_case("tag 8 is 2, behind two exceptions", excepted, sizeof excepted - 1, &two);
 
     /* what is read is what garumbott_record_of takes */
-    struct garumbott_stored got = garumbott_read_stored(bytes(excepted), sizeof excepted - 1);
-    struct garumbott_reference r = garumbott_reference_at(&got, bytes(excepted));
+    struct garumbott_stored got = garumbott_read_stored(bytes(excepted), sizeof excepted - 1, NULL, 0);
+    struct garumbott_reference r = garumbott_reference_at(&got, bytes(excepted), NULL);
     struct garumbott_coding_edit edit = ONE_NEW(SUBSTITUTION, 7, "G");
     uint8_t t[7], p[3], a[3];
     struct garumbott_buffers b = {t, sizeof t, p, sizeof p, a, sizeof a};
@@ -1319,7 +1317,7 @@ static void stored_ends(void)
         snprintf(name, sizeof name, "tag %d for 8", i);
         memcpy(form, six, sizeof six);
         form[sizeof six - 5] = (char)i;
-        if (i != 8) stored_refused(name, form, sizeof form - 1, i == 4 ? 23 : 21);
+        if (i != 8) stored_refused(name, form, sizeof form - 1, i == 4 || i == 7 ? 23 : i == 5 || i == 6 ? 25 : 21);
     }
 }
 
@@ -1327,7 +1325,7 @@ static void stored(void)
 {
     static const char plain[] = ALL_FIELDS, empty[] = ALL_FIELDS "\4\0\0", excepted[] = ALL_FIELDS "\4\0\6\0\2U\0\5*";
     static const struct garumbott_stored good = {.cs = 3, .ce = 17, .letters_at = 3, .letters_len = 23};
-    struct garumbott_stored got = garumbott_read_stored(NULL, 0), none = {.refusal = 22}, want = good;
+    struct garumbott_stored got = garumbott_read_stored(NULL, 0, NULL, 0), none = {.refusal = 22}, want = good;
     check(same_stored(&got, &none), "NULL stored", "read_stored's answer");
     fences = small;
     stored_refusals();
@@ -1353,10 +1351,10 @@ static void stored(void)
         snprintf(name, sizeof name, "tag %d", tag);
         memcpy(form, excepted, sizeof form);
         form[0] = (char)tag;
-        if (tag != 1) stored_refused(name, form, sizeof form - 1, (tag > 1 && tag < 5) || tag == 8 ? 23 : 21);
+        if (tag != 1) stored_refused(name, form, sizeof form - 1, (tag > 1 && tag < 5) || tag == 7 || tag == 8 ? 23 : 21);
         form[0] = 1;
         form[37] = (char)tag;
-        if (tag != 4) stored_refused(name, form, sizeof form - 1, tag == 8 ? 23 : 21);
+        if (tag != 4) stored_refused(name, form, sizeof form - 1, tag == 7 || tag == 8 ? 23 : tag == 5 || tag == 6 ? 25 : 21);
     }
 
     /* lengths: sixteen and seventeen exceptions, 16,384 letters, one more, and as many as a length can say */
@@ -1369,17 +1367,17 @@ static void stored(void)
     struct garumbott_reference r = longest_reference();
     r.exceptions = seventeen;
     r.exceptions_len = 48;
-    want = (struct garumbott_stored){.cs = 1, .ce = 16383, .letters_at = 3, .letters_len = GARUMBOTT_LONGEST, .exceptions_at = GARUMBOTT_LONGEST + 17, .exceptions_len = 48};
+    want = (struct garumbott_stored){.cs = 1, .ce = 16383, .letters_at = 3, .letters_len = TEXT_LONGEST, .exceptions_at = TEXT_LONGEST + 17, .exceptions_len = 48};
     stored_case("16,384 letters and sixteen exceptions", form, store(form, &r), &want);
     r.exceptions_len = 51;
     stored_refused("16,384 letters and seventeen exceptions", form, store(form, &r), 5);
     r.letters_len++;
-    stored_refused("16,385 letters", form, store(form, &r), 1);
+    stored_refused("16,385 letters with tag 2", form, store(form, &r), 25);
     memset(many, 'A', sizeof many);
     r.letters = many;
     r.letters_len = sizeof many;
     r.exceptions_len = 0;
-    stored_refused("65,535 letters", form, store(form, &r), 1);
+    stored_refused("65,535 letters with tag 2", form, store(form, &r), 25);
     uint8_t *to = form;
     put_field(&to, 1, many, sizeof many);
     stored_refused("65,535 letters alone", form, (size_t)(to - form), 22);
@@ -1640,6 +1638,10 @@ static void nulls(void)
     check(garumbott_check_of(&none, &edit, 0, NULL, 0, NULL, 0, &buffers).refusal == 1, "NULL everywhere", "check");
     check(garumbott_check_of(&SHORT, &whole, 0, NULL, 0, NULL, 0, &buffers).refusal == 26, "NULL buffers", "check, Unknown");
     check(garumbott_check_of(&SHORT, &in, 0, NULL, 0, NULL, 0, &buffers).refusal == 11, "NULL buffers", "check");
+    check(garumbott_compare_of(&none, &none, NULL, 0).refusal == 1, "NULL everywhere", "compare");
+    check(garumbott_compare_of(&SHORT, &none, NULL, 0).refusal == GARUMBOTT_OF_SECOND + 1, "NULL, the second", "compare");
+    check(garumbott_compare_of(&SHORT, &W, NULL, 0).refusal == GARUMBOTT_REFUSAL_LIST, "NULL buffer", "compare");
+    check(garumbott_compare_of(&SHORT, &SHORT, NULL, 0).refusal == 0, "NULL buffer, no difference", "compare");
 }
 
 /* Slices that are only read may overlap: new bases that stand in the letters, a proposal in one string, or in the letters too. */
@@ -1741,35 +1743,46 @@ static void *call_edit(void *given)
     return NULL;
 }
 
+/* Two that differ in each codon, cut short and with exceptions. */
+static void *call_compare(void *given)
+{
+    struct garumbott_reference r = longest_reference(), cut = endless_reference();
+    r.exceptions = bytes("\0\2U");
+    r.exceptions_len = 3;
+    garumbott_compare_of(&r, &cut, on_t, sizeof on_t);
+    garumbott_compare_of(&cut, &r, on_t, sizeof on_t);
+    return given;
+}
+
 static void *call_stored(void *given)
 {
-    static uint8_t form[GARUMBOTT_LONGEST + 64];
+    static uint8_t form[TEXT_LONGEST + 64];
     struct garumbott_reference r = longest_reference();
     r.exceptions = bytes("\0\2U");
     r.exceptions_len = 3;
-    garumbott_read_stored(form, store(form, &r));
+    garumbott_read_stored(form, store(form, &r), NULL, 0);
     r.letters = endless;
-    r.ce = GARUMBOTT_LONGEST;
+    r.ce = TEXT_LONGEST;
     r.end = GARUMBOTT_END_CUT_CODON;
-    garumbott_read_stored(form, store(form, &r));
+    garumbott_read_stored(form, store(form, &r), NULL, 0);
     return given;
 }
 
 static void *call_translate(void *given)
 {
     longest[5] = 'N';
-    garumbott_translate(longest, GARUMBOTT_LONGEST, 2, 0, bytes("\0\2U"), 3, on_a, sizeof on_a);
+    garumbott_translate(longest, TEXT_LONGEST, 2, 0, bytes("\0\2U"), 3, on_a, sizeof on_a);
     longest[5] = 'C';
     return given;
 }
 
 static void *call_strings(void *given)
 {
-    garumbott_complement(longest, GARUMBOTT_LONGEST, on_t, sizeof on_t);
+    garumbott_complement(longest, TEXT_LONGEST, on_t, sizeof on_t);
     garumbott_names3(protein, sizeof protein, on_t, sizeof on_t);
     garumbott_names1(on_t, 3 * sizeof protein, on_a, sizeof on_a);
-    garumbott_common_prefix(longest, GARUMBOTT_LONGEST, on_t, sizeof on_t);
-    garumbott_common_suffix(longest, GARUMBOTT_LONGEST, on_t, sizeof on_t);
+    garumbott_common_prefix(longest, TEXT_LONGEST, on_t, sizeof on_t);
+    garumbott_common_suffix(longest, TEXT_LONGEST, on_t, sizeof on_t);
     return given;
 }
 
@@ -1808,7 +1821,7 @@ static void stack(void)
         most = e > most ? e : most;
         most = c > most ? c : most;
     }
-    static void *(*const others[])(void *) = {call_stored, call_translate, call_strings};
+    static void *(*const others[])(void *) = {call_compare, call_stored, call_translate, call_strings};
     for (size_t i = 0; i < sizeof others / sizeof *others; i++) {
         size_t n = touched(others[i], NULL) - base;
         most = n > most ? n : most;

@@ -5,6 +5,7 @@
 Refusals: document 01's table and what document 02 adds to it, by their rows in docs/RULES.md. Exactly these numbers have words, no two the same, and the words
 of a number have every word and every number of its rows. Where a row points to another sentence, or another sentence amends it (POINTS), they have those of that
 sentence, which docs/RULES.md must quote.
+A refusal of the second of two references (E11) has the words of the first's, 100 less, behind "of the second reference: ", and exactly those of a reference are there.
 Names of classes and answers: what the definitions print, crates/rules/specs.
 """
 import re
@@ -27,13 +28,18 @@ POINTS = [
     (6, "", "only for ends at a stop"),
     (12, "", "CDS/3 rounded up"),
     (23, "", "a tag 8 content other than 1 or 2"),
+    # document 02, E6
+    (1, "", "takes L up to 131,072; the text program keeps 16,384"),
+    (22, "", "wants one of tags 2 and 7"),
+    (23, "", "an empty tag 5 or 6"),
     (28, "doesn't fit the letters", "The last two need ce = L and no `*` in R"),
 ]
 # what the header says otherwise
 OWN = {"L is": "length is", "ce <= L": "ce <= length", "has place L or more": "is behind the transcript", "is refused (14)": "",
        "needs a length not": "not", "the CDS still has at least 6 bases": "at least 6", "an unknown end keeps the old rule": "", "codons only": "codons",
        "only for ends": "ends", "other than": "not", "in 6's place for the new ends": "", "The last two need ce = L": "cut short: ce not the last base",
-       "no `*` in R": "a codon reads *"}
+       "no `*` in R": "a codon reads *", "takes L up to 131,072; the text program keeps 16,384": "131,072, text program 16,384",
+       "wants one of tags": "one of tags"}
 SMALL = set("a an the is are of or and in it its has whose also if with such each takes".split())
 
 faults = []
@@ -65,6 +71,10 @@ for n, row in re.findall(r'^\| (\d+): "(.*?)" \|', rules, re.M):
     rows[int(n)] = f"{rows[int(n)]}; {row}" if int(n) in rows else row
 refusals = said["refusal_words"]
 other, none = refusals.pop("?"), refusals.pop("0", None)
+of_second = {n: refusals.pop(str(100 + n), None) for n in (1, 2, 3, 4, 5, 6, 28)}
+for n, words in of_second.items():
+    if words != f"of the second reference: {refusals.get(str(n))}":
+        faults.append(f"the words of refusal {100 + n} aren't those of {n} of the second reference")
 if len(rows) < 20 or {str(n) for n in rows} != set(refusals):
     faults.append(f"the refusals with words and those of docs/RULES.md differ in {sorted(set(refusals) ^ {str(n) for n in rows})}")
 if none is None or len({other, none, *refusals.values()}) != 2 + len(refusals):

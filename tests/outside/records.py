@@ -80,14 +80,13 @@ def variant(chromosome, at, end, new, anchored):
     return at + 1, old, new
 
 
-def reported(folder, references, edits, anchored):
-    """What csq says of each edit: its words, and the change of residues where it reports one."""
-    chromosome, places = random_letters(random.Random(3), APART), []
-    for letters, _, _ in references:
-        places.append(len(chromosome))
+def laid_out(references):
+    """References side by side on one chromosome: its letters, the place of each, and the lines of a GFF that says so."""
+    chromosome, places, gff = random_letters(random.Random(3), APART), [], ["##gff-version 3"]
+    for i, (letters, cs, ce) in enumerate(references):
+        at = len(chromosome)
+        places.append(at)
         chromosome += letters + random_letters(random.Random(len(places)), APART)
-    gff = ["##gff-version 3"]
-    for i, ((letters, cs, ce), at) in enumerate(zip(references, places)):
         rows = [("gene", 1, len(letters), ".", f"ID=gene:G{i};biotype=protein_coding;Name=G{i}"),
                 ("mRNA", 1, len(letters), ".", f"ID=transcript:T{i};Parent=gene:G{i};biotype=protein_coding"),
                 ("exon", 1, len(letters), ".", f"Parent=transcript:T{i}"),
@@ -97,28 +96,42 @@ def reported(folder, references, edits, anchored):
         if ce < len(letters):
             rows.append(("three_prime_UTR", ce + 1, len(letters), ".", f"Parent=transcript:T{i}"))
         gff += [f"1\t.\t{word}\t{at + first}\t{at + last}\t.\t+\t{phase}\t{more}" for word, first, last, phase, more in rows]
+    return chromosome, places, gff
+
+
+def csq(folder, chromosome, gff, lines, arguments=(), sample=""):
+    """What `bcftools csq` says of variants, lines of a VCF beside their positions: for each line that it prints its identifier and its BCSQ."""
+    head = ["##fileformat=VCFv4.2", f"##contig=<ID=1,length={len(chromosome)}>"]
+    if sample:
+        head.append('##FORMAT=<ID=GT,Number=1,Type=String,Description="Genotype">')
+    head.append("#CHROM\tPOS\tID\tREF\tALT\tQUAL\tFILTER\tINFO" + (f"\tFORMAT\t{sample}" if sample else ""))
+    for name, text in (("ref.fa", [">1", chromosome]), ("ref.gff", gff), ("in.vcf", head + [line for _, line in sorted(lines)])):
+        with open(f"{folder}/{name}", "w", encoding="ascii") as f:
+            f.write("\n".join(text) + "\n")
+    if os.path.exists(f"{folder}/ref.fa.fai"):  # csq's index of another ref.fa
+        os.remove(f"{folder}/ref.fa.fai")
+    ran = subprocess.run(["bcftools", "csq", *arguments, "-f", f"{folder}/ref.fa", "-g", f"{folder}/ref.gff", "-Ov", f"{folder}/in.vcf"], capture_output=True, text=True, check=True)
+    for line in ran.stdout.splitlines():
+        if not line.startswith("#"):
+            parts = line.split("\t")
+            yield parts[2], next((item[5:] for item in parts[7].split(";") if item.startswith("BCSQ=")), "")
+
+
+def reported(folder, references, edits, anchored):
+    """What csq says of each edit: its words, and the change of residues where it reports one."""
+    chromosome, places, gff = laid_out(references)
     lines = []
     for i, of in enumerate(edits):
         for j, (_, at, end, new) in enumerate(of):
             position, old, put = variant(chromosome, places[i] + at, places[i] + end, new, anchored)
             if old != put:
                 lines.append((position, f"1\t{position}\t{i}.{j}\t{old}\t{put}\t.\t.\t."))
-    head = ["##fileformat=VCFv4.2", f"##contig=<ID=1,length={len(chromosome)}>", "#CHROM\tPOS\tID\tREF\tALT\tQUAL\tFILTER\tINFO"]
-    for name, text in (("ref.fa", [">1", chromosome]), ("ref.gff", gff), ("in.vcf", head + [line for _, line in sorted(lines)])):
-        with open(f"{folder}/{name}", "w", encoding="ascii") as f:
-            f.write("\n".join(text) + "\n")
-    if os.path.exists(f"{folder}/ref.fa.fai"):  # csq's index of another ref.fa
-        os.remove(f"{folder}/ref.fa.fai")
-    ran = subprocess.run(["bcftools", "csq", "-l", "-f", f"{folder}/ref.fa", "-g", f"{folder}/ref.gff", "-Ov", f"{folder}/in.vcf"], capture_output=True, text=True, check=True)
     said = {}
-    for line in ran.stdout.splitlines():
-        if not line.startswith("#"):
-            parts = line.split("\t")
-            told = next((item[5:] for item in parts[7].split(";") if item.startswith("BCSQ=")), "")
-            i, j = map(int, parts[2].split("."))
-            of = [one.split("|") for one in told.split(",") if f"|T{i}|" in one]
-            change = of[0][5] if len(of) == 1 and len(of[0]) > 5 else ""
-            said[i, j] = of[0][0] if len(of) == 1 else "nothing", "" if "?" in change else change
+    for name, told in csq(folder, chromosome, gff, lines, ["-l"]):
+        i, j = map(int, name.split("."))
+        of = [one.split("|") for one in told.split(",") if f"|T{i}|" in one]
+        change = of[0][5] if len(of) == 1 and len(of[0]) > 5 else ""
+        said[i, j] = of[0][0] if len(of) == 1 else "nothing", "" if "?" in change else change
     return said
 
 
@@ -191,4 +204,5 @@ def main(folder):
     return 1 if faults or asked < 2000 or in_frame < 1000 else 0
 
 
-sys.exit(main(sys.argv[1]))
+if __name__ == "__main__":
+    sys.exit(main(sys.argv[1]))

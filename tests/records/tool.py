@@ -210,7 +210,7 @@ def building():
                 f.write(text)
             os.chmod(path, 0o755)
 
-        for name in ("check-records", "tools/check-records.c", "include/garumbott.h"):
+        for name in ("check-records", "tools/check-records.c", "tools/lines.h", "include/garumbott.h"):
             with open(name, encoding="utf-8") as f:
                 put(f"here/{name}", f.read())
         put("here/crates.txt", "garumbott:\n")

@@ -150,7 +150,8 @@ def read(data):
     except account.Refused as refusal:
         return f"refused {refusal.number}"
     size = len(ref.letters)
-    exceptions = (17 + size, 3 * len(ref.exceptions)) if data[14 + size:15 + size] == b"\4" else (0, 0)
+    at = (14 if size <= 16384 else 7) + size  # behind tags 1, 2 and 3, or 1 and 3: tag 7 comes behind the exceptions
+    exceptions = (at + 3, 3 * len(ref.exceptions)) if data[at:at + 1] == b"\4" else (0, 0)
     end = f" end {ref.end}" if ref.end else ""
     return f"cs {ref.cs} ce {ref.ce} table {ref.table} letters 3+{size} exceptions {exceptions[0]}+{exceptions[1]}{end}"
 

@@ -167,7 +167,7 @@ module _ (t frame : ℕ) (put : List ℕ) (some : 1 ≤ frame) where
             let alone : cutOf t 0 rest ≡ record { found = false; kept = length rest } = sym (cut-none t 0 rest (omega arith)) in
             rw (alone, length-drop (3 - frame) put, all-of frame (length put) small enough) (cut-none t frame put (omega (arith, later-length, later-before h)))
 
-none-listed : (e : Exceptions) → e .count ≡ 0 → exceptionList e ≡ []
+pub none-listed : (e : Exceptions) → e .count ≡ 0 → exceptionList e ≡ []
 unfolding exceptionList
 none-listed e h = rw h
 

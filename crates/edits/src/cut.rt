@@ -39,7 +39,7 @@ fn framed_codon(put: &[u8], frame: usize, table: usize) -> u8
 }
 
 // Exceptions play no part in the cut.
-fn no_exceptions() -> Exceptions
+pub fn no_exceptions() -> Exceptions
     ensures { λ r. ⌜ r .count ≡ 0 ⌝ }
 {
     let none = Exception {

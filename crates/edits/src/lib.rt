@@ -3,3 +3,5 @@
 mod cut;
 pub mod decision;
 pub mod plans;
+
+pub use cut::no_exceptions;

@@ -81,7 +81,7 @@ fn silent_number(len: usize, edit: Edit) -> usize
 }
 
 // The start index, and the end index plus one, at most L.
-fn setup_incorporate(len: usize, c: Cds, edit: Edit) -> Range
+pub fn setup_incorporate(len: usize, c: Cds, edit: Edit) -> Range
     requires { ⌜ Bounded c ⌝ }
     requires { ⌜ isOutside (c .cs) (c .ce) (edit .start) ≡ false ⌝ }
     requires { ⌜ isOutside (c .cs) (c .ce) (edit .end) ≡ false ⌝ }
@@ -197,7 +197,7 @@ fn keep_length(letters: &[u8], range: Range, source: Source, number: usize) -> P
 }
 
 // What an accepted edit does.
-pub(crate) fn plan_of(letters: &[u8], known: Known, edit: Edit, new: &[u8]) -> Plan
+pub fn plan_of(letters: &[u8], known: Known, edit: Edit, new: &[u8]) -> Plan
     requires { ⌜ Checks (now letters) known ⌝ }
     requires { ⌜ Planned (bare (now letters) (known .cds)) (asked edit (now new)) ⌝ }
     ensures { λ r. ⌜ r ≡ planOf (bare (now (letters .entry)) (known .cds)) (asked edit (now (new .entry))) ⌝ }

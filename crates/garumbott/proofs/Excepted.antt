@@ -18,11 +18,15 @@ use Rattle.rules.specs.Codons.{isTable}
 use Rattle.rules.specs.Translation.{noException, exceptionList, isResidue, areExceptions, foldedTranslated, translationTests, translation}
 use Rattle.rules.specs.Reference.{Reference, size, isSize, cdsSize, areBounds, codons, areRising, fitExceptions, referenceTests}
 use Rattle.rules.specs.Edit.{Asked}
-use Rattle.rules.specs.Refusal.{Room, refusal}
+use Rattle.rules.specs.Refusal.{Room, referenceRefusal, refusal}
 use Rattle.rules.specs.Check.{Proposal, checksNothing, checkBy, checkOutcome}
 use Rattle.rules.specs.Answer.{outcome}
+use Rattle.rules.specs.Pair.{PairRoom, pairOutcome}
 use Rattle.rules.specs.Stored.{exceptionsIn}
+use Rattle.rules.specs.Storing.{writtenReference}
 use Rattle.rules.proofs.Answers.{refused-by}
+use Rattle.rules.proofs.Writing.{refuses}
+use Rattle.rules.proofs.PairAnswers.{reference-refused}
 use Rattle.stored_fields.specs.Held.{exceptionsOf}
 use Rattle.stored_fields.proofs.Held.{list-few, list-length, list-uneven}
 use Rattle.rules.specs.declared.Cds.{Cds}
@@ -136,6 +140,35 @@ module _ (m : Limits) (s : List ℕ) (c : Cds) where
 
       alike : (es fs : List Exception) → Unfit es → Unfit fs → checkOutcome m (with es) a q room ≡ checkOutcome m (with fs) a q room
       alike es fs u v = by es fs lowest (refusal-unfit es a u) (refusal-unfit fs a v) lowest-some
+
+  reference-unfit : (es : List Exception) → Unfit es → referenceRefusal (m .longest) (with es) ≡ lowest
+  unfolding lowest referenceRefusal referenceTests firstOf areBounds size cdsSize fitExceptions
+  reference-unfit es u = rw (u .rising (codons (with es)))
+
+  -- a reference that is written
+  pub written-given : (room : ℕ) (x : List ℕ) → writtenReference (m .longest) (with (exceptionList (exceptionsOf x))) room ≡ writtenReference (m .longest) (with (exceptionsAt x)) room
+  written-given room x = as-given (λ es. writtenReference (m .longest) (with es) room) alike x
+    where
+      by : (es fs : List Exception) (n : ℕ) → referenceRefusal (m .longest) (with es) ≡ n → referenceRefusal (m .longest) (with fs) ≡ n → (n ≡ 0 → ⊥)
+          → writtenReference (m .longest) (with es) room ≡ writtenReference (m .longest) (with fs) room
+      by es fs zero h k some = absurd (some refl)
+      by es fs (suc n) h k some = refuses (m .longest) (with es) room n h ∙ sym (refuses (m .longest) (with fs) room n k)
+
+      alike : (es fs : List Exception) → Unfit es → Unfit fs → writtenReference (m .longest) (with es) room ≡ writtenReference (m .longest) (with fs) room
+      alike es fs u v = by es fs lowest (reference-unfit es u) (reference-unfit fs v) lowest-some
+
+  -- two edits, each with its limit
+  pub pair-given : (first second : ℕ) (a b : Asked) (room : PairRoom) (x : List ℕ)
+      → pairOutcome (record { longest = m .longest; first = first; second = second }) (with (exceptionList (exceptionsOf x))) a b room
+      ≡ pairOutcome (record { longest = m .longest; first = first; second = second }) (with (exceptionsAt x)) a b room
+  pair-given first second a b room x = as-given (λ es. pairOutcome (record { longest = m .longest; first = first; second = second }) (with es) a b room) alike x
+    where
+      alike : (es fs : List Exception) → Unfit es → Unfit fs
+          → pairOutcome (record { longest = m .longest; first = first; second = second }) (with es) a b room
+          ≡ pairOutcome (record { longest = m .longest; first = first; second = second }) (with fs) a b room
+      alike es fs u v =
+          reference-refused (record { longest = m .longest; first = first; second = second }) (with es) a b room lowest (reference-unfit es u) lowest-some
+          ∙ sym (reference-refused (record { longest = m .longest; first = first; second = second }) (with fs) a b room lowest (reference-unfit fs v) lowest-some)
 
 -- no bytes are no exceptions
 pub none-given : (x : List ℕ) → length x ≡ 0 → exceptionsAt x ≡ []

@@ -2,5 +2,6 @@
 pub mod Signed
 pub mod Given
 pub mod Excepted
+pub mod Compared
 pub mod Keeping
 pub mod Promised

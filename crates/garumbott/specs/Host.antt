@@ -15,6 +15,8 @@ use Rattle.rules.specs.declared.Written.the-variants as written
 use Rattle.rules.specs.declared.Answer.{Answer}
 use Rattle.rules.specs.declared.Check.{Check}
 use Rattle.rules.specs.declared.Check.the-variants as check
+use Rattle.rules.specs.declared.Paired.{Paired}
+use Rattle.rules.specs.declared.Paired.the-variants as paired
 use Rattle.rules.specs.Bytes.{if_then_else_, over}
 use Rattle.rules.specs.Translation.{noException}
 use Rattle.rules.specs.Reference.{Reference}
@@ -22,12 +24,14 @@ use Rattle.rules.specs.Edit.{Asked}
 use Rattle.rules.specs.Stored.{exceptionsIn}
 use Rattle.rules.specs.Answer.{Outcome}
 use Rattle.rules.specs.Check.{CheckOutcome}
+use Rattle.rules.specs.Pair.{PairOutcome}
 use Rattle.rules.specs.Values.{kindAt, flagNumber, Told, Values, valuesOf}
 use Rattle.altseq.specs.declared.alone.Transcribed.{Transcribed}
 use Rattle.altseq.specs.declared.alone.Transcribed.the-variants as transcribed
 use Rattle.garumbott.specs.declared.numbers.GarumbottLength.{GarumbottLength}
 use Rattle.garumbott.specs.declared.numbers.GarumbottAnswer.{GarumbottAnswer}
 use Rattle.garumbott.specs.declared.numbers.GarumbottChecked.{GarumbottChecked}
+use Rattle.garumbott.specs.declared.numbers.GarumbottPaired.{GarumbottPaired}
 
 -- a position: a signed number p, or a star number q where `star` is 1. A negative q and every other `star` is no position; it stands as star 0,
 -- which is refused with 7
@@ -144,6 +148,11 @@ checkedOf (check.Judged v) =
       «altered_len» = v .altered;
     }
 
+-- what a pair is answered: a refusal's number and no lengths, or the bytes written to each of the two buffers
+abbrev pub pairedOf : Paired → GarumbottPaired
+pairedOf (paired.Refused n) = record { refusal = n; «transcript_len» = 0; «altered_len» = 0 }
+pairedOf (paired.Carried t a) = record { refusal = 0; «transcript_len» = t; «altered_len» = a }
+
 -- the answer is the outcome's, and each buffer is what it was under what the outcome writes
 pub record Tells (o : Outcome) (r : GarumbottAnswer) (transcript transcript′ reference reference′ altered altered′ : List ℕ) : Type 0 where
   pub says : r ≡ answerOf (o .answer)
@@ -156,4 +165,10 @@ pub record Judges (o : CheckOutcome) (r : GarumbottChecked) (transcript transcri
   pub says : r ≡ checkedOf (o .answer)
   pub holds-transcript : transcript′ ≡ over (o .transcript) transcript
   pub holds-reference : reference′ ≡ over (o .reference) reference
+  pub holds-altered : altered′ ≡ over (o .altered) altered
+
+-- the same of a pair, with two buffers
+pub record Joins (o : PairOutcome) (r : GarumbottPaired) (transcript transcript′ altered altered′ : List ℕ) : Type 0 where
+  pub says : r ≡ pairedOf (o .answer)
+  pub holds-transcript : transcript′ ≡ over (o .transcript) transcript
   pub holds-altered : altered′ ≡ over (o .altered) altered

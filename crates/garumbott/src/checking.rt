@@ -3,8 +3,9 @@ use crate::numbers::GarumbottChecked;
 use crate::numbers::cds_at;
 use crate::numbers::checked_of;
 use crate::numbers::edit_at;
-use checks::Question;
+use checks::Proposed;
 use checks::check_altseq;
+use rules::Question;
 use stored_fields::exceptions_in;
 ghost use mathlib.Core.Path.{_≡_};
 ghost use Rattle.rules.specs.Refusal.{limits};
@@ -41,15 +42,14 @@ pub extern "C" fn garumbott_check(
     let cds = cds_at(cs, ce, table, cds_end);
     let e = exceptions_in(exceptions);
     let edit = edit_at(kind, start_star, start, end_star, end);
-    let asks = Question {
-        cds,
-        e,
-        edit,
+    let asks = Question { cds, e, edit };
+    let proposed = Proposed {
+        asks,
         number: number as usize,
     };
     checked_of(check_altseq(
         letters,
-        asks,
+        proposed,
         bases,
         deleted,
         inserted,

@@ -6,6 +6,7 @@ use rules::Check;
 use rules::Class;
 use rules::Edit;
 use rules::Kind;
+use rules::Paired;
 use rules::Position;
 use rules::Record;
 use rules::Report;
@@ -18,7 +19,7 @@ ghost use Rattle.rules.specs.declared.Answer.the-variants as answer;
 ghost use Rattle.rules.specs.declared.Check.the-variants as check;
 ghost use Rattle.rules.specs.Views.{cdsOf};
 ghost use Rattle.rules.specs.Values.{kindAt, classNumber, flagNumber, toldBy};
-ghost use Rattle.garumbott.specs.Host.{positionAt, editAt, lengthOf, aloneOf, toldOf, answerOf, checkedOf, transcribedOf};
+ghost use Rattle.garumbott.specs.Host.{positionAt, editAt, lengthOf, aloneOf, toldOf, answerOf, checkedOf, pairedOf, transcribedOf};
 
 // A refusal's number and 0, or 0 and the bytes written from the buffer's start.
 #[repr(C)]
@@ -54,6 +55,14 @@ pub struct GarumbottChecked {
     pub shortest: u64,
     pub transcript_len: u64,
     pub reference_len: u64,
+    pub altered_len: u64,
+}
+
+// Document 02's values for each case of a pair.
+#[repr(C)]
+pub struct GarumbottPaired {
+    pub refusal: u64,
+    pub transcript_len: u64,
     pub altered_len: u64,
 }
 
@@ -295,5 +304,25 @@ pub fn checked_of(c: Check) -> GarumbottChecked
             altered_len: 0,
         },
         Check::Judged(v) => judged(v),
+    }
+}
+
+pub fn paired_of(p: Paired) -> GarumbottPaired
+    ensures { λ r. ⌜ r ≡ pairedOf p ⌝ }
+{
+    match p {
+        Paired::Refused(n) => GarumbottPaired {
+            refusal: wide(n),
+            transcript_len: 0,
+            altered_len: 0,
+        },
+        Paired::Carried {
+            transcript,
+            altered,
+        } => GarumbottPaired {
+            refusal: 0,
+            transcript_len: wide(transcript),
+            altered_len: wide(altered),
+        },
     }
 }

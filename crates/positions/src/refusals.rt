@@ -47,7 +47,7 @@ fn is_substitution(kind: Kind) -> bool
     is_kind(Kind::Substitution, kind)
 }
 
-fn is_insertion(kind: Kind) -> bool
+pub fn is_insertion(kind: Kind) -> bool
     ensures { λ r. ⌜ r ≡ is Insertion kind ⌝ }
 {
     is_kind(Kind::Insertion, kind)

@@ -42,9 +42,9 @@ by-tests false false false false false false true false alike h = cc
 by-tests false false false false false false false room alike h = cc
 
 -- the n residues that a duplication copies stand before its number
-pub copied-before : (number d n x y : ℕ) (flag copy : Bool) (k : Class) (r a : List ℕ) → copy ≡ isCopy number n r a → k ≡ classBy number d n x y flag copy → k ≡ Duplication → n < number
-unfolding isCopy classBy classByCounts
-copied-before number d n x y flag copy k r a e f g =
+pub copied-if : (number d n x y : ℕ) (flag copy alike : Bool) (k : Class) → copy ≡ (ltb n number && alike) → k ≡ classBy number d n x y flag copy → k ≡ Duplication → n < number
+unfolding classBy classByCounts
+copied-if number d n x y flag copy alike k e f g =
     ltb-true n number
     (by-tests
     (eqb number 1)
@@ -55,8 +55,12 @@ copied-before number d n x y flag copy k r a e f g =
     (eqb n 0)
     (eqb d 0)
     (ltb n number)
-    (same (take n (drop (number - 1 - n) r)) (take n (drop (number - 1) a)))
+    alike
     (sym (rw e at f) ∙ g))
+
+pub copied-before : (number d n x y : ℕ) (flag copy : Bool) (k : Class) (r a : List ℕ) → copy ≡ isCopy number n r a → k ≡ classBy number d n x y flag copy → k ≡ Duplication → n < number
+unfolding isCopy
+copied-before number d n x y flag copy k r a = copied-if number d n x y flag copy (same (take n (drop (number - 1 - n) r)) (take n (drop (number - 1) a))) k
 
 -- both proteins have the shared beginning, and behind it the ending
 pub prefix-fits : (s : ℕ) (r a : List ℕ) → s ≡ commonPrefix r a → (s ≤ length r) × (s ≤ length a)

@@ -46,7 +46,7 @@ cp-inside (x ∷ a) (y ∷ b) p q h k = at (eqb x y) h k (cp-inside a b p q)
     at true h k r = ap suc (r (omega arith) (omega arith))
     at false h k r = refl
 
-cp-self : (a : List ℕ) → commonPrefix a a ≡ length a
+pub cp-self : (a : List ℕ) → commonPrefix a a ≡ length a
 cp-self a = eqb-true _ _ (sym (same-equal a a refl) ∙ same-self a)
 
 -- the part of a list from a place up to an end

@@ -1,2 +1,3 @@
 -- Definitions that the contracts of the crate's functions cite.
 pub mod Shares
+pub mod Joined

@@ -1,4 +1,6 @@
 // "The record": what two proteins, R and A, differ in, its class, and the record of the two.
+mod over;
+
 use numbers::least;
 use rules::Change;
 use rules::Class;
@@ -13,6 +15,7 @@ ghost use lib.ListN.{length, getD};
 ghost use Rattle.rules.specs.Trims.{commonPrefix};
 ghost use Rattle.rules.specs.Record.{ending, isCopy, classByCounts, classBy, firstCopied, changeAt, recordFrom};
 ghost use Rattle.record.specs.Shares.{Shares};
+pub use over::record_over;
 
 // The byte at i, or 0 past the end.
 fn byte_at(s: &[u8], i: usize) -> u8

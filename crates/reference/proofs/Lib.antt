@@ -6,3 +6,4 @@ pub mod Last
 pub mod Reading
 pub mod Cut
 pub mod Checking
+pub mod FirstStop

@@ -5,4 +5,5 @@ mod writing;
 pub use pieces::Pieces;
 pub use pieces::pieces_of;
 pub use writing::Reused;
+pub use writing::ends_in_stop;
 pub use writing::write_reusing;

@@ -19,7 +19,7 @@ pub struct Reused {
 }
 
 // Whether the last residue is a stop.
-fn ends_in_stop(s: &[u8]) -> bool
+pub fn ends_in_stop(s: &[u8]) -> bool
     ensures { λ r. ⌜ r ≡ endsInStop (now (s .entry)) ⌝ }
 {
     if s.len() == 0 {

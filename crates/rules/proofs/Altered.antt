@@ -31,7 +31,7 @@ unfolding part
 length-part from to s = simp (length-take, length-drop) (omega arith)
 
 -- what goes in is no longer than the new bases may be or than the transcript, and has letters only
-record Puts (most : ℕ) (s put : List ℕ) : Type 0 where
+pub record Puts (most : ℕ) (s put : List ℕ) : Type 0 where
   pub fits : length put ≤ max most (length s)
   pub letters : all isLetter put ≡ true
 
@@ -70,7 +70,7 @@ puts-by Inversion most s start end new n l h = turned most start end s l
 puts-by Identity most s start end new n l h = copied most start end s l
 puts-by Other most s start end new n l h = copied most start end s l
 
-puts : (m : Limits) (r : Reference) (e : Asked) → refusal m r e ≡ 0 → Puts (m .most) (r .letters) (swap r e .put)
+pub puts : (m : Limits) (r : Reference) (e : Asked) → refusal m r e ≡ 0 → Puts (m .most) (r .letters) (swap r e .put)
 unfolding swap size
 puts m r e h =
     let a = reference-accepted m r e h in

@@ -22,6 +22,9 @@ pub mod Checks
 pub mod Protein
 pub mod Silent
 pub mod Carried
+pub mod Pairs
+pub mod PairAnswers
+pub mod Editions
 pub mod Kept
 pub mod PieceNumbers
 pub mod Pieces
@@ -32,3 +35,16 @@ pub mod KindNumbers
 pub mod Thirteen
 pub mod Doubtful
 pub mod Requested
+pub mod Fields
+pub mod Filled
+pub mod Storing
+pub mod Again
+pub mod Writing
+pub mod PairChecks
+pub mod EditionChecks
+pub mod Stores
+pub mod WithLongest
+pub mod PairWithin
+pub mod RequestedStores
+pub mod Panels
+pub mod RequestedPanel

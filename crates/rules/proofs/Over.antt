@@ -5,8 +5,8 @@ use mathlib.Core.List.{List, [], _∷_, _++_, append-assoc, append-nil}
 use Prim.Native.Nat.{ℕ, suc, _+_, _-_, _≤_, _<_}
 use native.Mathlib.Numerals.{add-one}
 use native.Mathlib.Omega.{arith}
-use lib.ListN.{length, take, drop, set, length-append, length-drop, take-append-drop, drop-of-length-le}
-use lib.Seq.{take-length, take-all, take-at, drop-at, drop-drop, take-suc-set, drop-set-lt}
+use lib.ListN.{length, take, drop, getD, set, length-append, length-drop, take-append-drop, drop-of-length-le}
+use lib.Seq.{length-take-le, drop-cons, set-append-seam, take-length, take-all, take-at, drop-at, drop-drop, take-suc-set, drop-set-lt}
 use borrow.Rule.Slice.PartMut.{putMid}
 use Rattle.rules.specs.Bytes.{over}
 
@@ -75,3 +75,42 @@ from-more n x p d h =
 
 pub from-turn : (n x : ℕ) (p q d e : List ℕ) → n < length d → p ≡ x ∷ q → overFrom n p d ≡ e → overFrom (n + 1) q (set d n x) ≡ e
 from-turn n x p q d e h t i = sym (from-more n x q d h) ∙ ap (λ (l : List ℕ). overFrom n l d) (sym t) ∙ i
+
+-- a byte at the front
+pub stored-first : (x : ℕ) (d : List ℕ) → 1 ≤ length d → set d 0 x ≡ over (x ∷ []) d
+unfolding over
+stored-first x [] h = absurd (omega arith)
+stored-first x (y ∷ d) h = refl
+
+-- a byte behind what is written
+pub stored-behind : (p d d′ : List ℕ) (n x : ℕ) → n ≡ length p → length p < length d → d′ ≡ over p d → set d′ n x ≡ over (p ++ (x ∷ [])) d
+unfolding over
+stored-behind p d d′ n x e h q =
+    let more : length (p ++ (x ∷ [])) ≡ suc (length p) = length-append p (x ∷ []) ∙ add-one (length p) in
+    rw (e, q, more, drop-cons d (length p) 0 h, set-append-seam p (getD d (length p) 0) (drop (suc (length p)) d) x)
+    (sym (append-assoc p (x ∷ []) (drop (suc (length p)) d)))
+
+-- two bytes at the front
+pub stored-two : (x y : ℕ) (d : List ℕ) → 2 ≤ length d → set (set d 0 x) 1 y ≡ over (x ∷ y ∷ []) d
+unfolding over
+stored-two x y [] h = absurd (omega arith)
+stored-two x y (a ∷ []) h = absurd (omega arith)
+stored-two x y (a ∷ b ∷ d) h = refl
+
+-- p is at the front of the buffer d, n bytes of it, and the part behind is lent on for q
+module _ (p q d d₁ : List ℕ) (n : ℕ) (e : n ≡ length p) (h : length (p ++ q) ≤ length d) (is : d₁ ≡ over p d) where
+  fits : length p ≤ length d
+  fits = omega (arith, length-append p q)
+
+  pub front-fits : n ≤ length d₁
+  front-fits = omega (arith, fits, ap length is, length-over p d fits)
+
+  pub room-behind : length q ≤ length (take (length d₁ - n) (drop n d₁))
+  room-behind =
+      let all : length (take (length d₁ - n) (drop n d₁)) ≡ length d₁ - n = length-take-le (length d₁ - n) (drop n d₁) (rw length-drop (omega arith)) in
+      omega (arith, fits, ap length is, length-over p d fits, length-append p q)
+
+  -- m bytes more
+  pub written-behind : (d₂ : List ℕ) (m : ℕ) → m ≡ length q → d₂ ≡ over q (take (length d₁ - n) (drop n d₁))
+      → (n + m ≡ length (p ++ q)) × (putMid n (length d₁ - n) d₁ d₂ ≡ over (p ++ q) d)
+  written-behind d₂ m k is₂ = (omega (arith, length-append p q), lent-on-by p q d d₁ d₂ n e fits is is₂)

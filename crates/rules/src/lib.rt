@@ -47,12 +47,24 @@ pub struct Cds {
     pub end: usize,
 }
 
-// The longest transcript that the library takes, the residues of its protein, and the most new bases of an edit.
-pub const LONGEST: usize = 16384;
+// What is asked of a reference: its numbers and its exceptions, and an edit. The letters and the new bases are lent beside them.
+pub struct Question {
+    pub cds: Cds,
+    pub e: Exceptions,
+    pub edit: Edit,
+}
 
-pub const LONGEST_PROTEIN: usize = 5462;
+// The longest transcript that the library takes, the residues of its protein, and the most new bases of an edit.
+pub const LONGEST: usize = 131072;
+
+pub const LONGEST_PROTEIN: usize = 43691;
 
 pub const MOST: usize = 4096;
+
+// The longest transcript whose protein goes to the smaller of two rooms, and that room.
+pub const SHORT: usize = 16384;
+
+pub const SHORT_PROTEIN: usize = 5462;
 
 // The longest transcript, and the most new bases.
 pub struct Limits {
@@ -130,4 +142,27 @@ pub struct Verdict {
 pub enum Check {
     Refused(usize),
     Judged(Verdict),
+}
+
+// What two edits of one reference are answered: a refusal's number, or the number of bytes written to each of the two buffers.
+pub enum Paired {
+    Refused(usize),
+    Carried { transcript: usize, altered: usize },
+}
+
+// The version of a store, and what a bench keeps in it: its default table, the profile (0 off, 1 on), the output width of residue names (1 or 3
+// letters) and the longest edit in bases.
+pub struct Settings {
+    pub version: usize,
+    pub table: usize,
+    pub profile: usize,
+    pub width: usize,
+    pub longest: usize,
+}
+
+// What a store of settings is read as: a refusal's number, a version newer than the reader knows, or the settings.
+pub enum Store {
+    Refused(usize),
+    Newer,
+    Held(Settings),
 }

@@ -1,6 +1,6 @@
 -- Laws of R beside the protein that a plan makes: where the comparison starts, how it goes on, and where it ends.
 -- Assumes nothing.
-use mathlib.Core.Path.{_≡_, refl, sym, ap, _∙_}
+use mathlib.Core.Path.{_≡_, refl, sym, ap, ap₂, _∙_}
 use mathlib.Core.Bool.{Bool, true, false, _&&_}
 use mathlib.Core.List.{List, [], _∷_, _++_}
 use Prim.Native.Nat.{ℕ, zero, suc, _+_, _-_, _*_, _/_, _%_, _≤_, _<_}
@@ -16,8 +16,9 @@ use Rattle.rules.specs.Bytes.{byte, same, count}
 use Rattle.rules.specs.Codons.{codon}
 use Rattle.rules.specs.Translation.{exceptionList, excepted, residuesFrom, throughStop, residueCount}
 use Rattle.rules.specs.Trims.{commonPrefix}
-use Rattle.rules.specs.Reference.{Reference, size, cdsSize, cds, referenceProtein}
+use Rattle.rules.specs.Reference.{Reference, size, cdsSize, codons, cds, referenceProtein}
 use Rattle.rules.specs.Altered.{carried}
+use Rattle.rules.specs.Exceptions.{suffixBehind}
 use Rattle.rules.specs.Views.{referenceOf}
 use Rattle.rules.proofs.Trims.{same-self, same-is, same-lengths}
 use Rattle.rules.proofs.Translation.{length-exceptions}
@@ -30,9 +31,9 @@ use Rattle.edits.specs.Plans.{goesIn}
 use Rattle.transcript.specs.Carrying.{carriedBy}
 use Rattle.transcript.proofs.Transcripts.{length-goes-in}
 use Rattle.altered.proofs.Letters.{length-made, before-at}
-use Rattle.altered.proofs.Shares.{front-starts}
+use Rattle.altered.proofs.Shares.{front-starts, back-starts}
 use Rattle.altered.specs.Over.{Makes}
-use Rattle.silent.proofs.Kept.{all-before}
+use Rattle.silent.proofs.Kept.{all-before, all-behind}
 use Rattle.silent.specs.Comparing.{codingBy, proteinWith, Compares, Placed}
 
 -- none are counted, none are there
@@ -67,6 +68,14 @@ any-number t n m [] = refl
 any-number t n m (a ∷ []) = refl
 any-number t n m (a ∷ b ∷ []) = refl
 any-number t n m (a ∷ b ∷ d ∷ u) = ap (λ (l : List ℕ). codon t a b d ∷ l) (any-number t (suc n) (suc m) u)
+
+-- exceptions that say the same from a number on
+agree-from : (t : ℕ) (es fs : List Exception) (k : ℕ) → ((n v : ℕ) → k ≤ n → excepted es n v ≡ excepted fs n v) → (m : ℕ) → k ≤ m → (u : List ℕ) → residuesFrom t es m u ≡ residuesFrom t fs m u
+unfolding residuesFrom
+agree-from t es fs k h m l [] = refl
+agree-from t es fs k h m l (a ∷ []) = refl
+agree-from t es fs k h m l (a ∷ b ∷ []) = refl
+agree-from t es fs k h m l (a ∷ b ∷ d ∷ u) = ap₂ _∷_ (h m (codon t a b d) l) (agree-from t es fs k h (suc m) (omega arith) u)
 
 -- two ends of a list are the same exactly if they are one
 same-drops : (R : List ℕ) (k j : ℕ) → k < length R → j < length R → same (drop k R) (drop j R) ≡ eqb j k
@@ -196,6 +205,45 @@ module _ (s : List ℕ) (c : Cds) (e moved : Exceptions) (R : List ℕ) (p : Pla
         ap (drop j) (x .read) ∙ same-is (drop j (referenceProtein r)) (throughStop (residuesFrom t (exceptionList e) (j + 1) (drop (j * 3) own))) mine
         ∙ ap (λ (es : List Exception). throughStop (residuesFrom t es (j + 1) (drop (j * 3) own))) (no-exceptions e none) in
         rw (empty, is, any-number t (k + 1) (j + 1) (drop (j * 3) own), ← left-own) (same-drops R k j some few)
+
+  -- where as many bases go in as give way, the exceptions behind the edit stay too
+  module _ (keeps : p .from + p .kept ≡ p .to) where
+    one-long : length (carriedBy p s new) ≡ length s
+    one-long = omega (arith, length-made p s new (x .makes), x .makes .ends)
+
+    own-rest : drop (p .to) (carriedBy p s new) ≡ drop (p .to) s
+    own-rest = moved-on p s new (x .makes) (p .to) (p .to) (omega arith) (omega arith)
+
+    suffix-long : commonPrefix s (carriedBy p s new) ≤ p .to → length s - suffixBehind (commonPrefix s (carriedBy p s new)) s (carriedBy p s new) ≤ p .to
+    suffix-long h =
+        let all = back-starts p s new (x .makes) (commonPrefix s (carriedBy p s new)) (length s - p .to) (omega arith) (omega (arith, x .makes .ends)) (omega (arith, one-long, x .makes .ends)) in
+        omega arith
+
+    stays : (k : ℕ) → p .to ≤ first + k * 3 → (n v : ℕ) → k + 1 ≤ n → excepted (exceptionList moved) n v ≡ excepted (exceptionList e) n v
+    unfolding codons cdsSize size
+    stays k behind n v h =
+        let a = accepted (x .longest) r (x .accepted) in
+        rw (x .moves)
+        (all-behind s (carriedBy p s new) first (p .to) one-long own-rest suffix-long n (omega arith) (omega arith) 0 _ (exceptionList e) v (a .exceptions) (omega (arith, a .bounds .first, a .bounds .inside)))
+
+    ends-kept : (k : ℕ) → p .to ≤ first + k * 3 → k < length R → left k ≡ true
+    ends-kept k behind few =
+        let t = c .table in
+        let own = drop first s in
+        let is : drop (k * 3) u ≡ drop (k * 3) own =
+        drop-drop (k * 3) first (carriedBy p s new) ∙ moved-on p s new (x .makes) (first + k * 3) (first + k * 3) (omega arith) (omega arith) ∙ sym (drop-drop (k * 3) first s) in
+        let mine : sameFrom t (exceptionList e) own (referenceProtein r) k ≡ true = same-own (x .longest) r (x .accepted) once own k (own-codons k few) (omega (arith, ap length (x .read))) refl in
+        rw (is, agree-from t (exceptionList moved) (exceptionList e) (k + 1) (stays k behind) (k + 1) (omega arith) (drop (k * 3) own), x .read) mine
+
+  -- where the codons are the reference's again, exceptions or none
+  pub ends-either : (k j : ℕ) → ((e .count ≡ 0 → ⊥) → p .from + p .kept ≡ p .to) → p .from + p .kept ≤ first + k * 3 → first + k * 3 + p .to ≡ first + j * 3 + (p .from + p .kept) → k < length R → j < length R → left k ≡ eqb j k
+  ends-either k j keeps behind place some few = by (eqb (e .count) 0) refl
+    where
+      by : (b : Bool) → eqb (e .count) 0 ≡ b → left k ≡ eqb j k
+      by true q = ends-here (eqb-true (e .count) 0 q) k j behind place some few
+      by false q =
+          let same-place = keeps (eqb-false (e .count) 0 q) in
+          ends-kept same-place k (omega arith) some ∙ sym (eq-eqb j k (omega arith))
 
   -- a residue that is read
   pub read-is : (k v : ℕ)

@@ -33,14 +33,15 @@ fn first_changed(plan: Plan, first: usize, residues: usize) -> usize
     least((plan.from - first) / 3, residues - 1)
 }
 
-// Which codon of R codon k is, counted from 0: behind the edit, in the reference's frame, and without exceptions; else `residues`, R's length.
+// Which codon of R codon k is, counted from 0: behind the edit, in the reference's frame, and without exceptions or in an edit that keeps the
+// length, so that each exception behind it stays; else `residues`, R's length.
 fn source_of(plan: Plan, first: usize, count: usize, residues: usize, k: usize) -> usize
     requires { ⌜ Placed plan first k ⌝ }
     ensures { λ r. ⌜ Reused plan first count residues k r ⌝ }
 {
     let at = first + k * 3;
     let back = plan.from + plan.kept;
-    if (count != 0) | (at < back) {
+    if ((count != 0) & (back != plan.to)) | (at < back) {
         return residues;
     }
     let old = at - back + (plan.to - first);

@@ -1,6 +1,7 @@
 -- Laws of an edit of a stored reference: which outcome it has, and that there is a single answer.
 -- Assumes nothing.
 use mathlib.Core.Path.{_≡_, refl, sym, ap, subst, _∙_}
+use mathlib.Core.Bool.{true, false}
 use mathlib.Core.List.{List}
 use Prim.Native.Nat.{ℕ, zero, suc}
 use native.Mathlib.Omega.{arith}
@@ -16,7 +17,7 @@ use Rattle.rules.specs.Reference.{Reference}
 use Rattle.rules.specs.Edit.{Asked}
 use Rattle.rules.specs.Record.{partOf}
 use Rattle.rules.specs.Refusal.{referenceRefusal, Room}
-use Rattle.rules.specs.Stored.{referenceForm, fields, assembledIn, storedReference}
+use Rattle.rules.specs.Stored.{referenceForm, fields, assembledIn, checked, fitted, readReference}
 use Rattle.rules.specs.Answer.{Outcome, writesNothing, outcome, Answers}
 use Rattle.rules.specs.Views.{referenceOf}
 use Rattle.rules.proofs.Refusal.{refused-reference}
@@ -29,7 +30,7 @@ use Rattle.stored_fields.specs.declared.places.Stored.{Stored}
 use Rattle.stored_fields.specs.declared.places.Stored.the-variants.{At}
 use Rattle.stored_fields.specs.Held.{exceptionsOf}
 use Rattle.stored.specs.Outcomes.{outcomeOf}
-use Rattle.stored_fields.specs.Reading.{placedReference, Placed, Reads}
+use Rattle.stored_fields.specs.Reading.{isThere, lettersAt, placedReference, Placed, Reads}
 use Rattle.stored.proofs.Judged.{takenAt, taken-refusal, taken-same, taken, is-checked}
 
 pub refuses : (m : Limits) (x : Result Reference) (a : Asked) (room : Room) (t p q : List ℕ) (n : ℕ) → x ≡ refused n
@@ -49,24 +50,30 @@ module _ (m : Limits) (s : List ℕ) (p : StoredAt) (a : Asked) (room : Room) wh
       by zero e = ap (λ (r : Reference). outcome m r a room) (taken-same (m .longest) s p in-place e)
       by (suc n) e = refused-outcome (takenAt s p) n (taken-refusal (m .longest) s p in-place ∙ e) ∙ sym (refused-outcome (placedReference s p) n e)
 
-  pub answers : Placed s p → (letters : List ℕ) (e : Exceptions) (x : Answer) (t t′ q q′ u u′ : List ℕ) → letters ≡ partOf (p .letters) s → e ≡ exceptionsOf (partOf (p .exceptions) s)
+  pub answers : Placed s p → (letters : List ℕ) (e : Exceptions) (x : Answer) (t t′ q q′ u u′ : List ℕ) → letters ≡ lettersAt s p → e ≡ exceptionsOf (partOf (p .exceptions) s)
       → Answers (outcome m (referenceOf letters (p .cds) e) a room) x t t′ q q′ u u′ → Answers (outcome m (placedReference s p) a room) x t t′ q q′ u u′
   answers in-place letters e x t t′ q q′ u u′ are is k =
       subst (λ (o : Outcome). Answers o x t t′ q q′ u u′)
       (ap (λ (r : Reference). outcome m r a room) (taken (m .longest) s p in-place letters e are is) ∙ taken-outcome in-place) k
 
-  -- which is that of the reference that is stored
-  stored-outcome : (r : Stored) → Reads s (assembledIn (fields referenceForm s)) r → r ≡ At p → outcome m (placedReference s p) a room ≡ outcomeOf m (storedReference (m .longest) s) a room
-  unfolding outcomeOf unless
-  stored-outcome r found h = rw (is-checked (m .longest) s r found p h) (by (referenceRefusal (m .longest) (placedReference s p)) refl)
+  -- which is that of the reference that is stored, where no letters are joined
+  stored-outcome : (r : Stored) → Reads s (assembledIn (fields referenceForm s)) r → r ≡ At p → isThere (p .second) ≡ false → outcome m (placedReference s p) a room ≡ outcomeOf m (readReference (m .longest) 0 s) a room
+  unfolding outcomeOf unless readReference fitted
+  stored-outcome r found h one = rw (found .stands p h .joined, one, is-checked (m .longest) s r found p h) (by (referenceRefusal (m .longest) (placedReference s p)) refl)
     where
-      by : (n : ℕ) → referenceRefusal (m .longest) (placedReference s p) ≡ n → outcome m (placedReference s p) a room ≡ outcomeOf m (unless n (placedReference s p)) a room
+      by : (n : ℕ) → referenceRefusal (m .longest) (placedReference s p) ≡ n → outcome m (placedReference s p) a room ≡ outcomeOf m (fitted 0 false (unless n (placedReference s p))) a room
       by zero e = refl
       by (suc n) e = refused-outcome (placedReference s p) n e
 
-  pub stored-answers : (r : Stored) → Reads s (assembledIn (fields referenceForm s)) r → r ≡ At p → (x : Answer) (t t′ q q′ u u′ : List ℕ)
-      → Answers (outcome m (placedReference s p) a room) x t t′ q q′ u u′ → Answers (outcomeOf m (storedReference (m .longest) s) a room) x t t′ q q′ u u′
-  stored-answers r found h x t t′ q q′ u u′ k = subst (λ (o : Outcome). Answers o x t t′ q q′ u u′) (stored-outcome r found h) k
+  pub stored-answers : (r : Stored) → Reads s (assembledIn (fields referenceForm s)) r → r ≡ At p → isThere (p .second) ≡ false → (x : Answer) (t t′ q q′ u u′ : List ℕ)
+      → Answers (outcome m (placedReference s p) a room) x t t′ q q′ u u′ → Answers (outcomeOf m (readReference (m .longest) 0 s) a room) x t t′ q q′ u u′
+  stored-answers r found h one x t t′ q q′ u u′ k = subst (λ (o : Outcome). Answers o x t t′ q q′ u u′) (stored-outcome r found h one) k
+
+-- letters that have to be joined
+pub joined-reading : (longest : ℕ) (s : List ℕ) (p : StoredAt) (r : Stored) → Reads s (assembledIn (fields referenceForm s)) r → r ≡ At p → isThere (p .second) ≡ true
+    → (n : ℕ) → fitted 0 true (checked longest (given (placedReference s p))) ≡ refused n → readReference longest 0 s ≡ refused n
+unfolding readReference checked
+joined-reading longest s p r found h two n e = rw (found .stands p h .joined, two, is-checked longest s r found p h) e
 
 -- two answers to one call, with the same buffers lent, are the same, and so is every byte that they leave
 pub single-answer : (m : Limits) (x : Result Reference) (a : Asked) (room : Room) (a₁ a₂ : Answer) (t t₁ t₂ p p₁ p₂ q q₁ q₂ : List ℕ)

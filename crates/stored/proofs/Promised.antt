@@ -7,7 +7,7 @@ use Prim.Native.Nat.{ℕ}
 use native.Mathlib.Omega.{arith}
 use Rattle.rules.specs.Bytes.{Result, given, refused}
 use Rattle.rules.specs.Reference.{Reference}
-use Rattle.rules.specs.Stored.{storedReference}
+use Rattle.rules.specs.Stored.{readReference}
 use Rattle.stored_fields.specs.declared.places.StoredAt.{StoredAt}
 use Rattle.stored_fields.specs.declared.places.Stored.{Stored}
 use Rattle.stored_fields.specs.declared.places.Stored.the-variants.{Refused, At}
@@ -20,12 +20,12 @@ pub record Accepts (s : List ℕ) (r : Stored) (x : Reference) : Type 0 where
   pub is : r ≡ At place
   pub tells : placedReference s place ≡ x
 
-module _ (longest : ℕ) (s : List ℕ) (r : Stored) (h : Reads s (storedReference longest s) r) where
-  pub accepted : (p : StoredAt) → r ≡ At p → storedReference longest s ≡ given (placedReference s p)
+module _ (longest room : ℕ) (s : List ℕ) (r : Stored) (h : Reads s (readReference longest room s) r) where
+  pub accepted : (p : StoredAt) → r ≡ At p → readReference longest room s ≡ given (placedReference s p)
   unfolding toldReference
   accepted p e = sym (h .says) ∙ ap (toldReference s) e
 
-  pub not-refused : (x : Reference) → storedReference longest s ≡ given x → Accepts s r x
+  pub not-refused : (x : Reference) → readReference longest room s ≡ given x → Accepts s r x
   unfolding toldReference
   not-refused x e = by r (h .says ∙ e)
     where
@@ -33,5 +33,5 @@ module _ (longest : ℕ) (s : List ℕ) (r : Stored) (h : Reads s (storedReferen
       by (Refused n) q = let z : _≡_ {A = ℕ} 0 1 = cc in absurd (omega arith)
       by (At p) q = record { place = p; is = refl; tells = cc }
 
-pub single-answer : (longest : ℕ) (s : List ℕ) (r q : Stored) → Reads s (storedReference longest s) r → Reads s (storedReference longest s) q → r ≡ q
-single-answer longest s r q h k = single s (storedReference longest s) r q h k
+pub single-answer : (longest room : ℕ) (s : List ℕ) (r q : Stored) → Reads s (readReference longest room s) r → Reads s (readReference longest room s) q → r ≡ q
+single-answer longest room s r q h k = single s (readReference longest room s) r q h k

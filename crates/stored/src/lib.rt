@@ -3,4 +3,5 @@ mod answer;
 mod read;
 
 pub use answer::build_altseq_stored;
+pub use read::is_joined;
 pub use read::read_stored;

@@ -1,18 +1,21 @@
 -- Laws of the reference's form: its tests as the code has them, what they refuse, and the lengths that fit its tags.
 -- Assumes nothing.
-use mathlib.Core.Path.{_≡_, refl, _∙_}
+use mathlib.Core.Path.{_≡_, refl, sym, _∙_}
 use mathlib.Core.Bool.{Bool, true, false, _||_, not}
-use mathlib.Core.List.{List}
-use Prim.Native.Nat.{ℕ, _%_}
+use mathlib.Core.List.{List, [], _∷_}
+use mathlib.Core.Option.{none, some}
+use Prim.Native.Nat.{ℕ, _%_, _≤_}
+use native.Mathlib.Omega.{arith}
 use lib.Dec.{eqb, leb, ltb}
 use lib.ListN.{length}
-use borrow.Author.Tests.{le-leb, lt-leb, ltb-true, ltb-false, eqb-true, ne-eqb}
+use borrow.Author.Tests.{le-leb, lt-leb, leb-true, ltb-true, ltb-false, eqb-true, ne-eqb, not-false}
 use Rattle.rules.specs.declared.Part.{Part}
 use Rattle.rules.specs.Bytes.{if_then_else_}
 use Rattle.rules.specs.Record.{partOf}
-use Rattle.rules.specs.Stored.{isWrongTag, isWrongContent, referenceForm}
+use Rattle.rules.specs.Stored.{isWrongTag, isWrongContent, boundsIn, referenceForm}
 use Rattle.fields.specs.declared.reader.Field.the-variants.{Whole, Cut}
 use Rattle.fields.specs.Refusals.{fieldRefusal}
+use Rattle.stored_fields.specs.Reading.{isThere, boundsBy}
 
 pub tag-test : (last tag : ℕ) (known : Bool) → known ≡ referenceForm .knows tag → (not known || leb tag last) ≡ isWrongTag referenceForm last tag
 unfolding isWrongTag
@@ -22,9 +25,18 @@ tag-test last tag known is = rw is (by (ltb last tag) refl)
     by true h = rw (lt-leb tag last (ltb-true last tag h))
     by false h = rw (le-leb tag last (ltb-false last tag h))
 
-pub any-content : (tag : ℕ) (s : List ℕ) → (tag ≡ 2 → ⊥) → (tag ≡ 3 → ⊥) → (tag ≡ 4 → ⊥) → (tag ≡ 8 → ⊥) → false ≡ isWrongContent referenceForm tag s
+pub any-content : (tag : ℕ) (s : List ℕ) → (tag ≡ 2 → ⊥) → (tag ≡ 3 → ⊥) → (tag ≡ 4 → ⊥) → (tag ≡ 5 → ⊥) → (tag ≡ 6 → ⊥) → (tag ≡ 7 → ⊥) → (tag ≡ 8 → ⊥) → false ≡ isWrongContent referenceForm tag s
 unfolding isWrongContent referenceForm
-any-content tag s two three four eight = rw (ne-eqb tag 2 two, ne-eqb tag 3 three, ne-eqb tag 4 four, ne-eqb tag 8 eight)
+any-content tag s two three four five six seven eight =
+    rw (ne-eqb tag 2 two, ne-eqb tag 3 three, ne-eqb tag 4 four, ne-eqb tag 5 five, ne-eqb tag 6 six, ne-eqb tag 7 seven, ne-eqb tag 8 eight)
+
+-- an empty letter field
+pub no-letters : (s : List ℕ) → ltb (length s) 1 ≡ not (leb 1 (length s))
+no-letters s = by (ltb (length s) 1) refl
+  where
+    by : (t : Bool) → ltb (length s) 1 ≡ t → t ≡ not (leb 1 (length s))
+    by true h = rw (lt-leb 1 (length s) (ltb-true (length s) 1 h))
+    by false h = rw (le-leb 1 (length s) (ltb-false (length s) 1 h))
 
 -- what a field is refused with, by its tests
 module _ (last t : ℕ) (s : List ℕ) (wrong : Bool) (is-wrong : wrong ≡ isWrongTag referenceForm last t) (r : ℕ) where
@@ -42,6 +54,18 @@ module _ (s : List ℕ) where
   unfolding referenceForm
   bounds-length h = eqb-true (length s) 4 h
 
+  pub wide-length : referenceForm .fits 7 s ≡ true → length s ≡ 8
+  unfolding referenceForm
+  wide-length h = eqb-true (length s) 8 h
+
+  pub second-length : referenceForm .fits 5 s ≡ true → 1 ≤ length s
+  unfolding referenceForm
+  second-length h = leb-true 1 (length s) h
+
+  pub third-length : referenceForm .fits 6 s ≡ true → 1 ≤ length s
+  unfolding referenceForm
+  third-length h = leb-true 1 (length s) h
+
   pub table-length : referenceForm .fits 3 s ≡ true → length s ≡ 1
   unfolding referenceForm
   table-length h = eqb-true (length s) 1 h
@@ -49,3 +73,23 @@ module _ (s : List ℕ) where
   pub exceptions-length : referenceForm .fits 4 s ≡ true → length s % 3 ≡ 0
   unfolding referenceForm
   exceptions-length h = eqb-true (length s % 3) 0 h
+
+-- the bounds, by which of tags 2 and 7 has them
+module _ (b w : List ℕ) where
+  pub wide-bounds : length b ≡ 0 → boundsBy b w ≡ boundsIn none w
+  wide-bounds h = by b h
+    where
+      by : (b : List ℕ) → length b ≡ 0 → boundsBy b w ≡ boundsIn none w
+      by [] h = refl
+      by (x ∷ b) h = absurd (omega arith)
+
+  pub narrow-bounds : (length b ≡ 0 → ⊥) → boundsBy b w ≡ boundsIn (some b) w
+  narrow-bounds h = by b h
+    where
+      by : (b : List ℕ) → (length b ≡ 0 → ⊥) → boundsBy b w ≡ boundsIn (some b) w
+      by [] h = absurd (h refl)
+      by (x ∷ b) h = refl
+
+-- no bytes are there
+pub not-there : (p : Part) (t : Bool) → t ≡ isThere p → t ≡ false → p .len ≡ 0
+not-there p t is h = eqb-true (p .len) 0 (not-false (eqb (p .len) 0) (sym is ∙ h))

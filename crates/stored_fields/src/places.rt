@@ -3,33 +3,116 @@ use crate::tags::BOUNDS;
 use crate::tags::END;
 use crate::tags::EXCEPTIONS;
 use crate::tags::LETTERS;
+use crate::tags::SECOND;
 use crate::tags::TABLE;
+use crate::tags::THIRD;
+use crate::tags::WIDE;
 use crate::tags::fields_refusal;
 use fields::Content;
 use fields::bytes_at;
 use fields::content_of;
+use fields::four_bytes;
 use fields::part_or_empty;
 use fields::two_bytes;
 use numbers::wide;
 use rules::Cds;
 use rules::Part;
+use rules::SHORT;
 ghost use mathlib.Core.Path.{_≡_};
 ghost use lib.ListN.{length, getD};
+ghost use Rattle.rules.specs.Bytes.{if_then_else_};
 ghost use Rattle.rules.specs.Reference.{atStop};
-ghost use Rattle.rules.specs.Stored.{referenceForm, fields, assembledIn};
+ghost use Rattle.rules.specs.Stored.{Bounds, referenceForm, fields, assembledIn};
+ghost use Rattle.fields.specs.declared.lookup.Content.the-variants as content;
+ghost use Rattle.fields.specs.Places.{contentAt};
+ghost use Rattle.fields.specs.Refusals.{refusalIn};
 ghost use Rattle.stored_fields.specs.declared.places.Stored.the-variants as stored;
-ghost use Rattle.stored_fields.specs.Reading.{cdsIn, Finds, Reads};
+ghost use Rattle.stored_fields.specs.Reading.{isThere, isEarly, placesRefusal, boundsBy, cdsIn, Fit, Stand, Reads};
 
-// A stored reference: its numbers, and where its letters and its exceptions stand in the caller's bytes.
+// The letters that fill a field.
+const FULL: usize = 65535;
+
+// A stored reference: its numbers, and where its letters, one part behind the other, and its exceptions stand in the caller's bytes.
 pub struct StoredAt {
     pub cds: Cds,
     pub letters: Part,
+    pub second: Part,
+    pub third: Part,
     pub exceptions: Part,
 }
 
 pub enum Stored {
     Refused(usize),
     At(StoredAt),
+}
+
+// Where the contents of the tags stand; 0 bytes at 0 where there is none.
+struct Places {
+    letters: Part,
+    bounds: Part,
+    table: Part,
+    exceptions: Part,
+    second: Part,
+    third: Part,
+    wide: Part,
+    end: Part,
+}
+
+fn places_of(s: &[u8], letters: Part) -> Places
+    requires { ⌜ refusalIn (fields referenceForm (now s)) ≡ 0 ⌝ }
+    requires { ⌜ content.At letters ≡ contentAt 1 (now s) ⌝ }
+    ensures { λ r. ⌜ Stand (now (s .entry)) r ⌝ }
+{
+    Places {
+        letters,
+        bounds: part_or_empty(content_of(s, BOUNDS)),
+        table: part_or_empty(content_of(s, TABLE)),
+        exceptions: part_or_empty(content_of(s, EXCEPTIONS)),
+        second: part_or_empty(content_of(s, SECOND)),
+        third: part_or_empty(content_of(s, THIRD)),
+        wide: part_or_empty(content_of(s, WIDE)),
+        end: part_or_empty(content_of(s, END)),
+    }
+}
+
+// Whether there is a field, of a tag whose contents aren't empty.
+fn is_there(p: Part) -> bool
+    ensures { λ r. ⌜ r ≡ isThere p ⌝ }
+{
+    p.len != 0
+}
+
+// Whether a letter field is begun before the last was full.
+fn is_early(last: Part, p: Part) -> bool
+    ensures { λ r. ⌜ r ≡ isEarly last p ⌝ }
+{
+    is_there(p) & (last.len != FULL)
+}
+
+// Whether tag 2 is there for a long transcript, or tag 7 for a short one.
+fn are_wrong_bounds(long: bool, narrow: bool, wide: bool) -> bool
+    ensures { λ r. ⌜ r ≡ (if long then narrow else wide) ⌝ }
+{
+    if long { narrow } else { wide }
+}
+
+// 22, then 25, or 0. A second letter field stands behind a full one, so that L is above 16,384.
+fn places_refusal(p: Places) -> usize
+    ensures { λ r. ⌜ r ≡ placesRefusal p ⌝ }
+{
+    let narrow = is_there(p.bounds);
+    let wide = is_there(p.wide);
+    if !(narrow | wide) | !is_there(p.table) {
+        return 22;
+    }
+    let long = is_there(p.second) | (SHORT < p.letters.len);
+    if are_wrong_bounds(long, narrow, wide)
+        | is_early(p.letters, p.second)
+        | is_early(p.second, p.third)
+    {
+        return 25;
+    }
+    0
 }
 
 // The end that the content of tag 8 tells; with none, at a stop.
@@ -42,35 +125,55 @@ fn end_in(end: &[u8]) -> usize
     wide(end[0])
 }
 
-// The numbers that the contents of tags 2, 3 and 8 hold.
-fn cds_in(bounds: &[u8], table: &[u8], end: &[u8]) -> Cds
-    requires { ⌜ (length (now bounds) ≡ 4) × (length (now table) ≡ 1) ⌝ }
-    ensures { λ r. ⌜ r ≡ cdsIn (now (bounds .entry)) (now (table .entry)) (now (end .entry)) ⌝ }
+// The numbers that the contents of tags 2 or 7, 3 and 8 hold.
+fn cds_in(bounds: &[u8], long: &[u8], table: &[u8], end: &[u8]) -> Cds
+    requires { ⌜ Fit (now bounds) (now long) (now table) ⌝ }
+    ensures { λ r. ⌜ r ≡ cdsIn (now (bounds .entry)) (now (long .entry)) (now (table .entry)) (now (end .entry)) ⌝ }
 {
+    let table = wide(table[0]);
+    let end = end_in(end);
+    if bounds.len() == 0 {
+        return Cds {
+            cs: four_bytes(long, 0),
+            ce: four_bytes(long, 4),
+            table,
+            end,
+        };
+    }
     Cds {
         cs: two_bytes(bounds, 0),
         ce: two_bytes(bounds, 2),
-        table: wide(table[0]),
-        end: end_in(end),
+        table,
+        end,
     }
 }
 
-// Where it stands, by the places of the contents that there must be.
-fn stored_at(s: &[u8], letters: Part, bounds: Part, table: Part) -> StoredAt
-    requires { ⌜ Finds (now s) letters bounds table ⌝ }
+// Where it stands, by the places of contents that neither 22 nor 25 refuses.
+fn stored_at(s: &[u8], p: Places) -> StoredAt
+    requires { ⌜ Stand (now s) p ⌝ }
+    requires { ⌜ placesRefusal p ≡ 0 ⌝ }
     ensures { λ r. ⌜ Reads (now (s .entry)) (assembledIn (fields referenceForm (now (s .entry)))) (stored.At r) ⌝ }
 {
-    let end = part_or_empty(content_of(s, END));
-    let cds = cds_in(bytes_at(s, bounds), bytes_at(s, table), bytes_at(s, end));
-    let exceptions = part_or_empty(content_of(s, EXCEPTIONS));
+    let letters = p.letters;
+    let second = p.second;
+    let third = p.third;
+    let exceptions = p.exceptions;
+    let cds = cds_in(
+        bytes_at(s, p.bounds),
+        bytes_at(s, p.wide),
+        bytes_at(s, p.table),
+        bytes_at(s, p.end),
+    );
     StoredAt {
         cds,
         letters,
+        second,
+        third,
         exceptions,
     }
 }
 
-// 20, 21 and 23 in field order, then 22, or where the reference stands.
+// 20, 21 and 23 in field order, then 22, then 25, or where the reference stands.
 pub fn find_stored(s: &[u8]) -> Stored
     ensures { λ r. ⌜ Reads (now (s .entry)) (assembledIn (fields referenceForm (now (s .entry)))) r ⌝ }
 {
@@ -82,13 +185,10 @@ pub fn find_stored(s: &[u8]) -> Stored
     let Content::At(letters) = one else {
         return Stored::Refused(22);
     };
-    let two = content_of(s, BOUNDS);
-    let Content::At(bounds) = two else {
-        return Stored::Refused(22);
-    };
-    let three = content_of(s, TABLE);
-    let Content::At(table) = three else {
-        return Stored::Refused(22);
-    };
-    Stored::At(stored_at(s, letters, bounds, table))
+    let places = places_of(s, letters);
+    let unfit = places_refusal(places);
+    if unfit != 0 {
+        return Stored::Refused(unfit);
+    }
+    Stored::At(stored_at(s, places))
 }

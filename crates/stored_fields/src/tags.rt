@@ -17,13 +17,19 @@ pub(crate) const BOUNDS: u8 = 2;
 pub(crate) const TABLE: u8 = 3;
 // Three bytes each; may be absent.
 pub(crate) const EXCEPTIONS: u8 = 4;
+// Letters beyond those that fill tag 1, and then beyond those that fill tag 5.
+pub(crate) const SECOND: u8 = 5;
+
+pub(crate) const THIRD: u8 = 6;
+// cs and ce, four bytes each.
+pub(crate) const WIDE: u8 = 7;
 // How the CDS ends, one byte; absent for a stop.
 pub(crate) const END: u8 = 8;
 
 fn is_tag(tag: u8) -> bool
     ensures { λ r. ⌜ r ≡ referenceForm .knows tag ⌝ }
 {
-    (LETTERS <= tag) & (tag <= EXCEPTIONS) | (tag == END)
+    (LETTERS <= tag) & (tag <= END)
 }
 
 // Unknown, repeated or not rising; `last` is the tag before it.
@@ -51,6 +57,9 @@ fn is_wrong_content(tag: u8, content: &[u8]) -> bool
         BOUNDS => len != 4,
         TABLE => len != 1,
         EXCEPTIONS => len % 3 != 0,
+        SECOND => len < 1,
+        THIRD => len < 1,
+        WIDE => len != 8,
         END => !is_end(content),
         _ => false,
     }

@@ -1,18 +1,18 @@
 -- Laws of an edit line's answer: what the whole answer to an edit prints as, and which lines are in the form.
 -- Assumes nothing.
-use mathlib.Core.Path.{_≡_, sym, ap, _∙_}
+use mathlib.Core.Path.{_≡_, refl, sym, ap, _∙_}
 use mathlib.Core.Bool.{true, false}
 use mathlib.Core.List.{List, [], _∷_, _++_}
 use mathlib.Core.Option.{some}
 use Prim.Native.Nat.{ℕ, zero, suc, _≤_, _<_}
 use native.Mathlib.Omega.{arith}
 use lib.ListN.{length, take, drop}
-use lib.Seq.{length-take-le}
 use Rattle.rules.specs.declared.Cds.{Cds}
 use Rattle.rules.specs.declared.Edit.{Edit}
 use Rattle.rules.specs.declared.Exceptions.{Exceptions}
 use Rattle.rules.specs.declared.Record.{Record}
 use Rattle.rules.specs.declared.Record.the-variants.{Unknown}
+use Rattle.rules.specs.declared.Record.the-variants as found
 use Rattle.rules.specs.declared.Report.{Report}
 use Rattle.rules.specs.declared.Answer.the-variants as answer
 use Rattle.rules.specs.Bytes.{firstOf, unless, over}
@@ -24,7 +24,7 @@ use Rattle.rules.specs.Record.{recordOf}
 use Rattle.rules.specs.Refusal.{refusal, recordUnless}
 use Rattle.rules.specs.Answer.{Outcome, fullReport, writesAll}
 use Rattle.rules.specs.Line.{textLimits, editLine, fitsLine}
-use Rattle.rules.specs.Run.{refusedLine, recordLine, answerLine, editAnswer, editLineAnswer, lineFeed, unlines}
+use Rattle.rules.specs.Run.{refusedLine, changeLine, recordLine, answerLine, editAnswer, editLineAnswer, lineFeed, unlines}
 use Rattle.rules.specs.Views.{bare, asked, referenceOf}
 use Rattle.rules.proofs.Over.{fits-over, read-back}
 use Rattle.rules.proofs.Records.{record-unknown}
@@ -39,6 +39,7 @@ use Rattle.edits.specs.declared.decision.Decision.the-variants as decision
 use Rattle.edits.specs.Plans.{planOf}
 use Rattle.edits.specs.Decisions.{decisionOf}
 use Rattle.edits.proofs.Deciding.{decided-refusal, decided-unknown}
+use Rattle.record.specs.Joined.{changeFrom, seenFrom, insertedOf}
 use Rattle.altseq.specs.Carried.{proteinBy, reportBy, Carries}
 use Rattle.altseq.specs.Decided.{decidedOutcome}
 use Rattle.altseq.proofs.Answering.{goes-all, unknown-is, allowed-is, none-refused, not-unknown, plan-is}
@@ -147,29 +148,29 @@ module _ (s : List ℕ) (k : Known) (protein : List ℕ) (known : Knows textLimi
         rw (found, made, known .read, none)
 
 -- the line has room where the transcript had
-pub plan-room : (s : List ℕ) (k : Known) (protein : List ℕ) → Knows textLimits s k noExceptions protein → (t q q′ : List ℕ) → Ample t q → (m : ℕ) → m ≤ length q′ → length q′ ≡ length q → (x : Record) (n : ℕ) → n ≡ length t
-    → length (recordLine x protein (take m q′)) < n
-plan-room s k protein known t q q′ ample m fits same x n is =
+pub plan-room : (s : List ℕ) (k : Known) (protein : List ℕ) → Knows textLimits s k noExceptions protein → (t q q′ : List ℕ) → Ample t q → length q′ ≡ length q → (x : Record) (n : ℕ) → n ≡ length t
+    → length (recordLine x protein q′) < n
+plan-room s k protein known t q q′ ample same x n is =
     let short = protein-short s k protein known in
-    omega (arith, record-size x protein (take m q′) (short .0), length-take-le m q′ fits, short .1, ample .for-altered, ample .for-transcript)
+    omega (arith, record-size x protein q′ (short .0), short .1, ample .for-altered, ample .for-transcript)
 
 pub carries-none : (x₀ : Exceptions) → x₀ ≡ noExceptions → (s : List ℕ) (k : Known) (protein : List ℕ) (p : Plan) (new t q : List ℕ) → Carries s k noExceptions protein p new t q → Carries s k x₀ protein p new t q
 carries-none x₀ are s k protein p new t q h = rw are h
 
--- a plan carried out: what is reported of the altered protein is at its buffer's front
-module _ (x₀ : Exceptions) (are : x₀ ≡ noExceptions) (s : List ℕ) (c : Cds) (p : Plan) (new : List ℕ) (u : Report) (q q′ : List ℕ)
-    (says : u ≡ reportBy (referenceOf s c x₀) p new) (holds : q′ ≡ over (proteinBy (referenceOf s c x₀) p new) q) where
-  counted : u .altered ≡ length (proteinBy (referenceOf s c x₀) p new)
-  unfolding reportBy
-  counted = ap (λ (u : Report). u .altered) says
+-- a record whose inserted residues are counted elsewhere prints the same line
+line-seen : (x : Record) (head : ℕ) (R A W : List ℕ) → insertedOf (seenFrom head x) W ≡ insertedOf x A → recordLine x R A ≡ recordLine (seenFrom head x) R W
+unfolding recordLine changeLine seenFrom changeFrom insertedOf
+line-seen found.Unknown head R A W e = refl
+line-seen found.NoProtein head R A W e = refl
+line-seen (found.Silent n y) head R A W e = refl
+line-seen (found.Changed c) head R A W e = rw e
 
-  pub plan-fits : u .altered ≤ length q′
-  plan-fits = fits-over (proteinBy (referenceOf s c x₀) p new) q q′ (u .altered) counted holds
-
-  pub plan-line : (protein : List ℕ) → planLine (referenceOf s c noExceptions) protein p new ≡ recordLine (u .found) protein (take (u .altered) q′)
-  plan-line protein =
-      let back : take (u .altered) q′ ≡ proteinBy (referenceOf s c x₀) p new = read-back (proteinBy (referenceOf s c x₀) p new) q q′ (u .altered) counted holds in
-      rw (back, says, are)
+-- the record of a plan, its inserted residues counted from `head` on
+pub plan-line : (x₀ : Exceptions) → x₀ ≡ noExceptions → (s : List ℕ) (c : Cds) (p : Plan) (new : List ℕ) (found : Record) (head : ℕ) (q′ : List ℕ) → found ≡ seenFrom head (reportBy (referenceOf s c x₀) p new .found)
+    → insertedOf found q′ ≡ insertedOf (reportBy (referenceOf s c x₀) p new .found) (proteinBy (referenceOf s c x₀) p new)
+    → (protein : List ℕ) → planLine (referenceOf s c noExceptions) protein p new ≡ recordLine found protein q′
+plan-line x₀ are s c p new found head q′ says holds protein =
+    rw (← are) (line-seen (reportBy (referenceOf s c x₀) p new .found) head protein (proteinBy (referenceOf s c x₀) p new) q′ (rw says at holds) ∙ ap (λ (x : Record). recordLine x protein q′) (sym says))
 
 -- the forms of an edit line
 module _ (r : Reference) (line : List ℕ) where

@@ -1,7 +1,7 @@
 // An edit line.
 use crate::fits_line;
 use crate::no_exceptions;
-use altseq::carry_out;
+use brief::record_of;
 use edits::decision::Decision;
 use edits::decision::decide;
 use edits::plans::Plan;
@@ -26,7 +26,7 @@ ghost use Rattle.text_answers.specs.Lines.{noExceptions, planLine, Line}
 // The most new bases of an edit.
 const MOST: usize = 4096;
 
-// An edit that goes. Its line is printed to the transcript's buffer, once the altered transcript there isn't wanted any more.
+// An edit that goes. Its line is printed to the transcript's buffer, once the letters there aren't wanted any more.
 fn answer_plan(
     letters: &[u8],
     known: Known,
@@ -41,7 +41,7 @@ fn answer_plan(
     requires { ⌜ Ample (now transcript) (now altered) ⌝ }
     ensures { λ r. ⌜ Line r (now (transcript .exit)) (unlines (planLine (referenceOf (now (letters .entry)) (known .cds) noExceptions) (now (protein .entry)) plan (now (new .entry)) ∷ [])) ⌝ }
 {
-    let report = carry_out(
+    let found = record_of(
         letters,
         known,
         no_exceptions(),
@@ -51,9 +51,7 @@ fn answer_plan(
         transcript,
         altered,
     );
-    let found = report.found;
-    let residues = report.altered;
-    print_record(found, protein, &altered[..residues], transcript)
+    print_record(found, protein, altered, transcript)
 }
 
 // An edit of the reference.

@@ -1,29 +1,13 @@
--- Laws of bytes stored into what a buffer holds.
+-- Laws of bytes written into what a buffer holds, one part behind the other.
 -- Assumes nothing.
-use mathlib.Core.Path.{_≡_, refl, sym, ap, _∙_}
-use mathlib.Core.List.{List, [], _∷_, _++_, append-assoc}
-use Prim.Native.Nat.{ℕ, suc, _+_, _-_, _≤_, _<_}
-use native.Mathlib.Numerals.{add-one}
+use mathlib.Core.Path.{_≡_, ap, _∙_}
+use mathlib.Core.List.{List, _++_, append-assoc}
+use Prim.Native.Nat.{ℕ, _+_, _-_, _≤_}
 use native.Mathlib.Omega.{arith}
 use borrow.Rule.Slice.PartMut.{putMid}
-use lib.ListN.{length, take, drop, getD, set, length-append, length-drop}
-use lib.Seq.{length-take-le, drop-cons, set-append-seam}
+use lib.ListN.{length, take, drop, length-append}
 use Rattle.rules.specs.Bytes.{over}
-use Rattle.rules.proofs.Over.{length-over, copied-as, lent-on-by}
-
--- a byte at the front
-pub stored-first : (x : ℕ) (d : List ℕ) → 1 ≤ length d → set d 0 x ≡ over (x ∷ []) d
-unfolding over
-stored-first x [] h = absurd (omega arith)
-stored-first x (y ∷ d) h = refl
-
--- a byte behind what is written
-pub stored-behind : (p d d′ : List ℕ) (n x : ℕ) → n ≡ length p → length p < length d → d′ ≡ over p d → set d′ n x ≡ over (p ++ (x ∷ [])) d
-unfolding over
-stored-behind p d d′ n x e h q =
-    let more : length (p ++ (x ∷ [])) ≡ suc (length p) = length-append p (x ∷ []) ∙ add-one (length p) in
-    rw (e, q, more, drop-cons d (length p) 0 h, set-append-seam p (getD d (length p) 0) (drop (suc (length p)) d) x)
-    (sym (append-assoc p (x ∷ []) (drop (suc (length p)) d)))
+use Rattle.rules.proofs.Over.{copied-as, front-fits, room-behind, written-behind}
 
 -- s, known as p, copied to the front: n bytes
 pub copied-whole : (s p d e : List ℕ) (n : ℕ) → s ≡ p → n ≡ length s → e ≡ take (length s) s ++ drop (length s) d → (n ≡ length p) × (e ≡ over p d)
@@ -32,24 +16,6 @@ copied-whole s p d e n q k h = (k ∙ ap length q, copied-as s p d e q h)
 -- n bytes p written, known as q
 pub written-as : (p q d e : List ℕ) (n : ℕ) → q ≡ p → (n ≡ length p) × (e ≡ over p d) → (n ≡ length q) × (e ≡ over q d)
 written-as p q d e n is h = rw is h
-
--- p is at the front of the buffer d, n bytes of it, and the part behind is lent on for q
-module _ (p q d d₁ : List ℕ) (n : ℕ) (e : n ≡ length p) (h : length (p ++ q) ≤ length d) (is : d₁ ≡ over p d) where
-  fits : length p ≤ length d
-  fits = omega (arith, length-append p q)
-
-  pub front-fits : n ≤ length d₁
-  front-fits = omega (arith, fits, ap length is, length-over p d fits)
-
-  pub room-behind : length q ≤ length (take (length d₁ - n) (drop n d₁))
-  room-behind =
-      let all : length (take (length d₁ - n) (drop n d₁)) ≡ length d₁ - n = length-take-le (length d₁ - n) (drop n d₁) (rw length-drop (omega arith)) in
-      omega (arith, fits, ap length is, length-over p d fits, length-append p q)
-
-  -- m bytes more
-  pub written-behind : (d₂ : List ℕ) (m : ℕ) → m ≡ length q → d₂ ≡ over q (take (length d₁ - n) (drop n d₁))
-      → (n + m ≡ length (p ++ q)) × (putMid n (length d₁ - n) d₁ d₂ ≡ over (p ++ q) d)
-  written-behind d₂ m k is₂ = (omega (arith, length-append p q), lent-on-by p q d d₁ d₂ n e fits is is₂)
 
 -- three in a row: p, then q behind it, then r behind both
 module _ (p q r d : List ℕ) (h : length (p ++ (q ++ r)) ≤ length d) (d₁ : List ℕ) (n : ℕ) (e : n ≡ length p) (is : d₁ ≡ over p d) where

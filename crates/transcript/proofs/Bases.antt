@@ -35,7 +35,7 @@ plain-turned : (s : List ℕ) → all isBase s ≡ true → all isBase (reverseC
 unfolding reverseComplement
 plain-turned s h = all-reverse isBase (map complement s) (all-map isBase complement plain-complement s h)
 
-plain-put : (k : Kind) (s : List ℕ) (start end : ℕ) (new : List ℕ) → all isBase s ≡ true → all isBase new ≡ true → all isBase (swapBy k s start end new .put) ≡ true
+pub plain-put : (k : Kind) (s : List ℕ) (start end : ℕ) (new : List ℕ) → all isBase s ≡ true → all isBase new ≡ true → all isBase (swapBy k s start end new .put) ≡ true
 unfolding swapBy
 plain-put Substitution s start end new h n = n
 plain-put Deletion s start end new h n = n

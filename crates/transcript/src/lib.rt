@@ -36,7 +36,7 @@ pub fn write_put(letters: &[u8], plan: Plan, new: &[u8], out: &mut [u8]) -> usiz
 }
 
 // Writes what goes in, and behind it the letters that stay behind the edit, from the start of the rest of the buffer.
-fn write_rest(letters: &[u8], plan: Plan, new: &[u8], rest: &mut [u8]) -> usize
+pub fn write_rest(letters: &[u8], plan: Plan, new: &[u8], rest: &mut [u8]) -> usize
     requires { ⌜ Sourced plan (now letters) (now new) ⌝ }
     requires { ⌜ (plan .to ≤ length (now letters)) × (plan .kept + (length (now letters) - plan .to) ≤ length (now rest)) ⌝ }
     ensures { λ r. ⌜ r ≡ plan .kept + (length (now (letters .entry)) - plan .to) ⌝ }

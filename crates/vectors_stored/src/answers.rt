@@ -25,8 +25,10 @@ fn print_reference(p: StoredAt) {
     }
 }
 
+// A form of this input is shorter than its letters would have to be to go on in a second field: none is joined.
 pub fn print_stored(s: &[u8]) {
-    match read_stored(s) {
+    let mut joined = [0u8; 1];
+    match read_stored(s, &mut joined) {
         Stored::Refused(n) => print_number(b": refused ", n),
         Stored::At(p) => print_reference(p),
     }

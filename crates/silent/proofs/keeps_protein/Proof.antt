@@ -10,7 +10,7 @@ use Rattle.rules.specs.Translation.{exceptionList}
 use Rattle.rules.proofs.Silent.{sameFrom}
 use Rattle.transcript.specs.Carrying.{carriedBy}
 use Rattle.silent.specs.Comparing.{proteinWith}
-use Rattle.silent.proofs.Same.{first-some, in-transcript, some-residues, codes, in-made, placed, starts, starts-within, past, ends, ends-here, read-is, parts, stops, goes-on}
+use Rattle.silent.proofs.Same.{first-some, in-transcript, some-residues, codes, in-made, placed, starts, starts-within, past, ends, ends-either, read-is, parts, stops, goes-on}
 use Rattle.silent.proofs.keeps_protein.Statement.{statement}
 use Rattle.silent.proofs.keeps_protein.Tie as tie
 
@@ -81,7 +81,7 @@ returns-3 c =
     let source = c .before .source-of in
     let found = source .ensures in
     let below = c .if3 .taken in
-    sym (ends-here (a .letters .now) (a .c) (a .e) (a .moved) (a .protein .now) (a .plan) (a .new .now) x (found .none below) (turn .k) (source .result) (found .behind below) (found .place below) (omega (arith, c .before .before .if2 .left)) below) ∙ turn .inv .0
+    sym (ends-either (a .letters .now) (a .c) (a .e) (a .moved) (a .protein .now) (a .plan) (a .new .now) x (turn .k) (source .result) (found .none below) (found .behind below) (found .place below) (omega (arith, c .before .before .if2 .left)) below) ∙ turn .inv .0
 
 residue-at-requires : tie.Need-residue-at-requires Inv-loop μ-loop
 residue-at-requires c κs =

@@ -3,7 +3,7 @@ use mathlib.Core.Path.{sym, ap, _∙_}
 use Prim.Native.Nat.{ℕ, _+_}
 use Rattle.rules.specs.Run.{recordLine}
 use Rattle.text_prints.proofs.Digits.{longer}
-use Rattle.text_prints.proofs.Puts.{stored-behind}
+use Rattle.rules.proofs.Over.{stored-behind}
 use borrow.Author.Needs.{needs}
 use Rattle.text_prints.proofs.print_record.Statement.{statement}
 use Rattle.text_prints.proofs.print_record.Tie as tie

@@ -4,9 +4,8 @@ use mathlib.Core.List.{_++_}
 use Prim.Native.Nat.{ℕ, _+_}
 use native.Mathlib.Omega.{arith}
 use Rattle.rules.specs.Bytes.{bytes}
-use Rattle.rules.proofs.Over.{copied, copied-as}
+use Rattle.rules.proofs.Over.{copied, copied-as, stored-behind, written-behind}
 use Rattle.text_prints.proofs.Digits.{longer}
-use Rattle.text_prints.proofs.Puts.{stored-behind, written-behind}
 use borrow.Author.Needs.{needs}
 use Rattle.text_prints.proofs.print_reference.Statement.{statement}
 use Rattle.text_prints.proofs.print_reference.Tie as tie

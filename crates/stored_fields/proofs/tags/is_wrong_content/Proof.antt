@@ -3,7 +3,7 @@ use mathlib.Core.Path.{ap}
 use mathlib.Core.Bool.{not}
 use borrow.Author.Needs.{needs}
 use Rattle.rules.specs.Stored.{isWrongContent, referenceForm}
-use Rattle.stored_fields.proofs.Form.{any-content}
+use Rattle.stored_fields.proofs.Form.{any-content, no-letters}
 use Rattle.stored_fields.proofs.tags.is_wrong_content.Statement.{statement}
 use Rattle.stored_fields.proofs.tags.is_wrong_content.Tie as tie
 
@@ -20,13 +20,36 @@ unfolding isWrongContent referenceForm
 returns-3 c = rw (c .match .keys3)
 
 returns-4 : tie.Need-returns-4
-unfolding isWrongContent
-returns-4 c = rw (c .before .match .keys4) (ap not (c .is-end .ensures))
+unfolding isWrongContent referenceForm
+returns-4 c = rw (c .match .keys4) (no-letters (c .before .before .args .content .now))
 
 returns-5 : tie.Need-returns-5
-returns-5 c =
+unfolding isWrongContent referenceForm
+returns-5 c = rw (c .match .keys5) (no-letters (c .before .before .args .content .now))
+
+returns-6 : tie.Need-returns-6
+unfolding isWrongContent referenceForm
+returns-6 c = rw (c .match .keys6)
+
+returns-7 : tie.Need-returns-7
+unfolding isWrongContent
+returns-7 c = rw (c .before .match .keys7) (ap not (c .is-end .ensures))
+
+returns-8 : tie.Need-returns-8
+returns-8 c =
     let none = c .match .rest in
-    any-content (c .before .before .args .tag) (c .before .before .args .content .now) (none .0 .0 .0 .1) (none .0 .0 .1) (none .0 .1) (none .1)
+    any-content (c .before .before .args .tag) (c .before .before .args .content .now) (none .0 .0 .0 .0 .0 .0 .1) (none .0 .0 .0 .0 .0 .1) (none .0 .0 .0 .0 .1) (none .0 .0 .0 .1) (none .0 .0 .1) (none .0 .1) (none .1)
 
 pub is-wrong-content-spec : {M : Type 1} → statement M
-is-wrong-content-spec = tie.close (tie.spec (λ c κs. search needs) returns returns-2 returns-3 returns-4 returns-5)
+is-wrong-content-spec =
+    tie.close
+    (tie.spec
+    (λ c κs. search needs)
+    returns
+    returns-2
+    returns-3
+    returns-4
+    returns-5
+    returns-6
+    returns-7
+    returns-8)

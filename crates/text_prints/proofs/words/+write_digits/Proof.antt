@@ -6,7 +6,7 @@ use borrow.Author.Needs.{needs}
 use lib.ListN.{length, length-set}
 use Rattle.rules.specs.Bytes.{over}
 use Rattle.rules.specs.Run.{decimalOf}
-use Rattle.text_prints.proofs.Puts.{stored-first, stored-behind}
+use Rattle.rules.proofs.Over.{stored-first, stored-behind}
 use Rattle.text_prints.proofs.Digits.{digits-none, digit-one, digits-more, longer}
 use borrow.Fn.Kinds.{In}
 use borrow.Fn.PlainCycle.{Measures, is, falls, and}

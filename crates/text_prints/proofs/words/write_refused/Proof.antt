@@ -4,8 +4,7 @@ use mathlib.Core.List.{_++_}
 use native.Mathlib.Omega.{arith}
 use Rattle.rules.specs.Bytes.{bytes}
 use Rattle.rules.specs.Run.{refusedLine, decimal}
-use Rattle.rules.proofs.Over.{copied-as}
-use Rattle.text_prints.proofs.Puts.{front-fits, room-behind, written-behind}
+use Rattle.rules.proofs.Over.{copied-as, front-fits, room-behind, written-behind}
 use borrow.Author.Needs.{needs}
 use Rattle.text_prints.proofs.words.write_refused.Statement.{statement}
 use Rattle.text_prints.proofs.words.write_refused.Tie as tie

@@ -6,8 +6,7 @@ use native.Mathlib.Omega.{arith}
 use lib.ListN.{length, take, drop}
 use Rattle.rules.specs.Bytes.{bytes}
 use Rattle.rules.specs.Run.{shown}
-use Rattle.rules.proofs.Over.{copied, copied-as}
-use Rattle.text_prints.proofs.Puts.{room-behind, written-behind}
+use Rattle.rules.proofs.Over.{copied, copied-as, room-behind, written-behind}
 use Rattle.text_prints.proofs.Shown.{shown-none, shown-some}
 use borrow.Author.Needs.{needs}
 use Rattle.text_prints.proofs.words.write_spaced.Statement.{statement}

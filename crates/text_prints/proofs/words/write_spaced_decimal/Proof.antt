@@ -3,8 +3,7 @@ use mathlib.Core.Path.{refl}
 use native.Mathlib.Omega.{arith}
 use Rattle.rules.specs.Bytes.{bytes}
 use Rattle.rules.specs.Run.{decimal}
-use Rattle.rules.proofs.Over.{copied-as}
-use Rattle.text_prints.proofs.Puts.{room-behind, written-behind}
+use Rattle.rules.proofs.Over.{copied-as, room-behind, written-behind}
 use borrow.Author.Needs.{needs}
 use Rattle.text_prints.proofs.words.write_spaced_decimal.Statement.{statement}
 use Rattle.text_prints.proofs.words.write_spaced_decimal.Tie as tie

@@ -1,0 +1,4 @@
+pub mod Letters
+pub mod Residues
+pub mod Walking
+pub mod Comparing

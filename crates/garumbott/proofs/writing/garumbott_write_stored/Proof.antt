@@ -1,0 +1,44 @@
+-- `garumbott::writing::garumbott_write_stored` meets its contract. Assumes nothing.
+use mathlib.Core.Path.{ap, _∙_}
+use lib.ListN.{length}
+use Rattle.rules.specs.declared.Cds.{Cds}
+use Rattle.rules.specs.Refusal.{limits}
+use Rattle.rules.specs.Views.{cdsOf}
+use Rattle.garumbott.specs.Host.{lengthOf}
+use Rattle.garumbott.proofs.Excepted.{written-given}
+use borrow.Author.Needs.{needs}
+use Rattle.garumbott.proofs.writing.garumbott_write_stored.Statement.{statement}
+use Rattle.garumbott.proofs.writing.garumbott_write_stored.Tie as tie
+
+cds-at-requires : tie.Need-cds-at-requires
+cds-at-requires c κs = search needs
+
+exceptions-in-requires : tie.Need-exceptions-in-requires
+exceptions-in-requires c κs = search needs
+
+write-stored-requires : tie.Need-write-stored-requires
+write-stored-requires c κs = search needs
+
+length-of-requires : tie.Need-length-of-requires
+length-of-requires c κs = search needs
+
+same-length : tie.Need-same-length
+same-length c = search needs
+
+returns : tie.Need-returns
+returns c =
+    let a = c .before .before .before .before .before .before .before .before .before .before .args in
+    let w = c .before .before .before .write-stored .ensures in
+    let same = written-given limits (a .letters .now) (cdsOf (a .cs) (a .ce) (a .table) (a .cds-end)) (length (a .out .now)) (a .exceptions .now) in
+    rw (← same, ← c .before .before .before .before .before .exceptions-in .ensures, ← c .before .before .before .before .before .before .cds-at .ensures, ← ap (λ (c : Cds). c .end) (c .before .before .before .before .before .before .cds-at .ensures)) (c .length-of .ensures ∙ ap lengthOf (w .0), w .1)
+
+pub garumbott-write-stored-spec : {M : Type 1} → statement M
+garumbott-write-stored-spec =
+    tie.close
+    (tie.spec
+    cds-at-requires
+    exceptions-in-requires
+    write-stored-requires
+    length-of-requires
+    same-length
+    returns)

@@ -1,0 +1,4 @@
+-- What only this crate's contracts, and those above it, want said.
+pub mod Apart
+pub mod Joints
+pub mod Carrying

@@ -1,0 +1,3 @@
+-- Laws of letters in parts.
+pub mod Places
+pub mod Judged

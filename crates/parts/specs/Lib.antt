@@ -1,0 +1,2 @@
+-- What only contracts over letters in parts want said.
+pub mod Parts

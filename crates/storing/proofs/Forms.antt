@@ -1,0 +1,270 @@
+-- Laws of the form: its fields one behind the other, and its length by the reference's numbers.
+-- Assumes nothing.
+use mathlib.Core.Path.{_≡_, refl, sym, ap, _∙_, subst}
+use mathlib.Core.Bool.{Bool, true, false, _&&_, _||_, not}
+use mathlib.Core.List.{List, [], _∷_, _++_, append-nil}
+use Prim.Native.Nat.{ℕ, zero, suc, _+_, _-_, _*_, _≤_, _<_, min}
+use native.Mathlib.Decide.{decLt}
+use native.Mathlib.Omega.{arith}
+use lib.Dec.{eqb, ltb}
+use lib.ListN.{length, take, drop, getD, length-append, length-take, length-drop, drop-of-length-le}
+use lib.Seq.{take-all}
+use borrow.Author.Tests.{lt-ltb, le-ltb, eq-eqb, ne-eqb, eqb-true, ltb-true, ltb-false}
+use Rattle.rules.specs.declared.Cds.{Cds}
+use Rattle.rules.specs.declared.Exception.{Exception}
+use Rattle.rules.specs.declared.Exceptions.{Exceptions}
+use Rattle.rules.specs.Bytes.{if_then_else_, isNone, each, over}
+use Rattle.rules.specs.Translation.{noException, exceptionList}
+use Rattle.rules.specs.Reference as rules
+use Rattle.rules.specs.Reference.{Reference, atStop, isShortEnd, isCutShort}
+use Rattle.rules.specs.Refusal.{limits, referenceRefusal}
+use Rattle.rules.specs.Stored.{Tagged}
+use Rattle.rules.specs.Storing.{inTwo, inFour, fieldBytes, fieldsBytes, exceptionBytes, isLong, tagged, heldBy, filled, referenceFields, storedForm}
+use Rattle.rules.specs.Views.{referenceOf}
+use Rattle.rules.proofs.Tests.{and-left}
+use Rattle.rules.proofs.Reference.{accepted, rising-at}
+use Rattle.rules.proofs.Translation.{length-exceptions}
+use Rattle.storing.specs.Forming.{oneField, heldAt, narrowBounds, wideBounds, endField, formLength, Clear}
+
+pub fields-each : (fs : List Tagged) → each oneField fs ≡ fieldsBytes (filled fs)
+unfolding each oneField fieldsBytes filled
+fields-each [] = refl
+fields-each (f ∷ fs) = by (isNone (f .content)) (fields-each fs)
+  where
+    by : (b : Bool) → each oneField fs ≡ each fieldBytes (filled fs) → (if b then [] else fieldBytes f) ++ each oneField fs ≡ each fieldBytes (if b then filled fs else (f ∷ filled fs))
+    by true e = e
+    by false e = ap (λ (l : List ℕ). fieldBytes f ++ l) e
+
+pub form-each : (r : Reference) → each oneField (heldBy r) ≡ storedForm r
+unfolding storedForm referenceFields
+form-each r = fields-each (heldBy r)
+
+-- an empty field takes no byte; another its head and its content
+pub field-none : (tag : ℕ) (c : List ℕ) → length c ≡ 0 → oneField (tagged tag c) ≡ []
+unfolding oneField
+field-none tag [] h = refl
+field-none tag (x ∷ c) h = absurd (omega arith)
+
+pub field-some : (tag : ℕ) (c : List ℕ) → 1 ≤ length c → oneField (tagged tag c) ≡ fieldBytes (tagged tag c)
+unfolding oneField
+field-some tag [] h = absurd (omega arith)
+field-some tag (x ∷ c) h = refl
+
+pub length-field : (f : Tagged) → length (fieldBytes f) ≡ 3 + length (f .content)
+unfolding fieldBytes inTwo
+length-field f = omega arith
+
+pub field-length : (tag : ℕ) (c : List ℕ) → length (oneField (tagged tag c)) ≡ (if eqb (length c) 0 then 0 else (3 + length c))
+field-length tag [] = ap length (field-none tag [] refl)
+field-length tag (x ∷ c) = ap length (field-some tag (x ∷ c) (omega arith)) ∙ length-field (tagged tag (x ∷ c)) ∙ rw (ne-eqb (length (x ∷ c)) 0 (λ h. omega arith))
+
+-- what leaves a buffer as it is
+pub nothing : (tag : ℕ) (c d : List ℕ) → length c ≡ 0 → (0 ≡ length (oneField (tagged tag c))) × (d ≡ over (oneField (tagged tag c)) d)
+unfolding over
+nothing tag c d h = rw (field-none tag c h) (refl, refl)
+
+-- a buffer that is all written
+pub over-all : (p d : List ℕ) → length p ≡ length d → over p d ≡ p
+unfolding over
+over-all p d h = rw (drop-of-length-le d {i = length p} (omega arith)) (append-nil p)
+
+-- a field whose content is written
+pub a-field : (tag : ℕ) (c k d out : List ℕ) (n : ℕ) → k ≡ c → 1 ≤ length c → n ≡ length (fieldBytes (tagged tag k)) → out ≡ over (fieldBytes (tagged tag k)) d
+    → (n ≡ length (oneField (tagged tag c))) × (out ≡ over (oneField (tagged tag c)) d)
+a-field tag c k d out n is some e q = rw (field-some tag c some, ← is) (e, q)
+
+pub room-for : (tag : ℕ) (c k : List ℕ) (n : ℕ) → k ≡ c → 1 ≤ length c → length c < 65536 → length (oneField (tagged tag c)) ≤ n → (length k < 65536) × (3 + length k ≤ n)
+room-for tag c k n is some short h = rw is (short, omega (arith, sym (length-field (tagged tag c)), ap length (field-some tag c some)))
+
+-- letters from a place on, as many as a field holds
+module _ (n from : ℕ) (s : List ℕ) where
+  pub no-letters : length s ≤ from → length (take n (drop from s)) ≡ 0
+  no-letters h = omega (arith, length-take n (drop from s), length-drop from s)
+
+  pub some-letters : 1 ≤ n → from < length s → 1 ≤ length (take n (drop from s))
+  some-letters k h = omega (arith, length-take n (drop from s), length-drop from s)
+
+  pub few-letters : length (take n (drop from s)) < n + 1
+  few-letters = omega (arith, length-take n (drop from s))
+
+  pub taken-part : (m : ℕ) → m ≡ min n (length s - from) → take (from + m - from) (drop from s) ≡ take n (drop from s)
+  taken-part m e = rw same (by (decLt (length (drop from s)) n))
+    where
+      same : from + m - from ≡ m
+      same = omega arith
+
+      by : Dec (length (drop from s) < n) → take m (drop from s) ≡ take n (drop from s)
+      by (yes h) = take-all m (drop from s) (omega (arith, length-drop from s)) ∙ sym (take-all n (drop from s) (omega arith))
+      by (no h) = let is : m ≡ n = omega (arith, length-drop from s) in ap (λ (k : ℕ). take k (drop from s)) is
+
+-- a choice that gives nothing
+pub chosen-none : {A : Type 0} (b : Bool) (x : List A) → b ≡ true → length (if b then [] else x) ≡ 0
+chosen-none true x e = refl
+chosen-none false x e = let z : _≡_ {A = ℕ} 0 1 = cc in absurd (omega arith)
+
+pub chosen-other : {A : Type 0} (b : Bool) (x : List A) → b ≡ false → length (if b then x else []) ≡ 0
+chosen-other false x e = refl
+chosen-other true x e = let z : _≡_ {A = ℕ} 0 1 = cc in absurd (omega arith)
+
+-- exceptions, three bytes each
+pub length-bytes : (es : List Exception) → length (each exceptionBytes es) ≡ length es * 3
+unfolding each exceptionBytes inTwo
+length-bytes [] = refl
+length-bytes (e ∷ es) = omega (arith, length-bytes es)
+
+-- a field of a tag, known by its number
+module _ (r : Reference) (t k : ℕ) (e : t ≡ k) (f : Tagged) (is : heldAt k r ≡ f) where
+  same-field : heldAt t r ≡ f
+  same-field = ap (λ (n : ℕ). heldAt n r) e ∙ is
+
+  pub room-at : (n : ℕ) → length (oneField (heldAt t r)) ≤ n → length (oneField f) ≤ n
+  room-at n h = subst (λ (g : Tagged). length (oneField g) ≤ n) same-field h
+
+  pub done-at : (m : ℕ) (d out : List ℕ) → m ≡ length (oneField f) → out ≡ over (oneField f) d → (m ≡ length (oneField (heldAt t r))) × (out ≡ over (oneField (heldAt t r)) d)
+  done-at m d out h q = subst (λ (g : Tagged). (m ≡ length (oneField g)) × (out ≡ over (oneField g) d)) (sym same-field) (h, q)
+
+-- what each tag holds
+module _ (r : Reference) where
+  pub held-1 : heldAt 1 r ≡ tagged 1 (take 65535 (drop 0 (r .letters)))
+  unfolding heldBy
+  held-1 = refl
+
+  pub held-2 : heldAt 2 r ≡ tagged 2 (if isLong r then [] else (inTwo (r .cs) ++ inTwo (r .ce)))
+  unfolding heldBy
+  held-2 = refl
+
+  pub held-3 : heldAt 3 r ≡ tagged 3 (r .table ∷ [])
+  unfolding heldBy
+  held-3 = refl
+
+  pub held-4 : heldAt 4 r ≡ tagged 4 (each exceptionBytes (r .exceptions))
+  unfolding heldBy
+  held-4 = refl
+
+  pub held-5 : heldAt 5 r ≡ tagged 5 (take 65535 (drop 65535 (r .letters)))
+  unfolding heldBy
+  held-5 = refl
+
+  pub held-6 : length (r .letters) ≤ 131072 → heldAt 6 r ≡ tagged 6 (take 65535 (drop 131070 (r .letters)))
+  unfolding heldBy
+  held-6 h = ap (tagged 6) (sym (last-letters 65535 131070 (r .letters) (omega arith)))
+    where
+      last-letters : (n from : ℕ) (s : List ℕ) → length s ≤ from + n → take n (drop from s) ≡ drop from s
+      last-letters n from s h = take-all n (drop from s) (omega (arith, length-drop from s))
+
+  pub held-7 : heldAt 7 r ≡ tagged 7 (if isLong r then (inFour (r .cs) ++ inFour (r .ce)) else [])
+  unfolding heldBy
+  held-7 = refl
+
+  pub held-8 : heldAt 8 r ≡ endField (r .end)
+  unfolding heldBy
+  held-8 = refl
+
+pub eight-held : (r : Reference) → length (heldBy r) ≡ 8
+unfolding heldBy
+eight-held r = refl
+
+-- the numbers of a reference that isn't refused
+pub record Numbers (s : List ℕ) (c : Cds) (e : Exceptions) : Type 0 where
+  pub some : 1 ≤ length s
+  pub size : length s ≤ 131072
+  pub narrow : ltb 16384 (length s) ≡ false → (c .cs < 65536) × (c .ce < 65536)
+  pub wide : (c .cs < 4294967296) × (c .ce < 4294967296)
+  pub table : c .table < 256
+  pub count : e .count ≤ 16
+  pub codons : (i : ℕ) → i < e .count → getD (exceptionList e) i noException .codon < 65536
+  pub end : c .end < 256
+
+short-end : (end : ℕ) → isShortEnd end ≡ true → end < 256
+unfolding isShortEnd
+short-end end h = by (eqb end 1) refl h
+  where
+    by : (b : Bool) → eqb end 1 ≡ b → (b || eqb end 2) ≡ true → end < 256
+    by true e h = omega (arith, eqb-true end 1 e)
+    by false e h = omega (arith, eqb-true end 2 h)
+
+pub numbers : (s : List ℕ) (c : Cds) (e : Exceptions) → Clear s c e → Numbers s c e
+unfolding rules.size rules.cdsSize rules.codons isCutShort
+numbers s c e clear =
+    let r = referenceOf s c e in
+    let a = accepted 131072 r clear in
+    let many = length-exceptions e in
+    record {
+      some = a .some;
+      size = a .fits;
+      narrow = λ h. let short : length s ≤ 16384 = ltb-false 16384 (length s) h in (omega (arith, a .bounds .inside, a .bounds .rising), omega (arith, a .bounds .inside));
+      wide = (omega (arith, a .bounds .inside, a .bounds .rising, a .fits), omega (arith, a .bounds .inside, a .fits));
+      table = omega (arith, a .table);
+      count = omega (arith, a .few, many);
+      codons = λ i h. omega (arith, rising-at 0 (rules.codons r) (exceptionList e) i (a .exceptions) (omega arith) .inside, a .fits, a .bounds .inside);
+      end = by (eqb (c .end) atStop) refl (a .cut);
+    }
+  where
+    by : (b : Bool) → eqb (c .end) atStop ≡ b → (eqb (c .end) atStop ≡ false → isCutShort (referenceOf s c e) ≡ true) → c .end < 256
+    by true e k = omega (arith, eqb-true (c .end) atStop e)
+    by false e k = short-end (c .end) (and-left (isShortEnd (c .end)) _ (and-left (isShortEnd (c .end) && eqb (c .ce) (length s)) _ (k e)))
+
+pub not-true : (b : Bool) → not b ≡ true → b ≡ false
+not-true true h = let z : _≡_ {A = ℕ} 0 1 = cc in absurd (omega arith)
+not-true false h = refl
+
+-- bounds in an array of their own
+module _ (long : Bool) (c : Cds) (k zeros : List ℕ) where
+  module _ (is-long : long ≡ false) (few : length zeros ≡ 4) (is : k ≡ over (inTwo (c .cs) ++ inTwo (c .ce)) zeros) where
+    narrow-is : k ≡ (if long then [] else (inTwo (c .cs) ++ inTwo (c .ce)))
+    unfolding inTwo
+    narrow-is = is ∙ over-all (inTwo (c .cs) ++ inTwo (c .ce)) zeros (sym few) ∙ sym (rw is-long refl)
+
+    four : length (if long then [] else (inTwo (c .cs) ++ inTwo (c .ce))) ≡ 4
+    unfolding inTwo
+    four = rw is-long refl
+
+    pub narrow-room : (n : ℕ) → length (oneField (narrowBounds long c)) ≤ n → (length k < 65536) × (3 + length k ≤ n)
+    narrow-room n h = room-for 2 (if long then [] else (inTwo (c .cs) ++ inTwo (c .ce))) k n narrow-is (omega (arith, four)) (omega (arith, four)) h
+
+    pub narrow-done : (d out : List ℕ) (n : ℕ) → n ≡ length (fieldBytes (tagged 2 k)) → out ≡ over (fieldBytes (tagged 2 k)) d
+        → (n ≡ length (oneField (narrowBounds long c))) × (out ≡ over (oneField (narrowBounds long c)) d)
+    narrow-done d out n e q = a-field 2 (if long then [] else (inTwo (c .cs) ++ inTwo (c .ce))) k d out n narrow-is (omega (arith, four)) e q
+
+  module _ (is-long : long ≡ true) (few : length zeros ≡ 8) (is : k ≡ over (inFour (c .cs) ++ inFour (c .ce)) zeros) where
+    wide-is : k ≡ (if long then (inFour (c .cs) ++ inFour (c .ce)) else [])
+    unfolding inTwo inFour
+    wide-is = is ∙ over-all (inFour (c .cs) ++ inFour (c .ce)) zeros (sym few) ∙ sym (rw is-long refl)
+
+    eight : length (if long then (inFour (c .cs) ++ inFour (c .ce)) else []) ≡ 8
+    unfolding inTwo inFour
+    eight = rw is-long refl
+
+    pub wide-room : (n : ℕ) → length (oneField (wideBounds long c)) ≤ n → (length k < 65536) × (3 + length k ≤ n)
+    wide-room n h = room-for 7 (if long then (inFour (c .cs) ++ inFour (c .ce)) else []) k n wide-is (omega (arith, eight)) (omega (arith, eight)) h
+
+    pub wide-done : (d out : List ℕ) (n : ℕ) → n ≡ length (fieldBytes (tagged 7 k)) → out ≡ over (fieldBytes (tagged 7 k)) d
+        → (n ≡ length (oneField (wideBounds long c))) × (out ≡ over (oneField (wideBounds long c)) d)
+    wide-done d out n e q = a-field 7 (if long then (inFour (c .cs) ++ inFour (c .ce)) else []) k d out n wide-is (omega (arith, eight)) e q
+
+-- tag 8
+pub end-none : (end : ℕ) → end ≡ 0 → length (if eqb end atStop then [] else (end ∷ [])) ≡ 0
+end-none end h = chosen-none (eqb end atStop) (end ∷ []) (eq-eqb end atStop h)
+
+pub end-some : (end : ℕ) → (end ≡ 0 → ⊥) → endField end ≡ tagged 8 (end ∷ [])
+end-some end h = rw (ne-eqb end atStop h)
+
+module _ (end : ℕ) (h : end ≡ 0 → ⊥) where
+  pub end-room : (n : ℕ) → length (oneField (endField end)) ≤ n → length (oneField (tagged 8 (end ∷ []))) ≤ n
+  end-room n k = subst (λ (f : Tagged). length (oneField f) ≤ n) (end-some end h) k
+
+  pub end-done : (m : ℕ) (d out : List ℕ) → m ≡ length (oneField (tagged 8 (end ∷ []))) → out ≡ over (oneField (tagged 8 (end ∷ []))) d
+      → (m ≡ length (oneField (endField end))) × (out ≡ over (oneField (endField end)) d)
+  end-done m d out e q = subst (λ (f : Tagged). (m ≡ length (oneField f)) × (out ≡ over (oneField f) d)) (sym (end-some end h)) (e, q)
+
+-- the last of eight tags
+pub none-other : (t : ℕ) → 1 ≤ t → t ≤ 8 → (t ≡ 1 → ⊥) → (t ≡ 2 → ⊥) → (t ≡ 3 → ⊥) → (t ≡ 4 → ⊥) → (t ≡ 5 → ⊥) → (t ≡ 6 → ⊥) → (t ≡ 7 → ⊥) → t ≡ 8
+none-other zero h k n₁ n₂ n₃ n₄ n₅ n₆ n₇ = absurd (omega arith)
+none-other (suc zero) h k n₁ n₂ n₃ n₄ n₅ n₆ n₇ = absurd (n₁ refl)
+none-other (suc (suc zero)) h k n₁ n₂ n₃ n₄ n₅ n₆ n₇ = absurd (n₂ refl)
+none-other (suc (suc (suc zero))) h k n₁ n₂ n₃ n₄ n₅ n₆ n₇ = absurd (n₃ refl)
+none-other (suc (suc (suc (suc zero)))) h k n₁ n₂ n₃ n₄ n₅ n₆ n₇ = absurd (n₄ refl)
+none-other (suc (suc (suc (suc (suc zero))))) h k n₁ n₂ n₃ n₄ n₅ n₆ n₇ = absurd (n₅ refl)
+none-other (suc (suc (suc (suc (suc (suc zero)))))) h k n₁ n₂ n₃ n₄ n₅ n₆ n₇ = absurd (n₆ refl)
+none-other (suc (suc (suc (suc (suc (suc (suc zero))))))) h k n₁ n₂ n₃ n₄ n₅ n₆ n₇ = absurd (n₇ refl)
+none-other (suc (suc (suc (suc (suc (suc (suc (suc t)))))))) h k n₁ n₂ n₃ n₄ n₅ n₆ n₇ = omega arith

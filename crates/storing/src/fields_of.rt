@@ -1,0 +1,69 @@
+// The field of each tag.
+use crate::numbers_of::write_excepted;
+use crate::numbers_of::write_narrow;
+use crate::numbers_of::write_one;
+use crate::numbers_of::write_wide;
+use fields::write_field;
+use numbers::least;
+use rules::Cds;
+use rules::Exceptions;
+ghost use mathlib.Core.Path.{_≡_};
+ghost use Prim.Native.Nat.{_≤_, _<_};
+ghost use lib.ListN.{length, take, drop};
+ghost use Rattle.rules.specs.Bytes.{over};
+ghost use Rattle.rules.specs.Storing.{tagged};
+ghost use Rattle.rules.specs.Views.{referenceOf};
+ghost use Rattle.storing.specs.Forming.{oneField, endField, heldAt, Clear};
+
+// The letters that a letter field holds.
+const FULL: usize = 65535;
+
+// The longest transcript whose bounds take two bytes each.
+const NARROW: usize = 16384;
+
+// The letters from a place on, as many as one field holds; none where the transcript has ended.
+fn write_letters(tag: u8, letters: &[u8], from: usize, out: &mut [u8]) -> usize
+    requires { ⌜ length (oneField (tagged tag (take 65535 (drop from (now letters))))) ≤ length (now out) ⌝ }
+    ensures { λ r. ⌜ r ≡ length (oneField (tagged tag (take 65535 (drop from (now (letters .entry)))))) ⌝ }
+    ensures { λ _. ⌜ now (out .exit) ≡ over (oneField (tagged tag (take 65535 (drop from (now (letters .entry)))))) (now (out .entry)) ⌝ }
+{
+    if letters.len() <= from {
+        return 0;
+    }
+    let end = from + least(FULL, letters.len() - from);
+    write_field(tag, &letters[from..end], out)
+}
+
+// Tag 8; none where the CDS ends at a stop.
+fn write_end(c: Cds, out: &mut [u8]) -> usize
+    requires { ⌜ c .end < 256 ⌝ }
+    requires { ⌜ length (oneField (endField (c .end))) ≤ length (now out) ⌝ }
+    ensures { λ r. ⌜ r ≡ length (oneField (endField (c .end))) ⌝ }
+    ensures { λ _. ⌜ now (out .exit) ≡ over (oneField (endField (c .end))) (now (out .entry)) ⌝ }
+{
+    if c.end == 0 {
+        return 0;
+    }
+    write_one(8, c.end, out)
+}
+
+// The field of a tag, 1 to 8.
+pub(crate) fn write_tag(tag: u8, letters: &[u8], c: Cds, e: Exceptions, out: &mut [u8]) -> usize
+    requires { ⌜ Clear (now letters) c e ⌝ }
+    requires { ⌜ (1 ≤ tag) × (tag ≤ 8) ⌝ }
+    requires { ⌜ length (oneField (heldAt tag (referenceOf (now letters) c e))) ≤ length (now out) ⌝ }
+    ensures { λ r. ⌜ r ≡ length (oneField (heldAt tag (referenceOf (now (letters .entry)) c e))) ⌝ }
+    ensures { λ _. ⌜ now (out .exit) ≡ over (oneField (heldAt tag (referenceOf (now (letters .entry)) c e))) (now (out .entry)) ⌝ }
+{
+    let long = NARROW < letters.len();
+    match tag {
+        1 => write_letters(1, letters, 0, out),
+        2 => write_narrow(long, c, out),
+        3 => write_one(3, c.table, out),
+        4 => write_excepted(e, out),
+        5 => write_letters(5, letters, FULL, out),
+        6 => write_letters(6, letters, 2 * FULL, out),
+        7 => write_wide(long, c, out),
+        _ => write_end(c, out),
+    }
+}
