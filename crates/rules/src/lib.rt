@@ -47,6 +47,12 @@ pub struct Cds {
     pub end: usize,
 }
 
+// How a reference's letters are lent: a byte each, or packed two to a byte, so many letters in all.
+pub enum Form {
+    Bytes,
+    Packed(usize),
+}
+
 // The longest transcript that the library takes, the residues of its protein, and the most new bases of an edit.
 pub const LONGEST: usize = 16384;
 
