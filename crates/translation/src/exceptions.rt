@@ -50,7 +50,7 @@ fn put_exception(x: Exception, whole: usize, out: &mut [u8])
 }
 
 // Puts the exceptions over the residues of the whole codons, in their order.
-pub(crate) fn put_exceptions(e: Exceptions, whole: usize, out: &mut [u8])
+pub fn put_exceptions(e: Exceptions, whole: usize, out: &mut [u8])
     requires { ⌜ e .count ≤ 16 ⌝ }
     requires { ⌜ whole ≤ length (now out) ⌝ }
     ensures { λ _. ⌜ now (out .exit) ≡ exceptedFrom (exceptionList e) 1 (take whole (now (out .entry))) ++ drop whole (now (out .entry)) ⌝ }

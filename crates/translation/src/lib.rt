@@ -8,6 +8,7 @@ mod translate;
 
 pub use bases::all_bases;
 pub use exceptions::excepted_at;
+pub use exceptions::put_exceptions;
 pub use stops::Walked;
 pub use stops::first_stop;
 pub use stops::write_through_stop;
