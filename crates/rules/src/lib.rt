@@ -48,11 +48,16 @@ pub struct Cds {
 }
 
 // The longest transcript that the library takes, the residues of its protein, and the most new bases of an edit.
-pub const LONGEST: usize = 16384;
+pub const LONGEST: usize = 131072;
 
-pub const LONGEST_PROTEIN: usize = 5462;
+pub const LONGEST_PROTEIN: usize = 43691;
 
 pub const MOST: usize = 4096;
+
+// A transcript that is no longer is short: its protein has room in few residues.
+pub const SHORT: usize = 16384;
+
+pub const SHORT_PROTEIN: usize = 5462;
 
 // The longest transcript, and the most new bases.
 pub struct Limits {
