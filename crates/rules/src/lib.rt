@@ -47,6 +47,13 @@ pub struct Cds {
     pub end: usize,
 }
 
+// What is asked of a reference: its numbers and its exceptions, and an edit. The letters and the new bases are lent beside them.
+pub struct Question {
+    pub cds: Cds,
+    pub e: Exceptions,
+    pub edit: Edit,
+}
+
 // The longest transcript that the library takes, the residues of its protein, and the most new bases of an edit.
 pub const LONGEST: usize = 131072;
 
