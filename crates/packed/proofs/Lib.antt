@@ -1,5 +1,4 @@
 -- Laws of packed letters.
-pub mod Splits
 pub mod Halves
 pub mod Codons
 pub mod Rests

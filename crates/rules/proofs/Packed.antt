@@ -1,7 +1,8 @@
--- What packed bytes hold, and that what is refused of them is what is refused of the letters that they hold. Assumes nothing.
+-- What packed bytes hold, that what is refused of them is what is refused of the letters that they hold, and inputs that decide E10's clauses. Assumes nothing.
 use mathlib.Core.Path.{_≡_, refl, sym, ap, _∙_}
 use mathlib.Core.Bool.{Bool, true, false, _&&_, not}
 use mathlib.Core.List.{List, [], _∷_, map}
+use Prim.Native.String.{String}
 use Prim.Native.Nat.{ℕ, zero, suc, _+_, _-_, _*_, _/_, _%_, _≤_, _<_}
 use native.Mathlib.Omega.{arith}
 use lib.Dec.{eqb, leb}
@@ -10,12 +11,16 @@ use lib.Seq.{length-take-le}
 use borrow.Author.Tests.{eqb-true, eq-eqb, ne-eqb, leb-true}
 use Rattle.rules.specs.declared.Cds.{Cds}
 use Rattle.rules.specs.declared.Exceptions.{Exceptions}
-use Rattle.rules.specs.Bytes.{if_then_else_, all, _↯_, firstOf}
+use Rattle.rules.specs.declared.Form.{Form}
+use Rattle.rules.specs.declared.Form.the-variants.{Packed}
+use Rattle.rules.specs.Bytes.{bytes, if_then_else_, all, _↯_, firstOf, unless}
 use Rattle.rules.specs.Letters.{letterSet, isLetter}
-use Rattle.rules.specs.Reference.{size, isSize, referenceTests}
-use Rattle.rules.specs.Packed.{halves, setAt, letterOf, lettersIn, halfUp, unpacked, packedTests}
+use Rattle.rules.specs.Reference.{Reference, size, isSize, referenceTests, atStop}
+use Rattle.rules.specs.Packed.{halves, setAt, letterOf, lettersIn, halfUp, unpacked, packedTests, lettersBy, formAt}
 use Rattle.rules.specs.Views.{referenceOf}
+use Rattle.rules.specs.Opened.{opened}
 use Rattle.rules.proofs.Tests.{and-left}
+use Rattle.rules.proofs.Doubtful.{Decided, _⇒_, edited, shown}
 
 pub length-halves : (bs : List ℕ) → length (halves bs) ≡ length bs * 2
 unfolding halves
@@ -102,3 +107,40 @@ module _ (longest n : ℕ) (bs : List ℕ) (c : Cds) (e : Exceptions) where
       by false true spare lettered h k l m = first-two (unpacked n bs) false _ (ap (isSize longest) (length-unpacked n bs k) ∙ h) refl ∙ sym (of-bytes false true spare lettered h k l m)
       by true true true lettered h k l m = first-two (unpacked n bs) true lettered (ap (isSize longest) (length-unpacked n bs k) ∙ h) (ap (all isLetter) (spare-zero n bs k l) ∙ m) ∙ sym (of-bytes true true true lettered h k l m)
       by true true false lettered h k l m = first-two (unpacked n bs) true false (ap (isSize longest) (length-unpacked n bs k) ∙ h) (ap (all isLetter) (spare-used n bs k l) ∙ none-letters n (sized-some h)) ∙ sym (of-bytes true true false lettered h k l m)
+
+-- letters of a form, a CDS from cs to their last
+abbrev coding : ℕ → Form → List ℕ → Reference
+coding cs f bs = record { letters = lettersBy f bs; cs = cs; ce = length (lettersBy f bs); table = 0; exceptions = []; end = atStop }
+
+-- the letters, unless 1 or 2 refuses them
+abbrev heldIn : Form → List ℕ → List ℕ
+heldIn f bs = shown (unless (firstOf (take 2 (referenceTests 16384 (coding 1 f bs)))) (lettersBy f bs))
+
+abbrev packedIn : List Decided
+packedIn =
+    -- the first letter is high, and L is a number of the call
+    heldIn (Packed 3) (0x18 ∷ 0x40 ∷ []) ⇒ "ATG"
+    ∷ heldIn (Packed 6) (0x18 ∷ 0x48 ∷ 0x11 ∷ []) ⇒ "ATGTAA"
+    ∷ heldIn (Packed 15) (0x12 ∷ 0x48 ∷ 0x5a ∷ 0x69 ∷ 0xc3 ∷ 0xed ∷ 0xb7 ∷ 0xf0 ∷ []) ⇒ "ACGTRYSWKMBDHVN"
+    -- another number of bytes is 1, whatever they hold; so is L 0
+    ∷ heldIn (Packed 7) (0x18 ∷ 0x48 ∷ 0x11 ∷ []) ⇒ "refused 1"
+    ∷ heldIn (Packed 3) (0x18 ∷ 0x40 ∷ 0x00 ∷ []) ⇒ "refused 1"
+    ∷ heldIn (Packed 0) [] ⇒ "refused 1"
+    -- the spare half, and an empty set within L
+    ∷ heldIn (Packed 3) (0x18 ∷ 0x41 ∷ []) ⇒ "refused 2"
+    ∷ heldIn (Packed 5) (0x18 ∷ 0x48 ∷ 0x11 ∷ []) ⇒ "refused 2"
+    ∷ heldIn (Packed 3) (0x08 ∷ 0x40 ∷ []) ⇒ "refused 2"
+    ∷ heldIn (Packed 6) (0x18 ∷ 0x40 ∷ 0x11 ∷ []) ⇒ "refused 2"
+    -- forms by a host's numbers: 0 doesn't look at the size, any but 0 and 1 is 1
+    ∷ heldIn (formAt 0 9) (bytes "ATG") ⇒ "ATG"
+    ∷ heldIn (formAt 1 3) (0x18 ∷ 0x40 ∷ []) ⇒ "ATG"
+    ∷ heldIn (formAt 2 3) (0x18 ∷ 0x40 ∷ []) ⇒ "refused 1"
+    ∷ heldIn (formAt 257 3) (bytes "ATG") ⇒ "refused 1"
+    -- then as unpacked: 3 and so on, and the edit's answer
+    ∷ edited (coding 0 (Packed 6) (0x18 ∷ 0x48 ∷ 0x11 ∷ [])) "0del" ⇒ "refused 3"
+    ∷ edited (coding 1 (Packed 6) (0x18 ∷ 0x48 ∷ 0x11 ∷ [])) "1A>G" ⇒ "start-lost 1 M V"
+    ∷ []
+
+pub all-packed : map (λ (d : Decided). d .computed) packedIn ≡ map (λ (d : Decided). bytes (d .answer)) packedIn
+unfolding opened
+all-packed = refl

@@ -45,8 +45,8 @@ unpacked n bs =
     else if not (eqb (setAt bs n) 0) then replicate n 0
     else take n (lettersIn bs)
 
--- 1: L is 0 or above the limit, or the byte count isn't half of L, rounded up; 2: the spare half isn't zero, or a letter set is empty. Proved to be the
--- refusals of the letters that are held
+-- 1: L is 0 or above the limit, or the byte count isn't half of L, rounded up; 2: the spare half isn't zero, or a letter set is empty. These are
+-- the refusals of the letters that the bytes hold: proofs/Packed has the proof
 unfoldable pub packedTests : ℕ → ℕ → List ℕ → List Test
 packedTests longest n bs =
     not (isSize longest n && eqb (length bs) (halfUp n)) ↯ 1
@@ -58,8 +58,8 @@ abbrev pub lettersBy : Form → List ℕ → List ℕ
 lettersBy Bytes s = s
 lettersBy (Packed n) s = unpacked n s
 
--- the form of a host's two numbers: 0, a byte a letter, and the size isn't looked at; 1, packed, the size is L. Any other is no form; it stands as no
--- packed letters, which is refused with 1
+-- the form of a host's two numbers: 0, a byte a letter, and the size isn't looked at; 1, packed, the size is L. Any other is no form; it stands as
+-- packed with L 0, which is refused with 1
 abbrev pub formAt : ℕ → ℕ → Form
 formAt zero size = Bytes
 formAt (suc zero) size = Packed size
