@@ -10,11 +10,12 @@ use native.Mathlib.Decide.{decLt}
 use borrow.Author.Tests.{lt-ltb, le-ltb, eq-eqb, ne-eqb}
 use lib.Dec.{eqb, ltb}
 use lib.ListN.{length, take, drop, getD, length-take, length-drop}
+use lib.Seq.{take-nil, getD-take, getD-drop, drop-drop}
 use Rattle.rules.specs.declared.Exceptions.{Exceptions}
 use Rattle.rules.specs.Bytes.{byte, if_then_else_, all}
 use Rattle.rules.specs.Letters.{letterSet, isLetter}
 use Rattle.rules.specs.Codons.{residueX, codonRule, codon}
-use Rattle.rules.specs.Altered.{framed, hasStop, throughStopCodon, cutAtStop}
+use Rattle.rules.specs.Altered.{part, framed, hasStop, throughStopCodon, cutAtStop}
 use Rattle.rules.specs.Translation.{exceptionList, excepted, residuesFrom, translated, residueCount, beforeStop, wholeCodons, foldedTranslated}
 use Rattle.rules.proofs.Lists.{all-at}
 use Rattle.rules.proofs.Translation.{length-translated}
@@ -26,6 +27,23 @@ use Rattle.translation.specs.Residues.{Reads}
 use Rattle.translation.proofs.Strict.{strict-letters, strict-whole, whole-bases, bases-fold}
 use Rattle.edits.specs.declared.cut.Cut.{Cut}
 use Rattle.edits.specs.Cuts.{cutOf, Cuts}
+
+-- a letter of a part, and what is left behind its first n
+pub part-at : (start end i : ℕ) (s : List ℕ) → i < end - start → getD s (start + i) 0 ≡ getD (part start end s) i 0
+unfolding part
+part-at start end i s h = sym (getD-take (end - start) (drop start s) i 0 h ∙ getD-drop start s i 0)
+
+drop-take : (a n : ℕ) (s : List ℕ) → drop a (take n s) ≡ take (n - a) (drop a s)
+drop-take zero n s = let all : n ≡ n - 0 = omega arith in ap (λ (k : ℕ). take k s) all
+drop-take (suc a) zero s = let none : 0 ≡ 0 - suc a = omega arith in ap (λ (k : ℕ). take k (drop (suc a) s)) none
+drop-take (suc a) (suc n) [] = sym (take-nil (suc n - suc a))
+drop-take (suc a) (suc n) (x ∷ s) = let same : n - a ≡ suc n - suc a = omega arith in drop-take a n s ∙ ap (λ (k : ℕ). take k (drop a s)) same
+
+pub part-behind : (start end n : ℕ) (s : List ℕ) → part (start + n) end s ≡ drop n (part start end s)
+unfolding part
+part-behind start end n s =
+    let left : end - start - n ≡ end - (start + n) = omega arith in
+    sym (drop-take n (end - start) (drop start s) ∙ rw (drop-drop n start s, left))
 
 -- a part of what can be cut can be cut
 pub cuts-part : (t n i : ℕ) (plain : Bool) (put : List ℕ) → Cuts t plain put → Cuts t plain (take n (drop i put))

@@ -25,7 +25,7 @@ ghost use mathlib.Core.Path.{_≡_};
 ghost use mathlib.Core.Bool.{true};
 ghost use Prim.Native.Nat.{_-_, _≤_, _<_};
 ghost use lib.ListN.{length, getD};
-ghost use Rattle.rules.specs.Bytes.{all, over};
+ghost use Rattle.rules.specs.Bytes.{all, same, over};
 ghost use Rattle.rules.specs.Letters.{letterSet, isLetter};
 ghost use Rattle.rules.specs.Translation.{exceptionList, beforeStop, wholeCodons, foldedTranslated};
 ghost use Rattle.rules.specs.Trims.{commonPrefix, commonSuffix};
@@ -144,6 +144,17 @@ pub fn prefix_by(letters: &[u8], form: Form, from: usize, to: usize, new: &[u8])
             part_prefix_len(letters, from, to, &pairs, new)
         }
     }
+}
+
+// Whether the letters from..to are the bytes `new`.
+pub fn same_by(letters: &[u8], form: Form, from: usize, to: usize, new: &[u8]) -> bool
+    requires { ⌜ InLetters form (now letters) from to ⌝ }
+    ensures { λ r. ⌜ r ≡ same (part from to (lettersBy form (now (letters .entry)))) (now (new .entry)) ⌝ }
+{
+    if to - from != new.len() {
+        return false;
+    }
+    prefix_by(letters, form, from, to, new) == new.len()
 }
 
 // How many last letters of from..to are equal to the last bytes of `new`.

@@ -14,6 +14,7 @@ pub use forms::copy_letters;
 pub use forms::first_stop_by;
 pub use forms::letter_at;
 pub use forms::prefix_by;
+pub use forms::same_by;
 pub use forms::set_at;
 pub use forms::size_of;
 pub use forms::suffix_by;

@@ -1,19 +1,24 @@
 // Refusals 1 to 5: what is judged of a reference before a codon is read.
 use crate::Judged;
 use codons::letters::is_residue;
+use packed::all_bases_by;
+use packed::all_letters_by;
+use packed::size_of;
 use rules::Cds;
 use rules::Exception;
 use rules::Exceptions;
-use sequences::all_letters;
-use translation::all_bases;
+use rules::Form;
 ghost use mathlib.Core.Path.{_≡_};
 ghost use mathlib.Core.Bool.{_&&_};
+ghost use mathlib.Core.List.{List};
+ghost use Prim.Native.Nat.{ℕ, _<_};
 ghost use lib.Dec.{leb};
 ghost use lib.ListN.{length};
 ghost use Rattle.rules.specs.Bytes.{all};
 ghost use Rattle.rules.specs.Letters.{isLetter};
 ghost use Rattle.rules.specs.Translation.{exceptionList};
 ghost use Rattle.rules.specs.Reference.{fitsEnd, areBounds, areRising};
+ghost use Rattle.rules.specs.Packed.{lettersBy};
 ghost use Rattle.rules.specs.Views.{bare};
 ghost use Rattle.codons.specs.Tables.{isBase};
 ghost use Rattle.reference.specs.Known.{isException, earlyOf};
@@ -25,15 +30,15 @@ fn fits_end(end: usize, n: usize) -> bool
     if end == 2 { n % 3 != 0 } else { n % 3 == 0 }
 }
 
-// 1 <= cs <= ce <= L; ce-cs+1 fits the end and is at least 6.
-fn are_bounds(letters: &[u8], c: Cds) -> bool
-    ensures { λ r. ⌜ r ≡ areBounds (bare (now (letters .entry)) c) ⌝ }
+// 1 <= cs <= ce <= L, which is `size`; ce-cs+1 fits the end and is at least 6.
+pub fn are_bounds(size: usize, c: Cds) -> bool
+    ensures { λ r. ⌜ ((s : List ℕ) → length s ≡ size → r ≡ areBounds (bare s c)) ⌝ }
 {
-    if (c.cs < 1) | (c.ce < c.cs) | (letters.len() < c.ce) {
+    if (c.cs < 1) | (c.ce < c.cs) | (size < c.ce) {
         return false;
     }
-    let size = c.ce - (c.cs - 1);
-    fits_end(c.end, size) & (6 <= size)
+    let coding = c.ce - (c.cs - 1);
+    fits_end(c.end, coding) & (6 <= coding)
 }
 
 // A codon number above `last` and at most `most`, and a residue A to Z or `*`.
@@ -44,7 +49,7 @@ fn is_exception(x: Exception, last: usize, most: usize) -> bool
 }
 
 // At most 16, strictly rising, of `most` codons.
-fn fit_exceptions(e: Exceptions, most: usize) -> bool
+pub fn fit_exceptions(e: Exceptions, most: usize) -> bool
     ensures { λ r. ⌜ r ≡ (leb (length (exceptionList e)) 16 && areRising 0 most (exceptionList e)) ⌝ }
 {
     let count = e.count;
@@ -66,28 +71,36 @@ fn fit_exceptions(e: Exceptions, most: usize) -> bool
 }
 
 // Whether each letter is of the fifteen. Plain ones are, and needn't be looked at again.
-fn are_letters(letters: &[u8], plain: bool) -> bool
-    requires { ⌜ plain ≡ all isBase (now letters) ⌝ }
-    ensures { λ r. ⌜ r ≡ all isLetter (now (letters .entry)) ⌝ }
+fn are_letters(letters: &[u8], form: Form, plain: bool) -> bool
+    requires { ⌜ 0 < length (lettersBy form (now letters)) ⌝ }
+    requires { ⌜ plain ≡ all isBase (lettersBy form (now letters)) ⌝ }
+    ensures { λ r. ⌜ r ≡ all isLetter (lettersBy form (now (letters .entry))) ⌝ }
 {
     if plain {
         return true;
     }
-    all_letters(letters)
+    all_letters_by(letters, form)
 }
 
 // The lowest of 1 to 5 that applies, or whether the letters are plain.
-pub(crate) fn early_refusal(letters: &[u8], c: Cds, e: Exceptions, longest: usize) -> Judged
-    ensures { λ r. ⌜ r ≡ earlyOf longest (now (letters .entry)) c e ⌝ }
+pub(crate) fn early_refusal(
+    letters: &[u8],
+    form: Form,
+    c: Cds,
+    e: Exceptions,
+    longest: usize,
+) -> Judged
+    ensures { λ r. ⌜ r ≡ earlyOf longest (lettersBy form (now (letters .entry))) c e ⌝ }
 {
-    if (letters.len() < 1) | (longest < letters.len()) {
+    let size = size_of(letters, form);
+    if (size < 1) | (longest < size) {
         return Judged::Refused(1);
     }
-    let plain = all_bases(letters);
-    if !are_letters(letters, plain) {
+    let plain = all_bases_by(letters, form);
+    if !are_letters(letters, form, plain) {
         return Judged::Refused(2);
     }
-    if !are_bounds(letters, c) {
+    if !are_bounds(size, c) {
         return Judged::Refused(3);
     }
     if 2 < c.table {

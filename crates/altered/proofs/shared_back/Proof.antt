@@ -9,6 +9,7 @@ use lib.ListN.{length, getD}
 use Rattle.rules.specs.Exceptions.{suffixBehind}
 use Rattle.transcript.specs.Carrying.{carriedBy}
 use Rattle.altered.proofs.Shares.{leftBack, back-starts, back-more, back-stop, back-within}
+use Rattle.rules.specs.Packed.{lettersBy}
 use Rattle.altered.proofs.shared_back.Statement.{statement}
 use Rattle.altered.proofs.shared_back.Tie as tie
 
@@ -26,13 +27,13 @@ loop-holds c =
     let a = c .before .before .before .before .before .args in (
       omega arith,
       omega arith,
-      back-starts (a .plan) (now (a .letters)) (now (a .new)) (c .before .before .before .before .before .pre .0) (a .prefix) (c .least2 .result) (omega arith) (omega arith) (omega arith),
+      back-starts (a .plan) (lettersBy (a .form) (now (a .letters))) (now (a .new)) (c .before .before .before .before .before .pre .0) (a .prefix) (c .least2 .result) (omega arith) (omega arith) (omega arith),
     )
 
 returns : tie.Need-returns Inv-loop μ-loop
 returns c =
     let a = c .before .before .before .before .before .before .before .before .before .before .args in
-    let s = now (a .letters) in
+    let s = lettersBy (a .form) (now (a .letters)) in
     let t = carriedBy (a .plan) s (now (a .new)) in
     let i = c .before .before .before .before .loop .i in
     let at : c .before .letter-at .result ≡ getD t (length t - 1 - i) 0 = c .before .letter-at .ensures ∙ ap (λ (k : ℕ). getD t (k - 1 - i) 0) (c .before .before .before .before .before .before .before .before .before .before .pre .1 .0) in
@@ -41,7 +42,7 @@ returns c =
 loop-again : tie.Need-loop-again Inv-loop μ-loop
 loop-again c =
     let a = c .before .before .before .before .before .before .before .before .before .before .args in
-    let s = now (a .letters) in
+    let s = lettersBy (a .form) (now (a .letters)) in
     let t = carriedBy (a .plan) s (now (a .new)) in
     let i = c .before .before .before .before .loop .i in
     let at : c .before .letter-at .result ≡ getD t (length t - 1 - i) 0 = c .before .letter-at .ensures ∙ ap (λ (k : ℕ). getD t (k - 1 - i) 0) (c .before .before .before .before .before .before .before .before .before .before .pre .1 .0) in
@@ -50,7 +51,7 @@ loop-again c =
 returns-2 : tie.Need-returns-2 Inv-loop μ-loop
 returns-2 c =
     let a = c .before .before .before .before .before .before .before .args in
-    let s = now (a .letters) in
+    let s = lettersBy (a .form) (now (a .letters)) in
     let within = back-within (a .prefix) s (carriedBy (a .plan) s (now (a .new))) (c .before .loop .i) (omega arith) (omega arith) in
     omega (arith, within .0, within .1)
 

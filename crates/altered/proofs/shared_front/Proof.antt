@@ -12,6 +12,7 @@ use Rattle.rules.proofs.Trims.{cp-le-l, cp-le-r, cp-more, cp-stop}
 use Rattle.transcript.specs.Carrying.{carriedBy}
 use Rattle.altered.proofs.Letters.{length-made}
 use Rattle.altered.proofs.Shares.{front-starts}
+use Rattle.rules.specs.Packed.{lettersBy}
 use Rattle.altered.proofs.shared_front.Statement.{statement}
 use Rattle.altered.proofs.shared_front.Tie as tie
 
@@ -28,29 +29,29 @@ loop-holds : tie.Need-loop-holds Inv-loop μ-loop
 loop-holds c =
     let a = c .before .before .before .args in
     let m = c .before .before .before .pre .0 in (
-      omega (arith, length-made (a .plan) (now (a .letters)) (now (a .new)) m, m .rising, m .ends),
+      omega (arith, length-made (a .plan) (lettersBy (a .form) (now (a .letters))) (now (a .new)) m, m .rising, m .ends),
       c .least .ensures,
-      front-starts (a .plan) (now (a .letters)) (now (a .new)) m,
+      front-starts (a .plan) (lettersBy (a .form) (now (a .letters))) (now (a .new)) m,
     )
 
 returns : tie.Need-returns Inv-loop μ-loop
 returns c =
     let a = c .before .before .before .before .before .before .before .before .args in
-    let s = now (a .letters) in
+    let s = lettersBy (a .form) (now (a .letters)) in
     let t = carriedBy (a .plan) s (now (a .new)) in
     omega (arith, cp-stop s t (c .before .before .before .before .loop .i) (omega arith) (omega arith) (λ e. c .if1 .taken (e ∙ sym (c .before .letter-at .ensures))))
 
 loop-again : tie.Need-loop-again Inv-loop μ-loop
 loop-again c =
     let a = c .before .before .before .before .before .before .before .before .args in
-    let s = now (a .letters) in
+    let s = lettersBy (a .form) (now (a .letters)) in
     let t = carriedBy (a .plan) s (now (a .new)) in
     simp add-one (omega (arith, cp-more s t (c .before .before .before .before .loop .i) (omega arith) (omega arith) (c .if1 .left ∙ c .before .letter-at .ensures)))
 
 returns-2 : tie.Need-returns-2 Inv-loop μ-loop
 returns-2 c =
     let a = c .before .before .before .before .before .args in
-    let s = now (a .letters) in
+    let s = lettersBy (a .form) (now (a .letters)) in
     let t = carriedBy (a .plan) s (now (a .new)) in
     let i = c .before .loop .i in
     omega (arith, cp-le-l (drop i s) (drop i t), cp-le-r (drop i s) (drop i t), length-drop i s, length-drop i t)

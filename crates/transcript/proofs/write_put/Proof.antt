@@ -14,41 +14,42 @@ use Rattle.rules.proofs.Over.{copied-as}
 use Rattle.rules.proofs.Parts.{letters-part}
 use Rattle.edits.specs.Plans.{goesIn}
 use Rattle.transcript.proofs.Transcripts.{length-goes-in, new-fits, new-goes-in, copy-fits, copy-goes-in, turned-fits, turned-goes-in}
+use Rattle.rules.specs.Packed.{lettersBy}
 use Rattle.transcript.proofs.write_put.Statement.{statement}
 use Rattle.transcript.proofs.write_put.Tie as tie
 
 slice-aggregate-copy : tie.Need-slice-aggregate-copy
 slice-aggregate-copy c =
     let a = c .before .before .before .before .before .before .args in
-    sym (length-take-le (a .plan .kept) (now (a .new)) (new-fits (a .plan) (now (a .letters)) (now (a .new)) (c .before .before .before .before .before .before .pre .0) (c .before .enum-told .given .1)))
+    sym (length-take-le (a .plan .kept) (now (a .new)) (new-fits (a .plan) (lettersBy (a .form) (now (a .letters))) (now (a .new)) (c .before .before .before .before .before .before .pre .0) (c .before .enum-told .given .1)))
 
 copy-requires : tie.Need-copy-requires
 copy-requires c κs =
     let a = c .before .before .before .before .before .before .before .args in
-    rw (length-take-le (a .plan .kept) (now (a .new)) (new-fits (a .plan) (now (a .letters)) (now (a .new)) (c .before .before .before .before .before .before .before .pre .0) (c .before .before .enum-told .given .1))) (omega arith)
+    rw (length-take-le (a .plan .kept) (now (a .new)) (new-fits (a .plan) (lettersBy (a .form) (now (a .letters))) (now (a .new)) (c .before .before .before .before .before .before .before .pre .0) (c .before .before .enum-told .given .1))) (omega arith)
 
 part-copy-end : tie.Need-part-copy-end
 part-copy-end c =
     let a = c .before .before .before .before .before .args in
-    let fits = copy-fits (a .plan) (now (a .letters)) (now (a .new)) (c .before .before .before .before .before .pre .0) (c .enum-told2 .given .1) in
+    let fits = copy-fits (a .plan) (lettersBy (a .form) (now (a .letters))) (now (a .new)) (c .before .before .before .before .before .pre .0) (c .enum-told2 .given .1) in
     search needs
 
 sub-first : tie.Need-sub-first
 sub-first c =
     let a = c .before .before .before .before .before .args in
-    omega (arith, turned-fits (a .plan) (now (a .letters)) (now (a .new)) (c .before .before .before .before .before .pre .0) (c .enum-told3 .given .1))
+    omega (arith, turned-fits (a .plan) (lettersBy (a .form) (now (a .letters))) (now (a .new)) (c .before .before .before .before .before .pre .0) (c .enum-told3 .given .1))
 
 write-revcomp-requires : tie.Need-write-revcomp-requires
 unfolding part
 write-revcomp-requires c κs =
     let a = c .before .before .before .before .before .before .before .args in
-    let letters = letters-part (a .plan .end - a .plan .kept) (a .plan .end) (now (a .letters)) (c .before .before .before .before .before .before .before .pre .0 .letters-are) in
+    let letters = letters-part (a .plan .end - a .plan .kept) (a .plan .end) (lettersBy (a .form) (now (a .letters))) (c .before .before .before .before .before .before .before .pre .0 .letters-are) in
     (letters, search needs)
 
 returns : tie.Need-returns
 returns c =
     let a = c .before .before .before .before .before .before .before .before .before .before .args in
-    let s = now (a .letters) in
+    let s = lettersBy (a .form) (now (a .letters)) in
     let new = now (a .new) in
     let inside = c .before .before .before .before .before .before .before .before .before .before .pre .0 in
     let one = c .before .before .copy in
@@ -61,7 +62,7 @@ returns-2 : tie.Need-returns-2
 unfolding part
 returns-2 c =
     let a = c .before .before .before .before .before .before .before .before .before .before .args in
-    let s = now (a .letters) in
+    let s = lettersBy (a .form) (now (a .letters)) in
     let new = now (a .new) in
     let inside = c .before .before .before .before .before .before .before .before .before .before .pre .0 in
     let one = c .before .before .copy2 in
@@ -74,7 +75,7 @@ returns-3 : tie.Need-returns-3
 unfolding part
 returns-3 c =
     let a = c .before .before .before .before .before .before .before .before .before .before .args in
-    let turned = turned-goes-in (a .plan) (now (a .letters)) (now (a .new)) (c .before .before .before .before .before .before .before .before .before .before .pre .0) (c .before .before .before .before .before .enum-told3 .given .1) in
+    let turned = turned-goes-in (a .plan) (lettersBy (a .form) (now (a .letters))) (now (a .new)) (c .before .before .before .before .before .before .before .before .before .before .pre .0) (c .before .before .before .before .before .enum-told3 .given .1) in
     (refl, c .before .before .write-revcomp .ensures ∙ ap (λ (l : List ℕ). over l (now (a .out))) turned)
 
 pub write-put-spec : {M : Type 1} → statement M

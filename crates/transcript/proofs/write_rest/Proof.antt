@@ -9,6 +9,7 @@ use lib.ListN.{length, take, drop}
 use Rattle.rules.proofs.Over.{copied-as, lent-on-by, tail-is}
 use Rattle.edits.specs.Plans.{goesIn}
 use Rattle.transcript.proofs.Transcripts.{length-goes-in}
+use Rattle.rules.specs.Packed.{lettersBy}
 use Rattle.transcript.proofs.write_rest.Statement.{statement}
 use Rattle.transcript.proofs.write_rest.Tie as tie
 
@@ -18,7 +19,7 @@ write-put-requires c κs = (c .before .before .before .before .pre .0, omega ari
 returns : tie.Need-returns
 returns c =
     let a = c .before .before .before .before .before .before .before .before .before .before .before .before .args in
-    let s = now (a .letters) in
+    let s = lettersBy (a .form) (now (a .letters)) in
     let put = goesIn (a .plan) s (now (a .new)) in
     let tail = drop (a .plan .to) s in
     let one = c .before .before .before .before .before .before .before .write-put in

@@ -13,14 +13,15 @@ use Rattle.rules.proofs.Over.{copied, lent-on-by}
 use Rattle.edits.specs.Plans.{goesIn}
 use Rattle.transcript.specs.Carrying.{carriedBy}
 use Rattle.transcript.proofs.Transcripts.{length-carried-by}
+use Rattle.rules.specs.Packed.{lettersBy}
 use Rattle.transcript.proofs.write_transcript.Statement.{statement}
 use Rattle.transcript.proofs.write_transcript.Tie as tie
 
 slice-aggregate-copy : tie.Need-slice-aggregate-copy
-slice-aggregate-copy c = let a = c .before .before .before .before .args in sym (length-take-le (a .plan .from) (now (a .letters)) (omega arith))
+slice-aggregate-copy c = let a = c .before .before .before .before .args in sym (length-take-le (a .plan .from) (lettersBy (a .form) (now (a .letters))) (omega arith))
 
 copy-requires : tie.Need-copy-requires
-copy-requires c κs = let a = c .before .before .before .before .before .args in rw (length-take-le (a .plan .from) (now (a .letters)) (omega arith)) (omega arith)
+copy-requires c κs = let a = c .before .before .before .before .before .args in rw (length-take-le (a .plan .from) (lettersBy (a .form) (now (a .letters))) (omega arith)) (omega arith)
 
 write-rest-requires : tie.Need-write-rest-requires
 write-rest-requires c κs = (c .before .before .before .before .before .before .before .before .before .pre .source, (omega arith, search needs))
@@ -29,7 +30,7 @@ returns : tie.Need-returns
 unfolding carriedBy carried
 returns c =
     let a = c .before .before .before .before .before .before .before .before .before .before .before .before .args in
-    let s = now (a .letters) in
+    let s = lettersBy (a .form) (now (a .letters)) in
     let front = take (a .plan .from) s in
     let rest = goesIn (a .plan) s (now (a .new)) ++ drop (a .plan .to) s in
     let one = c .before .before .before .before .before .before .copy in
