@@ -65,12 +65,13 @@ fn transcribe_in(
     ensures { λ _. ⌜ now (transcript .exit) ≡ over (edited limits (referenceOf (lettersBy (asks .form) (now (letters .entry))) (asks .cds) (asks .e)) (asked (asks .edit) (now (new .entry))) (length (now (transcript .entry))) .transcript) (now (transcript .entry)) ⌝ }
 {
     let edit = asks.edit;
-    match check_reference(letters, asks.form, asks.cds, asks.e, LONGEST, protein) {
+    let form = asks.form;
+    match check_reference(letters, form, asks.cds, asks.e, LONGEST, protein) {
         Checked::Refused(n) => Transcribed::Refused(n),
         Checked::Known(known) => match decide(letters, known, MOST, edit, new) {
             Decision::Refused(n) => Transcribed::Refused(n),
             Decision::Unknown => Transcribed::Unknown,
-            Decision::Goes(plan) => { write_alone(letters, known.form, plan, new, transcript) }
+            Decision::Goes(plan) => { write_alone(letters, form, plan, new, transcript) }
         },
     }
 }
@@ -94,7 +95,8 @@ pub fn build_transcript(
     ensures { λ r. ⌜ r ≡ edited limits (referenceOf (lettersBy (asks .form) (now (letters .entry))) (asks .cds) (asks .e)) (asked (asks .edit) (now (new .entry))) (length (now (transcript .entry))) .answer ⌝ }
     ensures { λ _. ⌜ now (transcript .exit) ≡ over (edited limits (referenceOf (lettersBy (asks .form) (now (letters .entry))) (asks .cds) (asks .e)) (asked (asks .edit) (now (new .entry))) (length (now (transcript .entry))) .transcript) (now (transcript .entry)) ⌝ }
 {
-    if SHORT < size_of(letters, asks.form) {
+    let form = asks.form;
+    if SHORT < size_of(letters, form) {
         return transcribe_long(letters, asks, new, transcript);
     }
     let mut protein = [0u8; SHORT_PROTEIN];

@@ -174,7 +174,8 @@ fn answer_in(
 {
     let e = asks.e;
     let edit = asks.edit;
-    match check_reference(letters, asks.form, asks.cds, e, LONGEST, protein) {
+    let form = asks.form;
+    match check_reference(letters, form, asks.cds, e, LONGEST, protein) {
         Checked::Refused(n) => Answer::Refused(n),
         Checked::Known(known) => {
             let residues = known.residues;
@@ -231,7 +232,8 @@ pub fn build_altseq(
         (outcome limits (referenceOf (lettersBy (asks .form) (now (letters .entry))) (asks .cds) (asks .e)) (asked (asks .edit) (now (new .entry))) (roomOf (now (transcript .entry)) (now (reference .entry)) (now (altered .entry))))
         r (now (transcript .entry)) (now (transcript .exit)) (now (reference .entry)) (now (reference .exit)) (now (altered .entry)) (now (altered .exit)) ⌝ }
 {
-    if SHORT < size_of(letters, asks.form) {
+    let form = asks.form;
+    if SHORT < size_of(letters, form) {
         return answer_long(letters, asks, new, transcript, reference, altered);
     }
     let mut protein = [0u8; SHORT_PROTEIN];

@@ -38,7 +38,8 @@ fn write_protein(
 {
     let c = known.cds;
     let first = c.cs - 1;
-    let moved = alt_translation_exceptions(letters, known.form, transcript, first, e);
+    let form = known.form;
+    let moved = alt_translation_exceptions(letters, form, transcript, first, e);
     let plain = known.plain & all_bases(new);
     write_through_stop(&transcript[first..], c.table, plain, moved, altered)
 }
@@ -106,7 +107,8 @@ pub fn carry_out(
     ensures { λ _. ⌜ now (transcript .exit) ≡ over (carriedBy plan (lettersBy (known .form) (now (letters .entry))) (now (new .entry))) (now (transcript .entry)) ⌝ }
     ensures { λ _. ⌜ now (altered .exit) ≡ over (proteinBy (referenceOf (lettersBy (known .form) (now (letters .entry))) (known .cds) e) plan (now (new .entry))) (now (altered .entry)) ⌝ }
 {
-    let n = write_transcript(letters, known.form, plan, new, transcript);
+    let form = known.form;
+    let n = write_transcript(letters, form, plan, new, transcript);
     let made = write_altered(
         letters,
         known,

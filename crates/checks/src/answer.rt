@@ -174,7 +174,8 @@ fn check_in(
     let e = asks.e;
     let edit = asks.edit;
     let number = proposing.number;
-    match check_reference(letters, asks.form, asks.cds, e, LONGEST, protein) {
+    let form = asks.form;
+    match check_reference(letters, form, asks.cds, e, LONGEST, protein) {
         Checked::Refused(n) => Check::Refused(n),
         Checked::Known(known) => {
             let residues = known.residues;
@@ -265,7 +266,8 @@ pub fn check_altseq(
         r (now (transcript .entry)) (now (transcript .exit)) (now (reference .entry)) (now (reference .exit)) (now (altered .entry)) (now (altered .exit)) ⌝ }
 {
     let asks = p.asks;
-    if SHORT < size_of(letters, asks.form) {
+    let form = asks.form;
+    if SHORT < size_of(letters, form) {
         return check_long(
             letters,
             p,

@@ -44,8 +44,9 @@ fn changes(
     if plan.length <= first {
         return false;
     }
-    let moved = moved_over(letters, known.form, plan, new, first, e);
-    !keeps_protein(letters, known.form, c, e, moved, protein, plan, new)
+    let form = known.form;
+    let moved = moved_over(letters, form, plan, new, first, e);
+    !keeps_protein(letters, form, c, e, moved, protein, plan, new)
 }
 
 // 7 to 10, 26 for an Unknown, 11 and 12, 26 where the answer isn't Changed, or what an edit of a checked reference does.

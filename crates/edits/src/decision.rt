@@ -26,7 +26,8 @@ pub fn decide(letters: &[u8], known: Known, most: usize, edit: Edit, new: &[u8])
     ensures { λ r. ⌜ r ≡ decisionOf most (known .several) (bare (lettersBy (known .form) (now (letters .entry))) (known .cds)) (asked edit (now (new .entry))) ⌝ }
 {
     let c = known.cds;
-    let size = size_of(letters, known.form);
+    let form = known.form;
+    let size = size_of(letters, form);
     let refused = edit_refusal(size, c, most, edit, new);
     if refused != 0 {
         return Decision::Refused(refused);
