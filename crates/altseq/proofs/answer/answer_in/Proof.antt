@@ -1,11 +1,12 @@
 -- `altseq::answer::answer_in` meets its contract. Assumes nothing.
-use mathlib.Core.Path.{sym}
+use mathlib.Core.Path.{sym, ap}
 use native.Mathlib.Omega.{arith}
 use borrow.Author.Needs.{needs}
 use lib.Seq.{length-take-le}
+use Rattle.rules.specs.declared.Form.{Form}
 use Rattle.rules.specs.Refusal.{limits}
 use Rattle.rules.specs.Views.{asked, referenceOf, roomOf}
-use Rattle.reference.proofs.Checking.{checked-refused, checked-accepted, protein-held, cds-known, residues-within, knows}
+use Rattle.reference.proofs.Checking.{checked-refused, checked-accepted, protein-held, cds-known, form-known, residues-within, knows}
 use Rattle.altseq.proofs.Answering.{reference-refused}
 use Rattle.altseq.proofs.Whole.{answers-cds}
 use Rattle.rules.specs.Packed.{lettersBy}
@@ -42,8 +43,9 @@ answer-known-requires c κs =
     let x = d .before .before .before .before .before .check-reference in
     let k = d .before .known .given .0 .0 in
     let ok = checked-accepted (limits .longest) (a .asks .form) (lettersBy (a .asks .form) (a .letters .now)) (a .asks .cds) (a .asks .e) (x .result) (x .ensures .0) k (d .before .known .given .1) in
+    let same = ap (λ (f : Form). lettersBy f (a .letters .now)) (form-known limits (a .asks .form) (lettersBy (a .asks .form) (a .letters .now)) (a .asks .cds) (a .asks .e) k (ok .0) (ok .1)) in
     let held = protein-held (limits .longest) (lettersBy (a .asks .form) (a .letters .now)) (a .asks .cds) (a .asks .e) _ _ (ok .0) (x .ensures .1) in
-    knows limits (a .asks .form) (lettersBy (a .asks .form) (a .letters .now)) (a .asks .cds) (a .asks .e) k (ok .0) (ok .1) _ _ held (omega arith)
+    rw same (knows limits (a .asks .form) (lettersBy (a .asks .form) (a .letters .now)) (a .asks .cds) (a .asks .e) k (ok .0) (ok .1) _ _ held (omega arith))
 
 returns : tie.Need-returns
 returns c =
@@ -61,8 +63,9 @@ returns-2 c =
     let x = d .before .before .before .before .before .check-reference in
     let k = d .before .known .given .0 .0 in
     let ok = checked-accepted (limits .longest) (a .asks .form) (lettersBy (a .asks .form) (a .letters .now)) (a .asks .cds) (a .asks .e) (x .result) (x .ensures .0) k (d .before .known .given .1) in
+    let same = ap (λ (f : Form). lettersBy f (a .letters .now)) (form-known limits (a .asks .form) (lettersBy (a .asks .form) (a .letters .now)) (a .asks .cds) (a .asks .e) k (ok .0) (ok .1)) in
     answers-cds (lettersBy (a .asks .form) (a .letters .now)) (k .cds) (a .asks .cds) (a .asks .e) (asked (a .asks .edit) (a .new .now)) (roomOf (a .transcript .now) (a .reference .now) (a .altered .now)) _ (a .transcript .now) _ (a .reference .now) _ (a .altered .now) _
-    (cds-known limits (a .asks .form) (lettersBy (a .asks .form) (a .letters .now)) (a .asks .cds) (a .asks .e) k (ok .0) (ok .1)) (e .answer-known .ensures)
+    (cds-known limits (a .asks .form) (lettersBy (a .asks .form) (a .letters .now)) (a .asks .cds) (a .asks .e) k (ok .0) (ok .1)) (rw same at (e .answer-known .ensures))
 
 pub answer-in-spec : {M : Type 1} → statement M
 answer-in-spec =
