@@ -13,8 +13,9 @@ use Rattle.altseq.proofs.answer.decide_in.Tie as tie
 
 decide-requires : tie.Need-decide-requires
 decide-requires c κs =
+    let a = c .before .before .args in
     let x = c .before .before .pre in
-    (checks limits (c .before .before .args .letters .now) (c .before .before .args .known) (x .exceptions) (x .protein) (x .known), omega arith)
+    (checks limits (lettersBy (a .known .form) (a .letters .now)) (a .known) (x .exceptions) (x .protein) (x .known), omega arith)
 
 with-room-requires : tie.Need-with-room-requires
 with-room-requires c κs =

@@ -15,7 +15,9 @@ sub-first : tie.Need-sub-first
 sub-first c = omega (arith, c .before .before .before .before .before .before .pre .sound .bounds .first)
 
 alt-translation-exceptions-requires : tie.Need-alt-translation-exceptions-requires
-alt-translation-exceptions-requires c κs = (c .before .before .before .before .before .before .pre .moves, c .before .before .before .before .before .before .pre .given)
+alt-translation-exceptions-requires c κs =
+    let x = c .before .before .before .before .before .before .pre in
+    (x .sound .letters, (x .moves, x .given))
 
 sub-write-through-stop : tie.Need-sub-write-through-stop
 sub-write-through-stop c = omega (arith, c .before .before .before .before .before .before .before .before .before .pre .front)
