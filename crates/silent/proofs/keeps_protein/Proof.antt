@@ -16,12 +16,12 @@ use Rattle.silent.proofs.keeps_protein.Statement.{statement}
 use Rattle.silent.proofs.keeps_protein.Tie as tie
 
 abbrev Inv-loop : tie.InvT-loop
-Inv-loop letters c moved protein plan new first whole rest count k₀ k =
-    (sameFrom (c .table) (exceptionList moved) (drop (c .cs - 1) (carriedBy plan letters new)) protein k ≡ same protein (proteinWith c moved plan letters new))
+Inv-loop letters form c moved protein plan new first whole rest count k₀ k =
+    (sameFrom (c .table) (exceptionList moved) (drop (c .cs - 1) (carriedBy plan (lettersBy form letters) new)) protein k ≡ same protein (proteinWith c moved plan (lettersBy form letters) new))
     × (k ≤ (plan .length - (c .cs - 1)) / 3)
 
 abbrev μ-loop : tie.MeasureT-loop
-μ-loop letters c moved protein plan new first whole rest count k₀ k = (plan .length - (c .cs - 1)) / 3 - k
+μ-loop letters form c moved protein plan new first whole rest count k₀ k = (plan .length - (c .cs - 1)) / 3 - k
 
 sub-first : tie.Need-sub-first Inv-loop μ-loop
 sub-first c =
