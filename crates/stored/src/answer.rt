@@ -7,6 +7,8 @@ use altseq::build_altseq;
 use fields::bytes_at;
 use rules::Answer;
 use rules::Edit;
+use rules::Form;
+use rules::Question;
 ghost use Rattle.rules.specs.Refusal.{limits};
 ghost use Rattle.rules.specs.Stored.{storedReference};
 ghost use Rattle.rules.specs.Answer.{outcome, Answers};
@@ -30,11 +32,16 @@ fn answer_at(
         r (now (transcript .entry)) (now (transcript .exit)) (now (reference .entry)) (now (reference .exit)) (now (altered .entry)) (now (altered .exit)) ⌝ }
 {
     let e = exceptions_in(bytes_at(s, p.exceptions));
-    build_altseq(
-        bytes_at(s, p.letters),
-        p.cds,
+    let cds = p.cds;
+    let asks = Question {
+        form: Form::Bytes,
+        cds,
         e,
         edit,
+    };
+    build_altseq(
+        bytes_at(s, p.letters),
+        asks,
         new,
         transcript,
         reference,

@@ -6,6 +6,7 @@ use crate::places::find_stored;
 use fields::bytes_at;
 use reference::Judged;
 use reference::judge_reference;
+use rules::Form;
 use rules::LONGEST;
 ghost use mathlib.Core.Path.{_≡_};
 ghost use Rattle.rules.specs.Refusal.{limits, referenceRefusal};
@@ -18,7 +19,7 @@ fn refusal_at(s: &[u8], p: StoredAt) -> usize
     ensures { λ r. ⌜ r ≡ referenceRefusal (limits .longest) (placedReference (now (s .entry)) p) ⌝ }
 {
     let e = exceptions_in(bytes_at(s, p.exceptions));
-    match judge_reference(bytes_at(s, p.letters), p.cds, e, LONGEST) {
+    match judge_reference(bytes_at(s, p.letters), Form::Bytes, p.cds, e, LONGEST) {
         Judged::Refused(n) => n,
         Judged::Clear { plain: _ } => 0,
     }
