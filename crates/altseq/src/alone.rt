@@ -70,12 +70,7 @@ fn transcribe_in(
 }
 
 // The altered transcript of an edit of a reference of any length.
-fn transcribe_long(
-    letters: &[u8],
-    asks: Question,
-    new: &[u8],
-    transcript: &mut [u8],
-) -> Transcribed
+fn transcribe_long(letters: &[u8], asks: Question, new: &[u8], transcript: &mut [u8]) -> Transcribed
     ensures { λ r. ⌜ r ≡ edited limits (referenceOf (now (letters .entry)) (asks .cds) (asks .e)) (asked (asks .edit) (now (new .entry))) (length (now (transcript .entry))) .answer ⌝ }
     ensures { λ _. ⌜ now (transcript .exit) ≡ over (edited limits (referenceOf (now (letters .entry)) (asks .cds) (asks .e)) (asked (asks .edit) (now (new .entry))) (length (now (transcript .entry))) .transcript) (now (transcript .entry)) ⌝ }
 {

@@ -205,7 +205,15 @@ fn answer_long(
         r (now (transcript .entry)) (now (transcript .exit)) (now (reference .entry)) (now (reference .exit)) (now (altered .entry)) (now (altered .exit)) ⌝ }
 {
     let mut protein = [0u8; LONGEST_PROTEIN];
-    answer_in(letters, asks, new, &mut protein, transcript, reference, altered)
+    answer_in(
+        letters,
+        asks,
+        new,
+        &mut protein,
+        transcript,
+        reference,
+        altered,
+    )
 }
 
 // The answer to an edit of a reference: refusals 1 to 12, Unknown, or a report of what the three buffers hold. A short reference doesn't pay
@@ -229,5 +237,13 @@ pub fn build_altseq(
         return answer_long(letters, asks, new, transcript, reference, altered);
     }
     let mut protein = [0u8; SHORT_PROTEIN];
-    answer_in(letters, asks, new, &mut protein, transcript, reference, altered)
+    answer_in(
+        letters,
+        asks,
+        new,
+        &mut protein,
+        transcript,
+        reference,
+        altered,
+    )
 }

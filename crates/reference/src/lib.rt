@@ -15,6 +15,8 @@ ghost use Rattle.rules.specs.Views.{referenceOf};
 ghost use Rattle.reference.specs.Known.{HasRoom, proteinUnless, checkedOf};
 pub use stop::is_short_end;
 pub use stop::judge_reference;
+pub use tests::are_bounds;
+pub use tests::fit_exceptions;
 
 // What is known of a reference that isn't refused; its letters, its exceptions and R are lent beside it. `residues` is R's length. The letters
 // are plain if each is one base. `several` is whether R has more than one stop.
