@@ -134,7 +134,7 @@ contentsOf fs =
 unfoldable pub joinedLetters : Contents → List ℕ
 joinedLetters c = orEmpty (c .letters) ++ orEmpty (c .second) ++ orEmpty (c .third)
 
--- 22: tag 1 or 3 missing, or both of 2 and 7
+-- 22: tag 1 or 3 missing, or neither of 2 and 7 there
 unfoldable pub isIncomplete : Contents → Bool
 isIncomplete c = not (isThere (c .letters)) || not (isThere (c .bounds) || isThere (c .wide)) || not (isThere (c .table))
 
@@ -161,10 +161,10 @@ pub record Bounds : Type 0 where
   pub cs : ℕ
   pub ce : ℕ
 
--- cs and ce, two bytes each or four
+-- cs and ce, two bytes each in tag 2, or without it four bytes each in tag 7
 unfoldable pub boundsIn : Option (List ℕ) → List ℕ → Bounds
-boundsIn none s = record { cs = fourBytes (getD s 0 0) (getD s 1 0) (getD s 2 0) (getD s 3 0); ce = fourBytes (getD s 4 0) (getD s 5 0) (getD s 6 0) (getD s 7 0) }
-boundsIn (some s) t = record { cs = twoBytes (getD s 0 0) (getD s 1 0); ce = twoBytes (getD s 2 0) (getD s 3 0) }
+boundsIn none wide = record { cs = fourBytes (getD wide 0 0) (getD wide 1 0) (getD wide 2 0) (getD wide 3 0); ce = fourBytes (getD wide 4 0) (getD wide 5 0) (getD wide 6 0) (getD wide 7 0) }
+boundsIn (some s) wide = record { cs = twoBytes (getD s 0 0) (getD s 1 0); ce = twoBytes (getD s 2 0) (getD s 3 0) }
 
 -- the reference that contents hold; without tag 8 the CDS ends at a stop
 unfoldable pub referenceIn : Contents → Reference
@@ -207,3 +207,11 @@ fitted room joined (given r) = if joined && ltb room (size r) then refused 29 el
 
 unfoldable pub readReference : ℕ → ℕ → List ℕ → Result Reference
 readReference longest room s = fitted room (isJoined (fields referenceForm s)) (storedReference longest s)
+
+-- what the buffer holds from its start then: the joined letters
+unfoldable pub joinedBy : Bool → Result Reference → List ℕ
+joinedBy joined (refused n) = []
+joinedBy joined (given r) = if joined then r .letters else []
+
+unfoldable pub writtenJoined : ℕ → ℕ → List ℕ → List ℕ
+writtenJoined longest room s = joinedBy (isJoined (fields referenceForm s)) (readReference longest room s)

@@ -68,7 +68,7 @@ pub const LONGEST_PROTEIN: usize = 43691;
 
 pub const MOST: usize = 4096;
 
-// A transcript that is no longer is short: its protein has room in few residues.
+// The longest transcript whose protein goes to the smaller of two rooms, and that room.
 pub const SHORT: usize = 16384;
 
 pub const SHORT_PROTEIN: usize = 5462;
