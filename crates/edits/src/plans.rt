@@ -202,15 +202,8 @@ fn insert_copy(letters: &[u8], known: Known, range: Range, number: usize) -> Pla
     let end = range.end;
     let frame = (end - (c.cs - 1)) % 3;
     let cut = insert_stop_seq_end(letters, form, start, end, frame, c.table, known.plain);
-    insert(
-        size_of(letters, form),
-        range,
-        Source::Copy,
-        end,
-        end - start,
-        cut,
-        number,
-    )
+    let size = size_of(letters, form);
+    insert(size, range, Source::Copy, end, end - start, cut, number)
 }
 
 // Inversion and identity, and an unknown kind: as many bases as there were.
