@@ -3,3 +3,4 @@ pub mod Cases
 pub mod Places
 pub mod Order
 pub mod Contents
+pub mod Written

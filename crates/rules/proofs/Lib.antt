@@ -32,3 +32,4 @@ pub mod KindNumbers
 pub mod Thirteen
 pub mod Doubtful
 pub mod Requested
+pub mod Fields

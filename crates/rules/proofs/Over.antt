@@ -75,3 +75,15 @@ from-more n x p d h =
 
 pub from-turn : (n x : ℕ) (p q d e : List ℕ) → n < length d → p ≡ x ∷ q → overFrom n p d ≡ e → overFrom (n + 1) q (set d n x) ≡ e
 from-turn n x p q d e h t i = sym (from-more n x q d h) ∙ ap (λ (l : List ℕ). overFrom n l d) (sym t) ∙ i
+
+-- one byte stored, and two
+pub one-stored : (x : ℕ) (d : List ℕ) → 1 ≤ length d → set d 0 x ≡ over (x ∷ []) d
+unfolding over
+one-stored x [] h = absurd (omega arith)
+one-stored x (a ∷ d) h = refl
+
+pub two-stored : (x y : ℕ) (d : List ℕ) → 2 ≤ length d → set (set d 0 x) 1 y ≡ over (x ∷ y ∷ []) d
+unfolding over
+two-stored x y [] h = absurd (omega arith)
+two-stored x y (a ∷ []) h = absurd (omega arith)
+two-stored x y (a ∷ b ∷ d) h = refl

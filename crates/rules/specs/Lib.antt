@@ -22,6 +22,7 @@ pub mod Answer
 pub mod Check
 pub mod Values
 pub mod Stored
+pub mod Storing
 pub mod Number
 pub mod Line
 pub mod Run
