@@ -10,12 +10,16 @@ use rules::Exceptions;
 use rules::LONGEST;
 use rules::LONGEST_PROTEIN;
 use rules::MOST;
+use rules::Question;
+use rules::SHORT;
+use rules::SHORT_PROTEIN;
 use transcript::write_transcript;
 ghost use mathlib.Core.Path.{_≡_};
 ghost use lib.ListN.{length};
 ghost use Rattle.rules.specs.Bytes.{over};
 ghost use Rattle.rules.specs.Refusal.{limits};
 ghost use Rattle.rules.specs.Views.{asked, referenceOf};
+ghost use Rattle.reference.specs.Known.{HasRoom};
 ghost use Rattle.transcript.specs.Carrying.{Fits};
 ghost use Rattle.altseq.specs.Transcribing.{edited, madeBy};
 
@@ -42,6 +46,38 @@ fn write_alone(letters: &[u8], plan: Plan, new: &[u8], transcript: &mut [u8]) ->
     }
 }
 
+// The altered transcript of an edit of a reference, with room for R.
+fn transcribe_in(
+    letters: &[u8],
+    asks: Question,
+    new: &[u8],
+    protein: &mut [u8],
+    transcript: &mut [u8],
+) -> Transcribed
+    requires { ⌜ HasRoom (limits .longest) (now letters) (length (now protein)) ⌝ }
+    ensures { λ r. ⌜ r ≡ edited limits (referenceOf (now (letters .entry)) (asks .cds) (asks .e)) (asked (asks .edit) (now (new .entry))) (length (now (transcript .entry))) .answer ⌝ }
+    ensures { λ _. ⌜ now (transcript .exit) ≡ over (edited limits (referenceOf (now (letters .entry)) (asks .cds) (asks .e)) (asked (asks .edit) (now (new .entry))) (length (now (transcript .entry))) .transcript) (now (transcript .entry)) ⌝ }
+{
+    let edit = asks.edit;
+    match check_reference(letters, asks.cds, asks.e, LONGEST, protein) {
+        Checked::Refused(n) => Transcribed::Refused(n),
+        Checked::Known(known) => match decide(letters, known, MOST, edit, new) {
+            Decision::Refused(n) => Transcribed::Refused(n),
+            Decision::Unknown => Transcribed::Unknown,
+            Decision::Goes(plan) => write_alone(letters, plan, new, transcript),
+        },
+    }
+}
+
+// The altered transcript of an edit of a reference of any length.
+fn transcribe_long(letters: &[u8], asks: Question, new: &[u8], transcript: &mut [u8]) -> Transcribed
+    ensures { λ r. ⌜ r ≡ edited limits (referenceOf (now (letters .entry)) (asks .cds) (asks .e)) (asked (asks .edit) (now (new .entry))) (length (now (transcript .entry))) .answer ⌝ }
+    ensures { λ _. ⌜ now (transcript .exit) ≡ over (edited limits (referenceOf (now (letters .entry)) (asks .cds) (asks .e)) (asked (asks .edit) (now (new .entry))) (length (now (transcript .entry))) .transcript) (now (transcript .entry)) ⌝ }
+{
+    let mut protein = [0u8; LONGEST_PROTEIN];
+    transcribe_in(letters, asks, new, &mut protein, transcript)
+}
+
 // The altered transcript of an edit of a reference: refusals 1 to 11, Unknown, or what the buffer holds.
 pub fn build_transcript(
     letters: &[u8],
@@ -54,13 +90,10 @@ pub fn build_transcript(
     ensures { λ r. ⌜ r ≡ edited limits (referenceOf (now (letters .entry)) cds e) (asked edit (now (new .entry))) (length (now (transcript .entry))) .answer ⌝ }
     ensures { λ _. ⌜ now (transcript .exit) ≡ over (edited limits (referenceOf (now (letters .entry)) cds e) (asked edit (now (new .entry))) (length (now (transcript .entry))) .transcript) (now (transcript .entry)) ⌝ }
 {
-    let mut protein = [0u8; LONGEST_PROTEIN];
-    match check_reference(letters, cds, e, LONGEST, &mut protein) {
-        Checked::Refused(n) => Transcribed::Refused(n),
-        Checked::Known(known) => match decide(letters, known, MOST, edit, new) {
-            Decision::Refused(n) => Transcribed::Refused(n),
-            Decision::Unknown => Transcribed::Unknown,
-            Decision::Goes(plan) => write_alone(letters, plan, new, transcript),
-        },
+    let asks = Question { cds, e, edit };
+    if SHORT < letters.len() {
+        return transcribe_long(letters, asks, new, transcript);
     }
+    let mut protein = [0u8; SHORT_PROTEIN];
+    transcribe_in(letters, asks, new, &mut protein, transcript)
 }

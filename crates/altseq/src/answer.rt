@@ -13,8 +13,11 @@ use rules::Exceptions;
 use rules::LONGEST;
 use rules::LONGEST_PROTEIN;
 use rules::MOST;
+use rules::Question;
 use rules::Record;
 use rules::Report;
+use rules::SHORT;
+use rules::SHORT_PROTEIN;
 ghost use mathlib.Core.Path.{_≡_};
 ghost use Prim.Native.Nat.{_≤_};
 ghost use lib.ListN.{length};
@@ -22,6 +25,7 @@ ghost use Rattle.rules.specs.Bytes.{over};
 ghost use Rattle.rules.specs.Refusal.{limits};
 ghost use Rattle.rules.specs.Answer.{unknownReport, outcome, Answers};
 ghost use Rattle.rules.specs.Views.{bare, asked, referenceOf, roomOf};
+ghost use Rattle.reference.specs.Known.{HasRoom, Knows};
 ghost use Rattle.edits.specs.declared.plans.Plan.{Plan};
 ghost use Rattle.altseq.specs.Carried.{Carries};
 ghost use Rattle.altseq.specs.Decided.{decidedIn, decidedOutcome, Accepts, referenceIn, Copies};
@@ -103,7 +107,117 @@ pub fn decide_in(
     with_room(decided, known.cds, transcript, reference, altered)
 }
 
-// The answer to an edit of a reference: refusals 1 to 12, Unknown, or a report of what the three buffers hold.
+// An edit of a reference that was checked: what is known of it, its exceptions, and the edit. The letters, R and the new bases are lent beside
+// them.
+pub struct Ready {
+    pub known: Known,
+    pub e: Exceptions,
+    pub edit: Edit,
+}
+
+// The answer to an edit of a checked reference: refusals 7 to 12, Unknown, or a report of what the three buffers hold.
+pub fn answer_known(
+    letters: &[u8],
+    ready: Ready,
+    protein: &[u8],
+    new: &[u8],
+    transcript: &mut [u8],
+    reference: &mut [u8],
+    altered: &mut [u8],
+) -> Answer
+    requires { ⌜ Knows limits (now letters) (ready .known) (ready .e) (now protein) ⌝ }
+    ensures { λ r. ⌜ Answers
+        (outcome limits (referenceOf (now (letters .entry)) (ready .known .cds) (ready .e)) (asked (ready .edit) (now (new .entry))) (roomOf (now (transcript .entry)) (now (reference .entry)) (now (altered .entry))))
+        r (now (transcript .entry)) (now (transcript .exit)) (now (reference .entry)) (now (reference .exit)) (now (altered .entry)) (now (altered .exit)) ⌝ }
+{
+    let known = ready.known;
+    let e = ready.e;
+    let edit = ready.edit;
+    let decision = decide_in(
+        letters,
+        known,
+        edit,
+        new,
+        transcript.len(),
+        reference.len(),
+        altered.len(),
+    );
+    let answer = answer_decided(
+        letters,
+        known,
+        e,
+        protein,
+        decision,
+        new,
+        transcript,
+        altered,
+    );
+    copy_reference(answer, protein, reference);
+    answer
+}
+
+// The answer to an edit of a reference, with room for R.
+fn answer_in(
+    letters: &[u8],
+    asks: Question,
+    new: &[u8],
+    protein: &mut [u8],
+    transcript: &mut [u8],
+    reference: &mut [u8],
+    altered: &mut [u8],
+) -> Answer
+    requires { ⌜ HasRoom (limits .longest) (now letters) (length (now protein)) ⌝ }
+    ensures { λ r. ⌜ Answers
+        (outcome limits (referenceOf (now (letters .entry)) (asks .cds) (asks .e)) (asked (asks .edit) (now (new .entry))) (roomOf (now (transcript .entry)) (now (reference .entry)) (now (altered .entry))))
+        r (now (transcript .entry)) (now (transcript .exit)) (now (reference .entry)) (now (reference .exit)) (now (altered .entry)) (now (altered .exit)) ⌝ }
+{
+    let e = asks.e;
+    let edit = asks.edit;
+    match check_reference(letters, asks.cds, e, LONGEST, protein) {
+        Checked::Refused(n) => Answer::Refused(n),
+        Checked::Known(known) => {
+            let residues = known.residues;
+            let ready = Ready { known, e, edit };
+            answer_known(
+                letters,
+                ready,
+                &protein[..residues],
+                new,
+                transcript,
+                reference,
+                altered,
+            )
+        }
+    }
+}
+
+// The answer to an edit of a reference of any length.
+fn answer_long(
+    letters: &[u8],
+    asks: Question,
+    new: &[u8],
+    transcript: &mut [u8],
+    reference: &mut [u8],
+    altered: &mut [u8],
+) -> Answer
+    ensures { λ r. ⌜ Answers
+        (outcome limits (referenceOf (now (letters .entry)) (asks .cds) (asks .e)) (asked (asks .edit) (now (new .entry))) (roomOf (now (transcript .entry)) (now (reference .entry)) (now (altered .entry))))
+        r (now (transcript .entry)) (now (transcript .exit)) (now (reference .entry)) (now (reference .exit)) (now (altered .entry)) (now (altered .exit)) ⌝ }
+{
+    let mut protein = [0u8; LONGEST_PROTEIN];
+    answer_in(
+        letters,
+        asks,
+        new,
+        &mut protein,
+        transcript,
+        reference,
+        altered,
+    )
+}
+
+// The answer to an edit of a reference: refusals 1 to 12, Unknown, or a report of what the three buffers hold. A short reference doesn't pay
+// for clearing the room of a long one.
 pub fn build_altseq(
     letters: &[u8],
     cds: Cds,
@@ -118,32 +232,18 @@ pub fn build_altseq(
         (outcome limits (referenceOf (now (letters .entry)) cds e) (asked edit (now (new .entry))) (roomOf (now (transcript .entry)) (now (reference .entry)) (now (altered .entry))))
         r (now (transcript .entry)) (now (transcript .exit)) (now (reference .entry)) (now (reference .exit)) (now (altered .entry)) (now (altered .exit)) ⌝ }
 {
-    let mut protein = [0u8; LONGEST_PROTEIN];
-    match check_reference(letters, cds, e, LONGEST, &mut protein) {
-        Checked::Refused(n) => Answer::Refused(n),
-        Checked::Known(known) => {
-            let residues = known.residues;
-            let decision = decide_in(
-                letters,
-                known,
-                edit,
-                new,
-                transcript.len(),
-                reference.len(),
-                altered.len(),
-            );
-            let answer = answer_decided(
-                letters,
-                known,
-                e,
-                &protein[..residues],
-                decision,
-                new,
-                transcript,
-                altered,
-            );
-            copy_reference(answer, &protein[..residues], reference);
-            answer
-        }
+    let asks = Question { cds, e, edit };
+    if SHORT < letters.len() {
+        return answer_long(letters, asks, new, transcript, reference, altered);
     }
+    let mut protein = [0u8; SHORT_PROTEIN];
+    answer_in(
+        letters,
+        asks,
+        new,
+        &mut protein,
+        transcript,
+        reference,
+        altered,
+    )
 }

@@ -7,6 +7,8 @@ mod room;
 
 pub use alone::Transcribed;
 pub use alone::build_transcript;
+pub use answer::Ready;
+pub use answer::answer_known;
 pub use answer::build_altseq;
 pub use answer::decide_in;
 pub use carry::carry_out;

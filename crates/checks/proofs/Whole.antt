@@ -5,8 +5,8 @@ use mathlib.Core.Bool.{Bool, true, false, not}
 use mathlib.Core.List.{List, [], _∷_}
 use Prim.Native.Nat.{ℕ, zero, suc, _+_, _-_, _≤_}
 use native.Mathlib.Omega.{arith}
-use lib.ListN.{length, take}
-use lib.Seq.{take-length}
+use lib.ListN.{length, take, replicate, length-replicate}
+use lib.Seq.{take-length, take-take}
 use Rattle.rules.specs.declared.Cds.{Cds}
 use Rattle.rules.specs.declared.Edit.{Edit}
 use Rattle.rules.specs.declared.Exceptions.{Exceptions}
@@ -27,6 +27,7 @@ use Rattle.rules.proofs.Refusal.{refused-reference}
 use Rattle.rules.proofs.Reference.{protein-read}
 use Rattle.reference.specs.declared.Known.{Known}
 use Rattle.reference.specs.Known.{Knows}
+use Rattle.reference.proofs.Checking.{residues-is}
 use Rattle.edits.specs.declared.plans.Plan.{Plan}
 use Rattle.edits.specs.declared.decision.Decision.{Decision}
 use Rattle.edits.specs.declared.decision.Decision.the-variants.{Refused, Unknown, Goes}
@@ -37,7 +38,7 @@ use Rattle.altseq.specs.Carried.{proteinBy, Carries}
 use Rattle.altseq.specs.Decided.{decidedIn}
 use Rattle.altseq.proofs.Whole.{left, carries, room-for, protein-length}
 use Rattle.checks.specs.Changing.{changingBy, changingIn}
-use Rattle.checks.specs.Checking.{CheckAnswers, verdictBy, judgedOutcome, decidedCheck, referenceIn, Copies}
+use Rattle.checks.specs.Checking.{CheckAnswers, Holds, verdictBy, judgedOutcome, decidedCheck, referenceIn, Copies}
 use Rattle.checks.proofs.Deciding.{changed-goes}
 
 -- what a plan makes is what the edit makes
@@ -71,31 +72,50 @@ module _ (q : Proposal) (r : Reference) (a : Asked) where
       by zero false zero true true h = sym (all-is h)
       by zero false zero true false h = sym (none-is h)
 
--- a refused reference
-pub reference-refused : (r : Reference) (a : Asked) (prop : Proposal) (t p q : List ℕ) (n : ℕ) → referenceRefusal (limits .longest) r ≡ n → (n ≡ 0 → ⊥)
-    → CheckAnswers (checkOutcome limits r a prop (roomOf t p q)) (check.Refused n) t t p p q q
-unfolding checkOutcome checkBy checksNothing over
-reference-refused r a prop t p q zero h some = absurd (some refl)
-reference-refused r a prop t p q (suc n) h some =
-    rw (refused-reference limits r a n h) (record { says = refl; holds-transcript = refl; holds-reference = refl; holds-altered = refl })
+-- the three buffers, with so much room for R
+abbrev pub roomWith : List ℕ → ℕ → List ℕ → Room
+roomWith t room q = record { transcript = length t; reference = room; altered = length q }
 
-module _ (s : List ℕ) (k : Known) (e : Exceptions) (protein : List ℕ) (known : Knows limits s k e protein) (edit : Edit) (new t p q : List ℕ) (prop : Proposal) (d : Decision)
-    (is : d ≡ changingIn (referenceOf s (k .cds) e) (asked edit new) (roomOf t p q)) where
+-- a refused reference
+pub reference-refused : (r : Reference) (a : Asked) (prop : Proposal) (t : List ℕ) (room : ℕ) (out q : List ℕ) (n : ℕ) → referenceRefusal (limits .longest) r ≡ n → (n ≡ 0 → ⊥)
+    → Holds (checkOutcome limits r a prop (roomWith t room q)) (check.Refused n) t t room out q q
+unfolding checkOutcome checkBy checksNothing over referenceIn
+reference-refused r a prop t room out q zero h some = absurd (some refl)
+reference-refused r a prop t room out q (suc n) h some =
+    rw (refused-reference limits r a n h)
+    (record {
+      says = refl;
+      holds-transcript = refl;
+      holds-altered = refl;
+      stands = refl;
+      there = λ v w. let z : _≡_ {A = ℕ} 0 1 = cc in absurd (omega arith);
+      has-room = λ v w. let z : _≡_ {A = ℕ} 0 1 = cc in absurd (omega arith);
+    })
+
+module _ (s : List ℕ) (k : Known) (e : Exceptions) (protein : List ℕ) (known : Knows limits s k e protein) (edit : Edit) (new t : List ℕ) (room : ℕ) (q : List ℕ) (prop : Proposal) (d : Decision)
+    (is : d ≡ changingIn (referenceOf s (k .cds) e) (asked edit new) (roomWith t room q)) where
   abbrev r : Reference
   r = referenceOf s (k .cds) e
 
+  -- a buffer with that room
+  abbrev p : List ℕ
+  p = replicate room 0
+
+  room-is : roomOf t p q ≡ roomWith t room q
+  room-is = ap (λ (n : ℕ). roomWith t n q) (length-replicate {A = ℕ} room 0)
+
   goes : (x : Plan) → d ≡ Goes x → decidedIn (k .several) (bare s (k .cds)) (asked edit new) (roomOf t p q) ≡ Goes x
-  goes x h = changed-goes s k e protein known edit new (roomOf t p q) x (sym is ∙ h)
+  goes x h = changed-goes s k e protein known edit new (roomOf t p q) x (ap (changingIn r (asked edit new)) room-is ∙ sym is ∙ h)
 
   pub carries-on : (x : Plan) → d ≡ Goes x → Carries s k e protein x new t q
   carries-on x h = carries s k e protein known edit new t p q _ refl x (goes x h)
 
   -- R has room where the edit goes
-  room-fits : (x : Plan) → d ≡ Goes x → length (referenceProtein r) ≤ length p
+  room-fits : (x : Plan) → d ≡ Goes x → length (referenceProtein r) ≤ room
   unfolding cdsSize
   room-fits x h =
-      let room = room-for (k .cds) (x .length) (roomOf t p q) (left s k e protein known edit new t p q _ refl x (goes x h) .1) in
-      omega (arith, protein-length s k e protein known edit new t p q _ refl, room .reference)
+      let fits = room-for (k .cds) (x .length) (roomOf t p q) (left s k e protein known edit new t p q _ refl x (goes x h) .1) in
+      omega (arith, protein-length s k e protein known edit new t p q _ refl, fits .reference, length-replicate {A = ℕ} room 0)
 
   some-verdict : (b : Bool) (x : Plan) (v : Verdict)
       → (if b then record { answer = check.Judged (verdictBy prop r x new); transcript = carriedBy x s new; reference = referenceProtein r; altered = proteinBy r x new } else checksNothing 27) .answer ≡ check.Judged v
@@ -105,22 +125,15 @@ module _ (s : List ℕ) (k : Known) (e : Exceptions) (protein : List ℕ) (known
   some-verdict false x v h = let z : _≡_ {A = ℕ} 0 1 = cc in absurd (omega arith)
 
   -- an answer that tells lengths is a plan's
-  pub tells-reference : (x : Check) → x ≡ decidedCheck prop r d new .answer → (v : Verdict) → x ≡ check.Judged v → (v .reference ≡ length (referenceProtein r)) × (length (referenceProtein r) ≤ length p)
+  tells-reference : (x : Check) → x ≡ decidedCheck prop r d new .answer → (v : Verdict) → x ≡ check.Judged v → (v .reference ≡ length (referenceProtein r)) × (length (referenceProtein r) ≤ room)
   unfolding decidedCheck judgedOutcome checksNothing
   tells-reference x h v g = by d refl (sym h ∙ g)
     where
-      by : (f : Decision) → d ≡ f → decidedCheck prop r f new .answer ≡ check.Judged v → (v .reference ≡ length (referenceProtein r)) × (length (referenceProtein r) ≤ length p)
+      by : (f : Decision) → d ≡ f → decidedCheck prop r f new .answer ≡ check.Judged v → (v .reference ≡ length (referenceProtein r)) × (length (referenceProtein r) ≤ room)
       by (Refused n) w z = let z : _≡_ {A = ℕ} 0 1 = cc in absurd (omega arith)
       by Unknown w z = let z : _≡_ {A = ℕ} 0 1 = cc in absurd (omega arith)
       by (Goes f) w z =
           (some-verdict (isProposal prop (referenceProtein r)) f v z, room-fits f w)
-
-  pub copies : (x : Check) → x ≡ decidedCheck prop r d new .answer → Copies x protein p
-  copies x h =
-      record {
-        there = λ v g. let told = tells-reference x h v g in omega (arith, told .0, ap length (known .read));
-        room = λ v g. let told = tells-reference x h v g in omega (arith, told .0, told .1);
-      }
 
   reference-is : (x : Check) → x ≡ decidedCheck prop r d new .answer → referenceIn x protein ≡ decidedCheck prop r d new .reference
   unfolding referenceIn decidedCheck judgedOutcome checksNothing verdictBy
@@ -137,19 +150,44 @@ module _ (s : List ℕ) (k : Known) (e : Exceptions) (protein : List ℕ) (known
       by Unknown = refl
       by (Goes f) = judged (isProposal prop (referenceProtein r)) f
 
-  pub answers : (x : Check) (t′ p′ q′ : List ℕ) → x ≡ decidedCheck prop r d new .answer → t′ ≡ over (decidedCheck prop r d new .transcript) t
-      → q′ ≡ over (decidedCheck prop r d new .altered) q → p′ ≡ over (referenceIn x protein) p → CheckAnswers (checkOutcome limits r (asked edit new) prop (roomOf t p q)) x t t′ p p′ q q′
-  answers x t′ p′ q′ h ht hq hp =
-      let all : checkOutcome limits r (asked edit new) prop (roomOf t p q) ≡ decidedCheck prop r d new = outcome-is prop r (asked edit new) (roomOf t p q) ∙ ap (λ (d : Decision). decidedCheck prop r d new) (sym is) in
-      subst (λ (o : CheckOutcome). CheckAnswers o x t t′ p p′ q q′) (sym all)
-      (record {
-        says = h;
-        holds-transcript = ht;
-        holds-reference = hp ∙ ap (λ (l : List ℕ). over l p) (reference-is x h);
-        holds-altered = hq;
-      })
+  -- R stands at the beginning of the room that it was read into
+  module _ (out : List ℕ) (reads : protein ≡ take (k .residues) out) (within : k .residues ≤ length out) (x : Check) (h : x ≡ decidedCheck prop r d new .answer) where
+    counted : (v : Verdict) → x ≡ check.Judged v → v .reference ≡ k .residues
+    counted v g = tells-reference x h v g .0 ∙ sym (residues-is limits s k e protein known)
+
+    stands-whole : referenceIn x out ≡ referenceIn x protein
+    unfolding referenceIn
+    stands-whole = by x refl
+      where
+        by : (y : Check) → x ≡ y → referenceIn y out ≡ referenceIn y protein
+        by (check.Refused n) g = refl
+        by (check.Judged v) g = rw (reads, counted v g) (sym (take-take (k .residues) (k .residues) out (omega arith)))
+
+    pub holds : (t′ q′ : List ℕ) → t′ ≡ over (decidedCheck prop r d new .transcript) t → q′ ≡ over (decidedCheck prop r d new .altered) q
+        → Holds (checkOutcome limits r (asked edit new) prop (roomWith t room q)) x t t′ room out q q′
+    holds t′ q′ ht hq =
+        let all : checkOutcome limits r (asked edit new) prop (roomWith t room q) ≡ decidedCheck prop r d new = outcome-is prop r (asked edit new) (roomWith t room q) ∙ ap (λ (d : Decision). decidedCheck prop r d new) (sym is) in
+        subst (λ (o : CheckOutcome). Holds o x t t′ room out q q′) (sym all)
+        (record {
+          says = h;
+          holds-transcript = ht;
+          holds-altered = hq;
+          stands = stands-whole ∙ reference-is x h;
+          there = λ v g. omega (arith, counted v g, within);
+          has-room = λ v g. let told = tells-reference x h v g in omega (arith, told .0, told .1);
+        })
 
 -- the answer for a CDS that is known as another
-pub answers-cds : (s : List ℕ) (c d : Cds) (e : Exceptions) (a : Asked) (prop : Proposal) (room : Room) (x : Check) (t t′ p p′ q q′ : List ℕ) → c ≡ d
-    → CheckAnswers (checkOutcome limits (referenceOf s c e) a prop room) x t t′ p p′ q q′ → CheckAnswers (checkOutcome limits (referenceOf s d e) a prop room) x t t′ p p′ q q′
-answers-cds s c d e a prop room x t t′ p p′ q q′ is h = subst (λ (c : Cds). CheckAnswers (checkOutcome limits (referenceOf s c e) a prop room) x t t′ p p′ q q′) is h
+pub holds-cds : (s : List ℕ) (c d : Cds) (e : Exceptions) (a : Asked) (prop : Proposal) (lent : Room) (x : Check) (t t′ : List ℕ) (room : ℕ) (out q q′ : List ℕ) → c ≡ d
+    → Holds (checkOutcome limits (referenceOf s c e) a prop lent) x t t′ room out q q′ → Holds (checkOutcome limits (referenceOf s d e) a prop lent) x t t′ room out q q′
+holds-cds s c d e a prop lent x t t′ room out q q′ is h = subst (λ (c : Cds). Holds (checkOutcome limits (referenceOf s c e) a prop lent) x t t′ room out q q′) is h
+
+-- once R is copied
+pub copied : (o : CheckOutcome) (x : Check) (t t′ : List ℕ) (room : ℕ) (out p p′ q q′ : List ℕ) → Holds o x t t′ room out q q′ → p′ ≡ over (referenceIn x out) p → CheckAnswers o x t t′ p p′ q q′
+copied o x t t′ room out p p′ q q′ h hp =
+    record {
+      says = h .says;
+      holds-transcript = h .holds-transcript;
+      holds-reference = hp ∙ ap (λ (l : List ℕ). over l p) (h .stands);
+      holds-altered = h .holds-altered;
+    }

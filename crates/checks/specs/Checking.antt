@@ -22,6 +22,20 @@ pub record CheckAnswers (o : CheckOutcome) (a : Check) (transcript transcript′
   pub holds-reference : reference′ ≡ over (o .reference) reference
   pub holds-altered : altered′ ≡ over (o .altered) altered
 
+-- as much of R as an answer reports
+unfoldable pub referenceIn : Check → List ℕ → List ℕ
+referenceIn (Refused n) protein = []
+referenceIn (Judged v) protein = take (v .reference) protein
+
+-- the same before R is copied: it stands in `protein`, and as much of it as the answer reports is the outcome's and has `room`
+pub record Holds (o : CheckOutcome) (a : Check) (transcript transcript′ : List ℕ) (room : ℕ) (protein altered altered′ : List ℕ) : Type 0 where
+  pub says : a ≡ o .answer
+  pub holds-transcript : transcript′ ≡ over (o .transcript) transcript
+  pub holds-altered : altered′ ≡ over (o .altered) altered
+  pub stands : referenceIn a protein ≡ o .reference
+  pub there : (v : Verdict) → a ≡ Judged v → v .reference ≤ length protein
+  pub has-room : (v : Verdict) → a ≡ Judged v → v .reference ≤ room
+
 -- the two answers, and the bytes written to each buffer
 unfoldable pub verdictBy : Proposal → Reference → Plan → List ℕ → Verdict
 verdictBy q r p new =
@@ -50,11 +64,6 @@ unfoldable pub decidedCheck : Proposal → Reference → Decision → List ℕ �
 decidedCheck q r (decision.Refused n) new = checksNothing n
 decidedCheck q r decision.Unknown new = checksNothing 26
 decidedCheck q r (decision.Goes p) new = judgedOutcome q r p new
-
--- as much of R as an answer reports
-unfoldable pub referenceIn : Check → List ℕ → List ℕ
-referenceIn (Refused n) protein = []
-referenceIn (Judged v) protein = take (v .reference) protein
 
 -- so much is there, and has room
 pub record Copies (a : Check) (protein reference : List ℕ) : Type 0 where

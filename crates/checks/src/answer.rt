@@ -9,29 +9,37 @@ use proposals::judge;
 use reference::Checked;
 use reference::Known;
 use reference::check_reference;
-use rules::Cds;
 use rules::Check;
-use rules::Edit;
 use rules::Exceptions;
 use rules::LONGEST;
 use rules::LONGEST_PROTEIN;
+use rules::Question;
+use rules::SHORT;
+use rules::SHORT_PROTEIN;
 use rules::Verdict;
 ghost use mathlib.Core.Path.{_≡_};
+ghost use lib.ListN.{length};
 ghost use Rattle.rules.specs.Bytes.{over};
 ghost use Rattle.rules.specs.Refusal.{limits};
 ghost use Rattle.rules.specs.Check.{checkOutcome};
 ghost use Rattle.rules.specs.Views.{asked, referenceOf, roomOf};
+ghost use Rattle.reference.specs.Known.{HasRoom};
 ghost use Rattle.edits.specs.declared.plans.Plan.{Plan};
 ghost use Rattle.altseq.specs.Carried.{Carries};
 ghost use Rattle.proposals.specs.Proposed.{proposed};
-ghost use Rattle.checks.specs.Checking.{CheckAnswers, judgedOutcome, decidedCheck, referenceIn, Copies};
+ghost use Rattle.checks.specs.Checking.{CheckAnswers, Holds, judgedOutcome, decidedCheck, referenceIn, Copies};
 
-// What is asked: the numbers of a reference and its exceptions, an edit, and a proposal's number. The bytes of all three are lent beside them.
-pub struct Question {
-    pub cds: Cds,
-    pub e: Exceptions,
-    pub edit: Edit,
+// What is asked of a reference, and a proposal's number. The residues of the proposal are lent beside it.
+pub struct Proposed {
+    pub asks: Question,
     pub number: usize,
+}
+
+// The same, and how many bytes are lent for R.
+struct Proposing {
+    asks: Question,
+    number: usize,
+    room: usize,
 }
 
 // What goes on to be judged: a checked reference, the plan of an edit that changes its protein, and a proposal's number.
@@ -143,34 +151,34 @@ fn copy_reference(answer: Check, protein: &[u8], reference: &mut [u8])
     }
 }
 
-// The answer to a proposed record of an edit of a reference: 1 to 5, 6 or 28, 7 to 10, 26 for an Unknown, 11, 12, 26 and 27, or whether it
-// replays and whether it is the shortest. Then the three buffers hold what the edit's own answer writes.
-pub fn check_altseq(
+// The answer to a proposed record, with room for R, which is left there where the answer reports it.
+fn check_in(
     letters: &[u8],
-    asks: Question,
+    proposing: Proposing,
     new: &[u8],
     deleted: &[u8],
     inserted: &[u8],
+    protein: &mut [u8],
     transcript: &mut [u8],
-    reference: &mut [u8],
     altered: &mut [u8],
 ) -> Check
-    ensures { λ r. ⌜ CheckAnswers
-        (checkOutcome limits (referenceOf (now (letters .entry)) (asks .cds) (asks .e)) (asked (asks .edit) (now (new .entry))) (proposed (asks .number) (now (deleted .entry)) (now (inserted .entry))) (roomOf (now (transcript .entry)) (now (reference .entry)) (now (altered .entry))))
-        r (now (transcript .entry)) (now (transcript .exit)) (now (reference .entry)) (now (reference .exit)) (now (altered .entry)) (now (altered .exit)) ⌝ }
+    requires { ⌜ HasRoom (limits .longest) (now letters) (length (now protein)) ⌝ }
+    ensures { λ r. ⌜ Holds
+        (checkOutcome limits (referenceOf (now (letters .entry)) (proposing .asks .cds) (proposing .asks .e)) (asked (proposing .asks .edit) (now (new .entry))) (proposed (proposing .number) (now (deleted .entry)) (now (inserted .entry)))
+        (record { transcript = length (now (transcript .entry)); reference = proposing .room; altered = length (now (altered .entry)) }))
+        r (now (transcript .entry)) (now (transcript .exit)) (proposing .room) (now (protein .exit)) (now (altered .entry)) (now (altered .exit)) ⌝ }
 {
-    let cds = asks.cds;
+    let asks = proposing.asks;
     let e = asks.e;
     let edit = asks.edit;
-    let number = asks.number;
-    let mut protein = [0u8; LONGEST_PROTEIN];
-    match check_reference(letters, cds, e, LONGEST, &mut protein) {
+    let number = proposing.number;
+    match check_reference(letters, asks.cds, e, LONGEST, protein) {
         Checked::Refused(n) => Check::Refused(n),
         Checked::Known(known) => {
             let residues = known.residues;
             let room = Room {
                 transcript: transcript.len(),
-                reference: reference.len(),
+                reference: proposing.room,
                 altered: altered.len(),
             };
             let decision = decide_changing(
@@ -188,7 +196,7 @@ pub fn check_altseq(
                 decision,
                 number,
             };
-            let answer = judge_decided(
+            judge_decided(
                 letters,
                 decided,
                 &protein[..residues],
@@ -197,9 +205,92 @@ pub fn check_altseq(
                 inserted,
                 transcript,
                 altered,
-            );
-            copy_reference(answer, &protein[..residues], reference);
-            answer
+            )
         }
     }
+}
+
+// The answer to a proposed record of an edit of a reference of any length.
+fn check_long(
+    letters: &[u8],
+    p: Proposed,
+    new: &[u8],
+    deleted: &[u8],
+    inserted: &[u8],
+    transcript: &mut [u8],
+    reference: &mut [u8],
+    altered: &mut [u8],
+) -> Check
+    ensures { λ r. ⌜ CheckAnswers
+        (checkOutcome limits (referenceOf (now (letters .entry)) (p .asks .cds) (p .asks .e)) (asked (p .asks .edit) (now (new .entry))) (proposed (p .number) (now (deleted .entry)) (now (inserted .entry))) (roomOf (now (transcript .entry)) (now (reference .entry)) (now (altered .entry))))
+        r (now (transcript .entry)) (now (transcript .exit)) (now (reference .entry)) (now (reference .exit)) (now (altered .entry)) (now (altered .exit)) ⌝ }
+{
+    let asks = p.asks;
+    let proposing = Proposing {
+        asks,
+        number: p.number,
+        room: reference.len(),
+    };
+    let mut protein = [0u8; LONGEST_PROTEIN];
+    let answer = check_in(
+        letters,
+        proposing,
+        new,
+        deleted,
+        inserted,
+        &mut protein,
+        transcript,
+        altered,
+    );
+    copy_reference(answer, &protein, reference);
+    answer
+}
+
+// The answer to a proposed record of an edit of a reference: 1 to 5, 6 or 28, 7 to 10, 26 for an Unknown, 11, 12, 26 and 27, or whether it
+// replays and whether it is the shortest. Then the three buffers hold what the edit's own answer writes.
+pub fn check_altseq(
+    letters: &[u8],
+    p: Proposed,
+    new: &[u8],
+    deleted: &[u8],
+    inserted: &[u8],
+    transcript: &mut [u8],
+    reference: &mut [u8],
+    altered: &mut [u8],
+) -> Check
+    ensures { λ r. ⌜ CheckAnswers
+        (checkOutcome limits (referenceOf (now (letters .entry)) (p .asks .cds) (p .asks .e)) (asked (p .asks .edit) (now (new .entry))) (proposed (p .number) (now (deleted .entry)) (now (inserted .entry))) (roomOf (now (transcript .entry)) (now (reference .entry)) (now (altered .entry))))
+        r (now (transcript .entry)) (now (transcript .exit)) (now (reference .entry)) (now (reference .exit)) (now (altered .entry)) (now (altered .exit)) ⌝ }
+{
+    if SHORT < letters.len() {
+        return check_long(
+            letters,
+            p,
+            new,
+            deleted,
+            inserted,
+            transcript,
+            reference,
+            altered,
+        );
+    }
+    let asks = p.asks;
+    let proposing = Proposing {
+        asks,
+        number: p.number,
+        room: reference.len(),
+    };
+    let mut protein = [0u8; SHORT_PROTEIN];
+    let answer = check_in(
+        letters,
+        proposing,
+        new,
+        deleted,
+        inserted,
+        &mut protein,
+        transcript,
+        altered,
+    );
+    copy_reference(answer, &protein, reference);
+    answer
 }

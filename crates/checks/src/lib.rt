@@ -16,7 +16,7 @@ ghost use Rattle.rules.specs.Views.{asked, referenceOf};
 ghost use Rattle.reference.specs.Known.{Knows};
 ghost use Rattle.altseq.specs.Carried.{proteinBy};
 ghost use Rattle.checks.specs.Changing.{changingIn, Changes};
-pub use answer::Question;
+pub use answer::Proposed;
 pub use answer::check_altseq;
 
 // The bytes lent for the altered transcript, R and A.

@@ -22,7 +22,7 @@ use Rattle.rules.proofs.Reference.{bounds-of}
 use Rattle.codons.specs.Tables.{isBase}
 use Rattle.reference.specs.declared.Judged.{Judged}
 use Rattle.reference.specs.declared.Judged.the-variants.{Refused, Clear}
-use Rattle.reference.specs.Known.{earlyRefusal, endRefusal, judgedBy, judgedOf, Readable}
+use Rattle.reference.specs.Known.{earlyRefusal, endRefusal, judgedBy, judgedOf, HasRoom, Readable}
 
 -- what the enum tells
 module _ (n : ℕ) (plain : Bool) (x : Judged) (is : x ≡ judgedBy n plain) where
@@ -71,14 +71,14 @@ module _ (longest : ℕ) (s : List ℕ) (c : Cds) (e : Exceptions) where
         exceptions = not-false (fitExceptions r) (five .0);
       }
 
-  -- R fits where the longest one does
-  pub protein-room : (room : ℕ) → earlyRefusal longest (referenceOf s c e) ≡ 0 → longest < 4294967296 → residueCount longest ≤ room → residueCount (cdsSize (bare s c)) ≤ room
+  -- R fits where the letters' residues do
+  pub protein-room : (room : ℕ) → earlyRefusal longest (referenceOf s c e) ≡ 0 → longest < 4294967296 → HasRoom longest s room → residueCount (cdsSize (bare s c)) ≤ room
   unfolding earlyRefusal referenceTests isSize size cdsSize residueCount
   protein-room room h small fits =
       let one = first-clear (not (isSize longest (length s))) 0 _ h in
       let short : length s ≤ longest = leb-true (length s) longest (and-right (leb 1 (length s)) (leb (length s) longest) (not-false (isSize longest (length s)) (one .0))) in
       let x = readable h small .sound in
-      omega (arith, x .bounds .first, x .bounds .inside)
+      omega (arith, fits short, x .bounds .first, x .bounds .inside)
 
   early-refused : (n : ℕ) → earlyRefusal longest (referenceOf s c e) ≡ suc n → referenceRefusal longest (referenceOf s c e) ≡ suc n
   unfolding earlyRefusal referenceRefusal

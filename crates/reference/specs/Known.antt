@@ -1,10 +1,10 @@
 -- What the check of a reference answers and leaves.
-use Prim.Native.Nat.{ℕ, zero, suc, _+_, _<_, max}
+use Prim.Native.Nat.{ℕ, zero, suc, _+_, _≤_, _<_, max}
 use mathlib.Core.Path.{_≡_}
 use mathlib.Core.List.{List, []}
 use mathlib.Core.Bool.{Bool, true, _&&_}
 use lib.Dec.{leb, ltb}
-use lib.ListN.{take, drop}
+use lib.ListN.{length, take, drop}
 use Rattle.rules.specs.declared.Cds.{Cds}
 use Rattle.rules.specs.declared.Exception.{Exception}
 use Rattle.rules.specs.declared.Exceptions.{Exceptions}
@@ -70,6 +70,10 @@ checkedBy (suc n) k = checked.Refused (suc n)
 -- 1 to 5, 6 or 28, else what is known from then on
 unfoldable pub checkedOf : ℕ → List ℕ → Cds → Exceptions → Checked
 checkedOf longest s c e = checkedBy (referenceRefusal longest (referenceOf s c e)) (knownOf s c e)
+
+-- room for R of letters that 1 takes
+abbrev pub HasRoom : ℕ → List ℕ → ℕ → Type 0
+HasRoom longest s room = length s ≤ longest → residueCount (length s) ≤ room
 
 -- what 1 to 5 leave
 pub record Readable (s : List ℕ) (c : Cds) (e : Exceptions) : Type 0 where

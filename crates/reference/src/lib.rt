@@ -7,15 +7,16 @@ use protein::read_reference;
 use rules::Cds;
 use rules::Exceptions;
 ghost use mathlib.Core.Path.{_≡_};
-ghost use Prim.Native.Nat.{_≤_, _<_};
+ghost use Prim.Native.Nat.{_<_};
 ghost use lib.ListN.{length};
 ghost use Rattle.rules.specs.Bytes.{over};
-ghost use Rattle.rules.specs.Translation.{residueCount};
 ghost use Rattle.rules.specs.Refusal.{referenceRefusal};
 ghost use Rattle.rules.specs.Views.{referenceOf};
-ghost use Rattle.reference.specs.Known.{proteinUnless, checkedOf};
+ghost use Rattle.reference.specs.Known.{HasRoom, proteinUnless, checkedOf};
 pub use stop::is_short_end;
 pub use stop::judge_reference;
+pub use tests::are_bounds;
+pub use tests::fit_exceptions;
 
 // What is known of a reference that isn't refused; its letters, its exceptions and R are lent beside it. `residues` is R's length. The letters
 // are plain if each is one base. `several` is whether R has more than one stop.
@@ -46,7 +47,7 @@ pub fn check_reference(
     protein: &mut [u8],
 ) -> Checked
     requires { ⌜ longest < 4294967296 ⌝ }
-    requires { ⌜ residueCount longest ≤ length (now protein) ⌝ }
+    requires { ⌜ HasRoom longest (now letters) (length (now protein)) ⌝ }
     ensures { λ r. ⌜ r ≡ checkedOf longest (now (letters .entry)) cds e ⌝ }
     ensures { λ _. ⌜ now (protein .exit) ≡ over (proteinUnless (referenceRefusal longest (referenceOf (now (letters .entry)) cds e)) (referenceOf (now (letters .entry)) cds e)) (now (protein .entry)) ⌝ }
 {

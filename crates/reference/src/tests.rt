@@ -8,6 +8,8 @@ use sequences::all_letters;
 use translation::all_bases;
 ghost use mathlib.Core.Path.{_≡_};
 ghost use mathlib.Core.Bool.{_&&_};
+ghost use mathlib.Core.List.{List};
+ghost use Prim.Native.Nat.{ℕ};
 ghost use lib.Dec.{leb};
 ghost use lib.ListN.{length};
 ghost use Rattle.rules.specs.Bytes.{all};
@@ -25,15 +27,15 @@ fn fits_end(end: usize, n: usize) -> bool
     if end == 2 { n % 3 != 0 } else { n % 3 == 0 }
 }
 
-// 1 <= cs <= ce <= L; ce-cs+1 fits the end and is at least 6.
-fn are_bounds(letters: &[u8], c: Cds) -> bool
-    ensures { λ r. ⌜ r ≡ areBounds (bare (now (letters .entry)) c) ⌝ }
+// 1 <= cs <= ce <= L, which is `size`; ce-cs+1 fits the end and is at least 6.
+pub fn are_bounds(size: usize, c: Cds) -> bool
+    ensures { λ r. ⌜ ((s : List ℕ) → length s ≡ size → r ≡ areBounds (bare s c)) ⌝ }
 {
-    if (c.cs < 1) | (c.ce < c.cs) | (letters.len() < c.ce) {
+    if (c.cs < 1) | (c.ce < c.cs) | (size < c.ce) {
         return false;
     }
-    let size = c.ce - (c.cs - 1);
-    fits_end(c.end, size) & (6 <= size)
+    let coding = c.ce - (c.cs - 1);
+    fits_end(c.end, coding) & (6 <= coding)
 }
 
 // A codon number above `last` and at most `most`, and a residue A to Z or `*`.
@@ -44,7 +46,7 @@ fn is_exception(x: Exception, last: usize, most: usize) -> bool
 }
 
 // At most 16, strictly rising, of `most` codons.
-fn fit_exceptions(e: Exceptions, most: usize) -> bool
+pub fn fit_exceptions(e: Exceptions, most: usize) -> bool
     ensures { λ r. ⌜ r ≡ (leb (length (exceptionList e)) 16 && areRising 0 most (exceptionList e)) ⌝ }
 {
     let count = e.count;
@@ -87,7 +89,7 @@ pub(crate) fn early_refusal(letters: &[u8], c: Cds, e: Exceptions, longest: usiz
     if !are_letters(letters, plain) {
         return Judged::Refused(2);
     }
-    if !are_bounds(letters, c) {
+    if !are_bounds(letters.len(), c) {
         return Judged::Refused(3);
     }
     if 2 < c.table {

@@ -86,7 +86,7 @@ doubtful =
     -- an exception over a codon with a bad byte
     ∷ shown (translation 0 (exc 1 "U" ∷ []) false (bytes "A?G") 1) ⇒ "refused 2"
     -- of a stored field's header that is cut off, the tag is judged first
-    ∷ proteinIn (storedReference (limits .longest) (storedWith (5 ∷ []))) ⇒ "refused 21"
+    ∷ proteinIn (storedReference (limits .longest) (storedWith (3 ∷ []))) ⇒ "refused 21"
     ∷ []
 
 pub all-decided : map (λ (d : Decided). d .computed) doubtful ≡ map (λ (d : Decided). bytes (d .answer)) doubtful

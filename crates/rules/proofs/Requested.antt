@@ -15,7 +15,7 @@ use Rattle.rules.specs.Reference.{Reference}
 use Rattle.rules.specs.Edit.{Asked}
 use Rattle.rules.specs.Refusal.{limits, Room}
 use Rattle.rules.specs.Check.{Proposal, checkOutcome}
-use Rattle.rules.specs.Stored.{storedReference}
+use Rattle.rules.specs.Stored.{storedReference, readReference}
 use Rattle.rules.specs.Line.{editLine}
 use Rattle.rules.specs.Answer.{outcome}
 use Rattle.rules.specs.Values.{valuesOf}
@@ -222,3 +222,48 @@ mixes =
 pub all-mixes : map (λ (d : Decided). d .computed) mixes ≡ map (λ (d : Decided). bytes (d .answer)) mixes
 unfolding opened
 all-mixes = refl
+
+-- E6: transcripts up to 131,072 bases; the long ones are run, not computed. R, or the refusal, of what is stored, with so much room for joined letters
+abbrev pub readWithin : ℕ → List ℕ → List ℕ
+readWithin room s = proteinIn (readReference (limits .longest) room s)
+
+abbrev pub shortest : List ℕ
+shortest = 1 ∷ 0 ∷ 6 ∷ bytes "ATGTAA"
+
+abbrev pub table : List ℕ
+table = 3 ∷ 0 ∷ 1 ∷ 0 ∷ []
+
+abbrev pub bounds : List ℕ
+bounds = 2 ∷ 0 ∷ 4 ∷ 0 ∷ 1 ∷ 0 ∷ 6 ∷ []
+
+abbrev pub wideBounds : List ℕ
+wideBounds = 7 ∷ 0 ∷ 8 ∷ 0 ∷ 0 ∷ 0 ∷ 1 ∷ 0 ∷ 0 ∷ 0 ∷ 6 ∷ []
+
+abbrev pub inParts : List Decided
+inParts =
+    -- without tag 5 nothing is joined, and the buffer may be empty
+    readWithin 0 (shortest ++ bounds ++ table) ⇒ "M*"
+    -- one of tags 2 and 7: 22 without, 25 with both, and 25 for the wrong one
+    ∷ readWithin 0 (shortest ++ table) ⇒ "refused 22"
+    ∷ readWithin 0 (shortest ++ bounds ++ table ++ wideBounds) ⇒ "refused 25"
+    ∷ readWithin 0 (shortest ++ table ++ wideBounds) ⇒ "refused 25"
+    -- 22 before 25 before 1
+    ∷ readWithin 0 (shortest ++ wideBounds) ⇒ "refused 22"
+    ∷ readWithin 0 (1 ∷ 0 ∷ 0 ∷ table ++ wideBounds) ⇒ "refused 25"
+    ∷ readWithin 0 (1 ∷ 0 ∷ 0 ∷ bounds ++ table) ⇒ "refused 1"
+    -- a letter field begun before the last was full; a missing one isn't full
+    ∷ readWithin 9 (1 ∷ 0 ∷ 3 ∷ bytes "ATG" ++ bounds ++ table ++ (5 ∷ 0 ∷ 3 ∷ bytes "TAA")) ⇒ "refused 25"
+    ∷ readWithin 9 (shortest ++ bounds ++ table ++ (6 ∷ 0 ∷ 3 ∷ bytes "TAA")) ⇒ "refused 25"
+    -- 23, in field order, for an empty tag 5 or 6 and for a tag 7 of another length
+    ∷ readWithin 9 (shortest ++ bounds ++ table ++ (5 ∷ 0 ∷ 0 ∷ [])) ⇒ "refused 23"
+    ∷ readWithin 9 (shortest ++ bounds ++ table ++ (6 ∷ 0 ∷ 0 ∷ [])) ⇒ "refused 23"
+    ∷ readWithin 0 (shortest ++ table ++ (7 ∷ 0 ∷ 4 ∷ 0 ∷ 1 ∷ 0 ∷ 6 ∷ [])) ⇒ "refused 23"
+    -- tags rise, 8 behind 7
+    ∷ readWithin 0 (shortest ++ table ++ (8 ∷ 0 ∷ 1 ∷ 1 ∷ []) ++ wideBounds) ⇒ "refused 21"
+    ∷ readWithin 0 (shortest ++ bounds ++ table ++ (9 ∷ [])) ⇒ "refused 21"
+    ∷ readWithin 0 (shortest ++ bounds ++ table ++ (5 ∷ [])) ⇒ "refused 20"
+    ∷ []
+
+pub in-parts : map (λ (d : Decided). d .computed) inParts ≡ map (λ (d : Decided). bytes (d .answer)) inParts
+unfolding opened
+in-parts = refl

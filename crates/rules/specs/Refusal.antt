@@ -12,9 +12,9 @@ use Rattle.rules.specs.Edit.{Asked, editTests}
 use Rattle.rules.specs.Altered.{alteredLength}
 use Rattle.rules.specs.Record.{recordOf}
 
--- what the library takes: transcripts of 1 to 16,384 bases, 1 to 4,096 new ones
+-- what the library takes: transcripts of 1 to 131,072 bases, 1 to 4,096 new ones
 abbrev pub limits : Limits
-limits = record { longest = 16384; most = 4096 }
+limits = record { longest = 131072; most = 4096 }
 
 -- 1 to 5, 6 or 28, and 0 where none applies
 unfoldable pub referenceRefusal : ℕ → Reference → ℕ

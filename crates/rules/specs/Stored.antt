@@ -1,18 +1,22 @@
 -- "Stored reference": fields of a one-byte tag, a two-byte length (high byte first) and the content.
 use Prim.Native.Nat.{ℕ, zero, suc, _+_, _*_, _%_}
-use mathlib.Core.List.{List, [], _∷_}
-use mathlib.Core.Bool.{Bool, true, _&&_, _||_, not}
+use mathlib.Core.List.{List, [], _∷_, _++_}
+use mathlib.Core.Bool.{Bool, true, false, _&&_, _||_, not}
 use mathlib.Core.Option.{Option, none, some}
 use lib.Dec.{eqb, leb, ltb}
 use lib.ListN.{length, take, drop, getD}
 use Rattle.rules.specs.declared.Exception.{Exception}
-use Rattle.rules.specs.Bytes.{if_then_else_, Result, given, refused, unless}
-use Rattle.rules.specs.Reference.{Reference, atStop, isShortEnd}
+use Rattle.rules.specs.Bytes.{if_then_else_, Test, _↯_, firstOf, Result, given, refused, unless}
+use Rattle.rules.specs.Reference.{Reference, atStop, isShortEnd, size}
 use Rattle.rules.specs.Refusal.{referenceRefusal}
 
 -- a number of two bytes, high byte first
 unfoldable pub twoBytes : ℕ → ℕ → ℕ
 twoBytes high low = 256 * high + low
+
+-- a number of four bytes, high byte first
+unfoldable pub fourBytes : ℕ → ℕ → ℕ → ℕ → ℕ
+fourBytes a b c d = 65536 * twoBytes a b + twoBytes c d
 
 -- what the bytes begin with: nothing, a field cut off, or a whole field and the bytes behind it
 pub data Field : Type 0 where
@@ -70,16 +74,18 @@ unfoldable pub contentOf : ℕ → List Tagged → Option (List ℕ)
 contentOf t [] = none
 contentOf t (f ∷ fs) = if eqb (f .tag) t then some (f .content) else contentOf t fs
 
--- tags 1 to 4 and 8: 1 letters; 2 bounds, two bytes each; 3 table, one byte; 4 exceptions, three bytes each; 8 how the CDS ends,
--- one byte, absent for a stop
+-- tags 1 to 8: 1 letters; 2 bounds, two bytes each; 3 table, one byte; 4 exceptions, three bytes each; 5 and 6 more letters; 7 bounds, four
+-- bytes each; 8 how the CDS ends, one byte, absent for a stop
 unfoldable pub referenceForm : Form
 referenceForm =
     record {
-      knows = λ tag. (leb 1 tag && leb tag 4) || eqb tag 8;
+      knows = λ tag. leb 1 tag && leb tag 8;
       fits = λ tag content.
           if eqb tag 2 then eqb (length content) 4
           else if eqb tag 3 then eqb (length content) 1
           else if eqb tag 4 then eqb (length content % 3) 0
+          else if eqb tag 5 || eqb tag 6 then leb 1 (length content)
+          else if eqb tag 7 then eqb (length content) 8
           else if eqb tag 8 then eqb (length content) 1 && isShortEnd (getD content 0 0)
           else true;
     }
@@ -91,30 +97,94 @@ exceptionsIn (a ∷ []) = []
 exceptionsIn (a ∷ b ∷ []) = []
 exceptionsIn (a ∷ b ∷ r ∷ s) = record { codon = twoBytes a b; residue = r } ∷ exceptionsIn s
 
--- tags 4 and 8 may be absent
+-- tags 4, 5, 6 and 8 may be absent, and one of 2 and 7
 abbrev pub orEmpty : Option (List ℕ) → List ℕ
 orEmpty none = []
 orEmpty (some s) = s
 
--- 22: tag 1, 2 or 3 missing; without tag 8 the CDS ends at a stop
-unfoldable pub assembled : Option (List ℕ) → Option (List ℕ) → Option (List ℕ) → List ℕ → List ℕ → Result Reference
-assembled none bounds table exceptions end = refused 22
-assembled (some letters) none table exceptions end = refused 22
-assembled (some letters) (some bounds) none exceptions end = refused 22
-assembled (some letters) (some bounds) (some table) exceptions end =
-    given (record {
-      letters = letters;
-      cs = twoBytes (getD bounds 0 0) (getD bounds 1 0);
-      ce = twoBytes (getD bounds 2 0) (getD bounds 3 0);
-      table = getD table 0 0;
-      exceptions = exceptionsIn exceptions;
-      end = getD end 0 atStop;
-    })
+abbrev pub isThere : Option (List ℕ) → Bool
+isThere none = false
+isThere (some s) = true
+
+-- the contents of the tags
+pub record Contents : Type 0 where
+  pub letters : Option (List ℕ)
+  pub bounds : Option (List ℕ)
+  pub table : Option (List ℕ)
+  pub exceptions : Option (List ℕ)
+  pub second : Option (List ℕ)
+  pub third : Option (List ℕ)
+  pub wide : Option (List ℕ)
+  pub end : Option (List ℕ)
+
+unfoldable pub contentsOf : List Tagged → Contents
+contentsOf fs =
+    record {
+      letters = contentOf 1 fs;
+      bounds = contentOf 2 fs;
+      table = contentOf 3 fs;
+      exceptions = contentOf 4 fs;
+      second = contentOf 5 fs;
+      third = contentOf 6 fs;
+      wide = contentOf 7 fs;
+      end = contentOf 8 fs;
+    }
+
+-- letters beyond 65,535 go on in tag 5 and then tag 6
+unfoldable pub joinedLetters : Contents → List ℕ
+joinedLetters c = orEmpty (c .letters) ++ orEmpty (c .second) ++ orEmpty (c .third)
+
+-- 22: tag 1 or 3 missing, or neither of 2 and 7 there
+unfoldable pub isIncomplete : Contents → Bool
+isIncomplete c = not (isThere (c .letters)) || not (isThere (c .bounds) || isThere (c .wide)) || not (isThere (c .table))
+
+-- a letter field is full with 65,535 letters; a missing one isn't
+unfoldable pub isFull : Option (List ℕ) → Bool
+isFull letters = eqb (length (orEmpty letters)) 65535
+
+-- a letter field begun before the last was full
+unfoldable pub isBegunEarly : Option (List ℕ) → Option (List ℕ) → Bool
+isBegunEarly last letters = isThere letters && not (isFull last)
+
+-- tag 2 with more than 16,384 letters, or tag 7 with no more: so never both tags
+unfoldable pub areWrongBounds : Contents → Bool
+areWrongBounds c = if ltb 16384 (length (joinedLetters c)) then isThere (c .bounds) else isThere (c .wide)
+
+-- 22, then 25: both bounds tags, the wrong one for L, or a letter field begun before the last was full
+unfoldable pub contentTests : Contents → List Test
+contentTests c =
+    isIncomplete c ↯ 22
+    ∷ (areWrongBounds c || isBegunEarly (c .letters) (c .second) || isBegunEarly (c .second) (c .third)) ↯ 25
+    ∷ []
+
+pub record Bounds : Type 0 where
+  pub cs : ℕ
+  pub ce : ℕ
+
+-- cs and ce, two bytes each in tag 2, or without it four bytes each in tag 7
+unfoldable pub boundsIn : Option (List ℕ) → List ℕ → Bounds
+boundsIn none wide = record { cs = fourBytes (getD wide 0 0) (getD wide 1 0) (getD wide 2 0) (getD wide 3 0); ce = fourBytes (getD wide 4 0) (getD wide 5 0) (getD wide 6 0) (getD wide 7 0) }
+boundsIn (some s) wide = record { cs = twoBytes (getD s 0 0) (getD s 1 0); ce = twoBytes (getD s 2 0) (getD s 3 0) }
+
+-- the reference that contents hold; without tag 8 the CDS ends at a stop
+unfoldable pub referenceIn : Contents → Reference
+referenceIn c =
+    record {
+      letters = joinedLetters c;
+      cs = boundsIn (c .bounds) (orEmpty (c .wide)) .cs;
+      ce = boundsIn (c .bounds) (orEmpty (c .wide)) .ce;
+      table = getD (orEmpty (c .table)) 0 0;
+      exceptions = exceptionsIn (orEmpty (c .exceptions));
+      end = getD (orEmpty (c .end)) 0 atStop;
+    }
+
+unfoldable pub assembled : Contents → Result Reference
+assembled c = unless (firstOf (contentTests c)) (referenceIn c)
 
 -- the reference that fields hold, or their refusal; 1 to 5, 6 or 28 aren't judged
 unfoldable pub assembledIn : Result (List Tagged) → Result Reference
 assembledIn (refused n) = refused n
-assembledIn (given fs) = assembled (contentOf 1 fs) (contentOf 2 fs) (contentOf 3 fs) (orEmpty (contentOf 4 fs)) (orEmpty (contentOf 8 fs))
+assembledIn (given fs) = assembled (contentsOf fs)
 
 -- then 1 to 5, 6 or 28
 unfoldable pub checked : ℕ → Result Reference → Result Reference
@@ -124,3 +194,24 @@ checked longest (given r) = unless (referenceRefusal longest r) r
 -- the reference that bytes store, or the one refusal; `longest` is refusal 1's limit
 unfoldable pub storedReference : ℕ → List ℕ → Result Reference
 storedReference longest s = checked longest (assembledIn (fields referenceForm s))
+
+-- the letters are joined in a lent buffer where there is a tag 5, else they stay where they are
+unfoldable pub isJoined : Result (List Tagged) → Bool
+isJoined (refused n) = false
+isJoined (given fs) = isThere (contentOf 5 fs)
+
+-- then 29: the joined letters don't fit the `room` bytes lent for them
+unfoldable pub fitted : ℕ → Bool → Result Reference → Result Reference
+fitted room joined (refused n) = refused n
+fitted room joined (given r) = if joined && ltb room (size r) then refused 29 else given r
+
+unfoldable pub readReference : ℕ → ℕ → List ℕ → Result Reference
+readReference longest room s = fitted room (isJoined (fields referenceForm s)) (storedReference longest s)
+
+-- what the buffer holds from its start then: the joined letters
+unfoldable pub joinedBy : Bool → Result Reference → List ℕ
+joinedBy joined (refused n) = []
+joinedBy joined (given r) = if joined then r .letters else []
+
+unfoldable pub writtenJoined : ℕ → ℕ → List ℕ → List ℕ
+writtenJoined longest room s = joinedBy (isJoined (fields referenceForm s)) (readReference longest room s)

@@ -47,12 +47,24 @@ pub struct Cds {
     pub end: usize,
 }
 
-// The longest transcript that the library takes, the residues of its protein, and the most new bases of an edit.
-pub const LONGEST: usize = 16384;
+// What is asked of a reference: its numbers and its exceptions, and an edit. The letters and the new bases are lent beside them.
+pub struct Question {
+    pub cds: Cds,
+    pub e: Exceptions,
+    pub edit: Edit,
+}
 
-pub const LONGEST_PROTEIN: usize = 5462;
+// The longest transcript that the library takes, the residues of its protein, and the most new bases of an edit.
+pub const LONGEST: usize = 131072;
+
+pub const LONGEST_PROTEIN: usize = 43691;
 
 pub const MOST: usize = 4096;
+
+// The longest transcript whose protein goes to the smaller of two rooms, and that room.
+pub const SHORT: usize = 16384;
+
+pub const SHORT_PROTEIN: usize = 5462;
 
 // The longest transcript, and the most new bases.
 pub struct Limits {

@@ -1,87 +1,15 @@
 -- `altseq::alone::build_transcript` meets its contract. Assumes nothing.
-use mathlib.Core.Path.{_≡_, refl, sym, ap, _∙_}
 use native.Mathlib.Omega.{arith}
 use borrow.Author.Needs.{needs}
-use lib.ListN.{length}
 use Rattle.rules.specs.Translation.{residueCount}
-use Rattle.rules.specs.Refusal.{limits}
-use Rattle.rules.specs.Views.{asked, referenceOf}
-use Rattle.reference.proofs.Checking.{checked-refused, checked-accepted, checks}
-use Rattle.altseq.proofs.Transcribing.{meets-none, reference-refused, known-at, cds-at, edited-cds, decided-refused, decided-open, decided-goes, decided-fits}
 use Rattle.altseq.proofs.alone.build_transcript.Statement.{statement}
 use Rattle.altseq.proofs.alone.build_transcript.Tie as tie
 
-check-reference-requires : tie.Need-check-reference-requires
+transcribe-in-requires : tie.Need-transcribe-in-requires
 unfolding residueCount
-check-reference-requires c κs = (omega arith, omega arith)
-
-decide-requires : tie.Need-decide-requires
-decide-requires c κs =
-    let a = c .before .before .before .before .before .before .before .before .before .args in
-    let x = c .before .before .before .before .check-reference in
-    let k = c .before .known .given .0 .0 in
-    let known = known-at (a .letters .now) (a .cds) (a .e) (x .result) (x .ensures .0) k (c .before .known .given .1) in
-    (checks limits (a .letters .now) k (a .e) _ known, omega arith)
-
-write-alone-requires : tie.Need-write-alone-requires
-write-alone-requires c κs =
-    let a = c .before .before .before .before .before .before .before .before .before .before .before .before .before .before .args in
-    let x = c .before .before .before .before .before .before .before .before .before .check-reference in
-    let k = c .before .before .before .before .before .before .known .given .0 .0 in
-    let known = known-at (a .letters .now) (a .cds) (a .e) (x .result) (x .ensures .0) k (c .before .before .before .before .before .before .known .given .1) in
-    decided-fits limits (a .letters .now) k (a .e) _ known (asked (a .edit) (a .new .now)) (c .before .before .before .before .decide .result) (c .before .before .before .before .decide .ensures) _ (c .before .before .plan .given .1)
-
-returns : tie.Need-returns
-returns c =
-    let a = c .before .before .before .before .before .before .before .before .before .args in
-    let x = c .before .before .before .before .check-reference in
-    let n = c .before .n .given .0 .0 in
-    let no = checked-refused 16384 (a .letters .now) (a .cds) (a .e) (x .result) (x .ensures .0) n (c .before .n .given .1) in
-    meets-none _ _ (a .transcript .now) (reference-refused limits (referenceOf (a .letters .now) (a .cds) (a .e)) (asked (a .edit) (a .new .now)) (length (a .transcript .now)) n (no .0) (no .1))
-
-returns-2 : tie.Need-returns-2
-returns-2 c =
-    let a = c .before .before .before .before .before .before .before .before .before .before .before .before .before .args in
-    let x = c .before .before .before .before .before .before .before .before .check-reference in
-    let k = c .before .before .before .before .before .known .given .0 .0 in
-    let known = known-at (a .letters .now) (a .cds) (a .e) (x .result) (x .ensures .0) k (c .before .before .before .before .before .known .given .1) in
-    let same = edited-cds (a .letters .now) (k .cds) (a .cds) (a .e) (asked (a .edit) (a .new .now)) (length (a .transcript .now)) (cds-at (a .letters .now) (a .cds) (a .e) (x .result) (x .ensures .0) k (c .before .before .before .before .before .known .given .1)) in
-    meets-none _ _ (a .transcript .now) (sym same ∙ decided-refused limits (a .letters .now) k (a .e) _ known (asked (a .edit) (a .new .now)) (c .before .before .before .decide .result) (c .before .before .before .decide .ensures) (length (a .transcript .now)) _ (c .before .n2 .given .1))
-
-returns-3 : tie.Need-returns-3
-returns-3 c =
-    let a = c .before .before .before .before .before .before .before .before .before .before .before .before .args in
-    let x = c .before .before .before .before .before .before .before .check-reference in
-    let k = c .before .before .before .before .known .given .0 .0 in
-    let known = known-at (a .letters .now) (a .cds) (a .e) (x .result) (x .ensures .0) k (c .before .before .before .before .known .given .1) in
-    let same = edited-cds (a .letters .now) (k .cds) (a .cds) (a .e) (asked (a .edit) (a .new .now)) (length (a .transcript .now)) (cds-at (a .letters .now) (a .cds) (a .e) (x .result) (x .ensures .0) k (c .before .before .before .before .known .given .1)) in
-    meets-none _ _ (a .transcript .now) (sym same ∙ decided-open limits (a .letters .now) k (a .e) _ known (asked (a .edit) (a .new .now)) (c .before .before .decide .result) (c .before .before .decide .ensures) (length (a .transcript .now)) (c .enum-told .given .1))
-
-returns-4 : tie.Need-returns-4
-returns-4 c =
-    let a = c .before .before .before .before .before .before .before .before .before .before .before .before .before .before .before .before .before .args in
-    let x = c .before .before .before .before .before .before .before .before .before .before .before .before .check-reference in
-    let k = c .before .before .before .before .before .before .before .before .before .known .given .0 .0 in
-    let known = known-at (a .letters .now) (a .cds) (a .e) (x .result) (x .ensures .0) k (c .before .before .before .before .before .before .before .before .before .known .given .1) in
-    let same = edited-cds (a .letters .now) (k .cds) (a .cds) (a .e) (asked (a .edit) (a .new .now)) (length (a .transcript .now)) (cds-at (a .letters .now) (a .cds) (a .e) (x .result) (x .ensures .0) k (c .before .before .before .before .before .before .before .before .before .known .given .1)) in
-    let made = decided-goes limits (a .letters .now) k (a .e) _ known (asked (a .edit) (a .new .now)) (c .before .before .before .before .before .before .before .decide .result) (c .before .before .before .before .before .before .before .decide .ensures) _ (c .before .before .before .before .before .plan .given .1) (length (a .transcript .now)) in
-    rw (← same, made) (c .before .before .write-alone .ensures)
+transcribe-in-requires c κs = search needs
 
 pub build-transcript-spec : {M : Type 1} → statement M
 build-transcript-spec =
     tie.close
-    (tie.spec
-    (λ c. search needs)
-    check-reference-requires
-    (λ c. search needs)
-    (λ c. search needs)
-    decide-requires
-    (λ c. search needs)
-    (λ c. search needs)
-    (λ c. search needs)
-    write-alone-requires
-    returns
-    returns-2
-    returns-3
-    (λ c. search needs)
-    returns-4)
+    (tie.spec (λ c κs. search needs) (λ c. search needs) (λ c. search needs) (λ c. search needs) transcribe-in-requires (λ c. search needs) (λ c. search needs))

@@ -1,5 +1,5 @@
 -- `reference::tests::early_refusal` meets its contract. Assumes nothing.
-use mathlib.Core.Path.{_≡_, sym, ap, _∙_}
+use mathlib.Core.Path.{_≡_, refl, sym, ap, _∙_}
 use mathlib.Core.Bool.{Bool, true, false, not}
 use Prim.Native.Nat.{_≤_}
 use native.Mathlib.Omega.{arith}
@@ -29,7 +29,7 @@ returns-3 : tie.Need-returns-3
 unfolding judgedBy earlyOf
 returns-3 c =
     let a = c .before .before .before .before .before .before .before .args in
-    rw (early-by (a .longest) (a .letters .now) (a .c) (a .e), c .before .before .before .before .before .if1 .left, ← c .before .before .before .are-letters .ensures, c .before .before .if2 .left, ← c .before .are-bounds .ensures, c .if3 .taken)
+    rw (early-by (a .longest) (a .letters .now) (a .c) (a .e), c .before .before .before .before .before .if1 .left, ← c .before .before .before .are-letters .ensures, c .before .before .if2 .left, ← c .before .are-bounds .ensures (a .letters .now) refl, c .if3 .taken)
 
 returns-4 : tie.Need-returns-4
 unfolding judgedBy earlyOf
@@ -40,7 +40,7 @@ returns-4 c =
       c .before .before .before .before .before .before .before .if1 .left,
       ← c .before .before .before .before .before .are-letters .ensures,
       c .before .before .before .before .if2 .left,
-      ← c .before .before .before .are-bounds .ensures,
+      ← c .before .before .before .are-bounds .ensures (a .letters .now) refl,
       c .before .before .if3 .left,
       lt-ltb 2 (a .c .table) (c .if4 .taken),
     )
@@ -48,25 +48,25 @@ returns-4 c =
 sub-fit-exceptions : tie.Need-sub-fit-exceptions
 sub-fit-exceptions c =
     let a = c .before .before .before .before .before .before .before .before .before .before .args in
-    omega (arith, bounds-of (bare (a .letters .now) (a .c)) (sym (c .before .before .before .before .are-bounds .ensures) ∙ not-false (c .before .before .before .before .are-bounds .result) (c .before .before .before .if3 .left)) .first)
+    omega (arith, bounds-of (bare (a .letters .now) (a .c)) (sym (c .before .before .before .before .are-bounds .ensures (a .letters .now) refl) ∙ not-false (c .before .before .before .before .are-bounds .result) (c .before .before .before .if3 .left)) .first)
 
 sub-fit-exceptions-2 : tie.Need-sub-fit-exceptions-2
 sub-fit-exceptions-2 c =
     let a = c .before .before .before .before .before .before .before .before .before .before .before .args in
-    let b = bounds-of (bare (a .letters .now) (a .c)) (sym (c .before .before .before .before .before .are-bounds .ensures) ∙ not-false (c .before .before .before .before .before .are-bounds .result) (c .before .before .before .before .if3 .left)) in
+    let b = bounds-of (bare (a .letters .now) (a .c)) (sym (c .before .before .before .before .before .are-bounds .ensures (a .letters .now) refl) ∙ not-false (c .before .before .before .before .before .are-bounds .result) (c .before .before .before .before .if3 .left)) in
     omega (arith, b .first, b .rising)
 
 returns-5 : tie.Need-returns-5
 unfolding judgedBy earlyOf
 returns-5 c =
     let a = c .before .before .before .before .before .before .before .before .before .before .before .before .before .args in
-    let b = bounds-of (bare (a .letters .now) (a .c)) (sym (c .before .before .before .before .before .before .before .are-bounds .ensures) ∙ not-false (c .before .before .before .before .before .before .before .are-bounds .result) (c .before .before .before .before .before .before .if3 .left)) in
+    let b = bounds-of (bare (a .letters .now) (a .c)) (sym (c .before .before .before .before .before .before .before .are-bounds .ensures (a .letters .now) refl) ∙ not-false (c .before .before .before .before .before .before .before .are-bounds .result) (c .before .before .before .before .before .before .if3 .left)) in
     rw (
       early-by (a .longest) (a .letters .now) (a .c) (a .e),
       c .before .before .before .before .before .before .before .before .before .before .before .if1 .left,
       ← c .before .before .before .before .before .before .before .before .before .are-letters .ensures,
       c .before .before .before .before .before .before .before .before .if2 .left,
-      ← c .before .before .before .before .before .before .before .are-bounds .ensures,
+      ← c .before .before .before .before .before .before .before .are-bounds .ensures (a .letters .now) refl,
       c .before .before .before .before .before .before .if3 .left,
       le-ltb 2 (a .c .table) (c .before .before .before .before .if4 .left),
       ← fits-are (a .letters .now) (a .c) (a .e) (b .first),
@@ -78,13 +78,13 @@ returns-6 : tie.Need-returns-6
 unfolding judgedBy earlyOf
 returns-6 c =
     let a = c .before .before .before .before .before .before .before .before .before .before .before .before .before .args in
-    let b = bounds-of (bare (a .letters .now) (a .c)) (sym (c .before .before .before .before .before .before .before .are-bounds .ensures) ∙ not-false (c .before .before .before .before .before .before .before .are-bounds .result) (c .before .before .before .before .before .before .if3 .left)) in
+    let b = bounds-of (bare (a .letters .now) (a .c)) (sym (c .before .before .before .before .before .before .before .are-bounds .ensures (a .letters .now) refl) ∙ not-false (c .before .before .before .before .before .before .before .are-bounds .result) (c .before .before .before .before .before .before .if3 .left)) in
     rw (
       early-by (a .longest) (a .letters .now) (a .c) (a .e),
       c .before .before .before .before .before .before .before .before .before .before .before .if1 .left,
       ← c .before .before .before .before .before .before .before .before .before .are-letters .ensures,
       c .before .before .before .before .before .before .before .before .if2 .left,
-      ← c .before .before .before .before .before .before .before .are-bounds .ensures,
+      ← c .before .before .before .before .before .before .before .are-bounds .ensures (a .letters .now) refl,
       c .before .before .before .before .before .before .if3 .left,
       le-ltb 2 (a .c .table) (c .before .before .before .before .if4 .left),
       ← fits-are (a .letters .now) (a .c) (a .e) (b .first),

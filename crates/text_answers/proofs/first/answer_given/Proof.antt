@@ -10,7 +10,7 @@ use Rattle.text_answers.proofs.first.answer_given.Tie as tie
 
 check-reference-requires : tie.Need-check-reference-requires
 unfolding residueCount
-check-reference-requires c κs = let pre = c .before .before .before .before .before .before .pre in (search needs, omega (arith, pre))
+check-reference-requires c κs = let pre = c .before .before .before .before .before .before .pre in (search needs, λ h. omega (arith, pre, h))
 
 refuse-requires : tie.Need-refuse-requires
 refuse-requires c κs =
