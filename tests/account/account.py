@@ -1,4 +1,4 @@
-"""A second account of documents 01 and 02 (E2, E4, E5, E7, E8), in Python, written from their text and not from the definitions or the code.
+"""A second account of documents 01 and 02 (E2, E4, E5, E7, E8, E12), in Python, written from their text and not from the definitions or the code.
 
 What the programs print is compared with it. It is only as good as its reading of the documents: where it and the proved module differ, one of
 the two is wrong. `python3 account.py < input` prints what the text program prints, `python3 account.py records < input` what check-records does.
@@ -122,7 +122,13 @@ def index(ref, position):
     return {"": ref.cs + n - 2, "-": ref.cs - 1, "*": min(ref.ce + n - 1, len(ref.letters))}[sign]
 
 
-def check_edit(ref, edit):
+def most_bases(longest):
+    """Refusal 10's limit by the longest edit of a call (E12): 0 is 4,096."""
+    refuse(62, longest > MOST_BASES)
+    return longest or MOST_BASES
+
+
+def check_edit(ref, edit, longest=0):
     refuse(7, is_outside(ref, edit.start) or is_outside(ref, edit.end))
     first, last = place(ref, edit.start), place(ref, edit.end)
     refuse(7, edit.kind == "duplication" and last >= len(ref.letters))
@@ -130,7 +136,7 @@ def check_edit(ref, edit):
     signs = edit.start[0] + edit.end[0]
     refuse(9, signs in ("--", "**") or edit.kind == "insertion" and edit.start[0] == "-")
     refuse(10, edit.kind not in KINDS)
-    most = {"substitution": 1}.get(edit.kind, MOST_BASES) if edit.kind in WITH_BASES else 0
+    most = {"substitution": 1}.get(edit.kind, most_bases(longest)) if edit.kind in WITH_BASES else 0
     refuse(10, not (edit.kind in WITH_BASES) <= len(edit.bases) <= most or any(base not in LETTERS for base in edit.bases))
 
 
@@ -245,9 +251,9 @@ def record_of(ref, edit, altered):
     return Record(word, number, (s, len(deleted)), (s, n), number - n if word == "duplication" else 0)
 
 
-def answer(ref, edit):
+def answer(ref, edit, longest=0):
     """The record of an edit of a checked reference, and what it makes; None for Unknown."""
-    check_edit(ref, edit)
+    check_edit(ref, edit, longest)
     if is_unknown(ref, edit):
         return Record("unknown"), None
     altered = Altered(ref, edit)
@@ -282,9 +288,9 @@ def proposal_answers(r, a, number, deleted, inserted):
     return first, first and number == shared_first(r, a) + 1 and len(deleted) == least_deleted(r, a)
 
 
-def checked(ref, edit, number, deleted, inserted, room=None):
+def checked(ref, edit, number, deleted, inserted, room=None, longest=0):
     """The two answers to a proposal for an edit of a checked reference, and what the edit makes."""
-    record, altered = answer(ref, edit)
+    record, altered = answer(ref, edit, longest)
     refuse(26, record.word == "unknown")
     if room is not None:
         check_room(ref, altered, *room)
@@ -344,6 +350,48 @@ def stored(data):
     listed = [(exceptions[i] * 256 + exceptions[i + 1], chr(exceptions[i + 2])) for i in range(0, len(exceptions), 3)]
     end = fields[8][0] if 8 in fields else AT_STOP
     return Reference(fields[1].decode("latin-1"), bounds[0] * 256 + bounds[1], bounds[2] * 256 + bounds[3], fields[3][0], listed, end).check()
+
+
+# Settings (E12): version, table, profile, width and longest edit
+
+FORMS = {1: ((1, 1), (2, 1), (3, 1), (4, 1)), 2: ((1, 1), (2, 1), (3, 1), (4, 1), (5, 2))}  # of each version: tags, and the bytes of each content
+
+
+class Newer(Refused):
+    """60 with the mark of a newer version."""
+
+    def __init__(self):
+        super().__init__(60)
+
+
+def check_settings(version, table, profile, width, longest):
+    refuse(62, table not in (0, 1, 2) or profile not in (0, 1) or width not in (1, 3) or not 1 <= longest <= MOST_BASES)
+    refuse(62, version == 1 and longest != MOST_BASES)
+
+
+def read_settings(newest, data):
+    """What a reader that knows the versions up to `newest` reads."""
+    refuse(60, newest not in FORMS or len(data) < 4 or data[:3] != b"\1\0\1" or data[3] == 0)
+    version = data[3]
+    if version > newest:
+        raise Newer
+    contents, at = [], 0
+    for tag, size in FORMS[version]:
+        refuse(61, data[at:at + 3] != bytes([tag, 0, size]) or len(data) < at + 3 + size)
+        contents.append(int.from_bytes(data[at + 3:at + 3 + size], "big"))
+        at += 3 + size
+    refuse(61, at != len(data))
+    settings = tuple(contents) + (MOST_BASES,) * (version == 1)
+    check_settings(*settings)
+    return settings
+
+
+def write_settings(version, table, profile, width, longest, room):
+    refuse(60, version not in FORMS)
+    check_settings(version, table, profile, width, longest)
+    store = b"".join(bytes([tag, 0, size]) + n.to_bytes(size, "big") for (tag, size), n in zip(FORMS[version], (version, table, profile, width, longest)))
+    refuse(63, room < len(store))
+    return store
 
 
 # Text program

@@ -24,12 +24,12 @@ pub data Rising (form : Form) : ℕ → List Tagged → Type 0 where
   more : {last : ℕ} {f : Tagged} {fs : List Tagged} → isWrongTag form last (f .tag) ≡ false → isWrongContent form (f .tag) (f .content) ≡ false
       → length (f .content) < 65536 → Rising form (f .tag) fs → Rising form last (f ∷ fs)
 
-two-back : (n : ℕ) → twoBytes (n / 256) (n % 256) ≡ n
+pub two-back : (n : ℕ) → twoBytes (n / 256) (n % 256) ≡ n
 unfolding twoBytes
 two-back n = omega arith
 
 -- bytes that begin with a written field
-reads-field : (f : Tagged) (s : List ℕ) → field (fieldBytes f ++ s) ≡ whole (f .tag) (f .content) s
+pub reads-field : (f : Tagged) (s : List ℕ) → field (fieldBytes f ++ s) ≡ whole (f .tag) (f .content) s
 unfolding fieldBytes inTwo field
 reads-field f s =
     let n = length (f .content) in
@@ -56,19 +56,19 @@ module _ (form : Form) where
   read-written fs r = reads-from (length (fieldsBytes fs)) 0 fs (omega arith) r
 
 -- bytes that begin with a whole field are that field's, and what is behind it
-record Begins (s : List ℕ) (f : Tagged) (r : List ℕ) : Type 0 where
-  same : fieldBytes f ++ r ≡ s
-  short : length (f .content) < 65536
-  behind : all isByte r ≡ true
+pub record Begins (s : List ℕ) (f : Tagged) (r : List ℕ) : Type 0 where
+  pub same : fieldBytes f ++ r ≡ s
+  pub short : length (f .content) < 65536
+  pub behind : all isByte r ≡ true
 
-two-of : (high low : ℕ) → isByte high ≡ true → isByte low ≡ true → (twoBytes high low / 256 ≡ high) × (twoBytes high low % 256 ≡ low) × (twoBytes high low < 65536)
+pub two-of : (high low : ℕ) → isByte high ≡ true → isByte low ≡ true → (twoBytes high low / 256 ≡ high) × (twoBytes high low % 256 ≡ low) × (twoBytes high low < 65536)
 unfolding twoBytes
 two-of high low h k =
     let a : high < 256 = ltb-true high 256 h in
     let b : low < 256 = ltb-true low 256 k in
     (omega arith, omega arith, omega arith)
 
-begins : (s : List ℕ) → all isByte s ≡ true → (t : ℕ) (c r : List ℕ) → field s ≡ whole t c r → Begins s (record { tag = t; content = c }) r
+pub begins : (s : List ℕ) → all isByte s ≡ true → (t : ℕ) (c r : List ℕ) → field s ≡ whole t c r → Begins s (record { tag = t; content = c }) r
 unfolding field all fieldBytes inTwo
 begins [] b t c r e = let z : _≡_ {A = ℕ} 0 1 = cc in absurd (omega arith)
 begins (x ∷ []) b t c r e = let z : _≡_ {A = ℕ} 0 1 = cc in absurd (omega arith)

@@ -33,3 +33,6 @@ pub mod Thirteen
 pub mod Doubtful
 pub mod Requested
 pub mod Fields
+pub mod Stores
+pub mod WithLongest
+pub mod RequestedStores

@@ -1,6 +1,6 @@
--- The definitions of document 01 as document 02 amends it, a file for each part and in its order, each over those above it; Reuse is E4, Check E7.
--- Bytes has the words that all share, Views the plain types as the sections' own, Values the numbers that a host reads, Opened what a worked example
--- computes with.
+-- The definitions of document 01 as document 02 amends it, a file for each part and in its order, each over those above it; Reuse is E4, Check E7,
+-- Longest and Settings are E12. Bytes has the words that all share, Views the plain types as the sections' own, Values the numbers that a host
+-- reads, Opened what a worked example computes with.
 pub mod Bytes
 pub mod Letters
 pub mod Codons
@@ -20,9 +20,11 @@ pub mod Refusal
 pub mod Views
 pub mod Answer
 pub mod Check
+pub mod Longest
 pub mod Values
 pub mod Stored
 pub mod Storing
+pub mod Settings
 pub mod Number
 pub mod Line
 pub mod Run

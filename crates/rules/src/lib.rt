@@ -143,3 +143,20 @@ pub enum Check {
     Refused(usize),
     Judged(Verdict),
 }
+
+// The version of a store, and what a bench keeps in it: its default table, the profile (0 off, 1 on), the output width of residue names (1 or 3
+// letters) and the longest edit in bases.
+pub struct Settings {
+    pub version: usize,
+    pub table: usize,
+    pub profile: usize,
+    pub width: usize,
+    pub longest: usize,
+}
+
+// What a store of settings is read as: a refusal's number, a version newer than the reader knows, or the settings.
+pub enum Store {
+    Refused(usize),
+    Newer,
+    Held(Settings),
+}

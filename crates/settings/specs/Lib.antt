@@ -1,0 +1,3 @@
+-- What only this crate's contracts want said.
+pub mod Places
+pub mod Writing
