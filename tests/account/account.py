@@ -1,4 +1,4 @@
-"""A second account of documents 01 and 02 (E2, E4, E5, E7, E8, E12), in Python, written from their text and not from the definitions or the code.
+"""A second account of documents 01 and 02 (E2, E4, E5, E7, E8, E9, E12), in Python, written from their text and not from the definitions or the code.
 
 What the programs print is compared with it. It is only as good as its reading of the documents: where it and the proved module differ, one of
 the two is wrong. `python3 account.py < input` prints what the text program prints, `python3 account.py records < input` what check-records does.
@@ -251,9 +251,20 @@ def record_of(ref, edit, altered):
     return Record(word, number, (s, len(deleted)), (s, n), number - n if word == "duplication" else 0)
 
 
-def answer(ref, edit, longest=0):
-    """The record of an edit of a checked reference, and what it makes; None for Unknown."""
+def check_panel(ref, edit, named):
+    """What the panel profile refuses of an edit that isn't refused (E9); `named` is the base that a substitution names, as a number."""
+    refuse(40, any(letter not in "ACGT" for letter in ref.letters + edit.bases))
+    refuse(41, edit.kind not in ("substitution", "deletion", "duplication", "insertion") or edit.start[0] + edit.end[0] != "")
+    first, last = place(ref, edit.start), place(ref, edit.end)
+    refuse(42, {"substitution": 0, "insertion": len(edit.bases)}.get(edit.kind, last - first + 1) % 3 != 0)
+    refuse(43, edit.kind == "substitution" and named != ord(ref.letters[first]))
+
+
+def answer(ref, edit, longest=0, named=None):
+    """The record of an edit of a checked reference, and what it makes; None for Unknown. Where a base is named, under the panel profile."""
     check_edit(ref, edit, longest)
+    if named is not None:
+        check_panel(ref, edit, named)
     if is_unknown(ref, edit):
         return Record("unknown"), None
     altered = Altered(ref, edit)

@@ -5,17 +5,14 @@ use mathlib.Core.Bool.{Bool}
 use mathlib.Core.Path.{_≡_}
 use lib.Dec.{ltb}
 use lib.ListN.{getD}
-use Rattle.rules.specs.Letters.{valueOf, bases, letterSet, folded}
+use Rattle.rules.specs.Letters.{letterSet, folded}
+pub use Rattle.rules.specs.Letters.{isBase}
 use Rattle.rules.specs.Codons.{codonRule}
 use Rattle.rules.specs.Complement.{complement}
 
 -- the set of a byte in plain translation, and the empty set of a byte that it refuses
 unfoldable pub foldedSet : ℕ → ℕ
 foldedSet b = letterSet (folded b)
-
--- one of the four bases: A, C, G, T
-abbrev pub isBase : ℕ → Bool
-isBase b = ltb 0 (valueOf b bases)
 
 -- plain translation takes the byte for one base
 unfoldable pub foldsToBase : ℕ → Bool

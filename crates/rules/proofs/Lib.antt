@@ -36,3 +36,5 @@ pub mod Fields
 pub mod Stores
 pub mod WithLongest
 pub mod RequestedStores
+pub mod Panels
+pub mod RequestedPanel

@@ -19,6 +19,10 @@ valueOf b (p ∷ ps) = pick (eqb b (p .0)) (p .1) (valueOf b ps)
 abbrev pub bases : List (ℕ × ℕ)
 bases = (byte "A", 1) ∷ (byte "C", 2) ∷ (byte "G", 4) ∷ (byte "T", 8) ∷ []
 
+-- one of the four bases: A, C, G, T
+abbrev pub isBase : ℕ → Bool
+isBase b = ltb 0 (valueOf b bases)
+
 -- the set of the bases named
 abbrev pub setOf : List ℕ → ℕ
 setOf [] = 0

@@ -1,5 +1,5 @@
 -- The definitions of document 01 as document 02 amends it, a file for each part and in its order, each over those above it; Reuse is E4, Check E7,
--- Longest and Settings are E12. Bytes has the words that all share, Views the plain types as the sections' own, Values the numbers that a host
+-- Longest and Settings are E12, Panel is E9. Bytes has the words that all share, Views the plain types as the sections' own, Values the numbers that a host
 -- reads, Opened what a worked example computes with.
 pub mod Bytes
 pub mod Letters
@@ -21,6 +21,7 @@ pub mod Views
 pub mod Answer
 pub mod Check
 pub mod Longest
+pub mod Panel
 pub mod Values
 pub mod Stored
 pub mod Storing

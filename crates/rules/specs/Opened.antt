@@ -19,6 +19,7 @@ use Rattle.rules.specs.Refusal.{referenceRefusal, refusal, roomTests, ro
 use Rattle.rules.specs.Answer.{writtenOf, bytesOf, writesNothing, unknownReport, fullReport, writesAll, outcomeBy, outcome}
 use Rattle.rules.specs.Check.{stands, replays, beginsThere, leavesEnding, isShortest, isChanged, isProposal, proposalTests, checksNothing, verdictOf, checksAll, checkBy, checkOutcome}
 use Rattle.rules.specs.Longest.{isGivenLongest, limitsWith, withLongest, outcomeWithin, checkWithin}
+use Rattle.rules.specs.Panel.{isPanelKind, isInside, hasBases, isOfPanel, namesBase, profileTests, panelRefusal, panelOutcome, panelWithin}
 use Rattle.rules.specs.Values.{toldBy, valuesOf}
 use Rattle.rules.specs.Stored.{twoBytes, fourBytes, field, isWrongTag, isWrongContent, withField, met, fieldsFrom, fields, contentOf, referenceForm, exceptionsIn, contentsOf, joinedLetters, isIncomplete, isFull, isBegunEarly, areWrongBounds, contentTests, boundsIn, referenceIn, assembled, assembledIn, checked, storedReference, isJoined, fitted, readReference, joinedBy, writtenJoined}
 use Rattle.rules.specs.Storing.{inTwo, fieldBytes, fieldsBytes}
@@ -28,5 +29,5 @@ use Rattle.rules.specs.Line.{position, joined, range, areCapitals, start
 use Rattle.rules.specs.Run.{decimalOf, decimal, shown, refusedLine, shownFirst, changeLine, recordLine, answerLine, editAnswer, editLineAnswer, answersFrom, answersOf, answers, linesFrom, lines, unlines, run}
 
 unfoldable pub opened : ℕ
-unfolding same count all each isCapital firstOf unless over letterSet isLetter upper folded isTable codonRule codon exceptionList excepted residuesFrom translated residueCount beforeStop throughStop isResidue areExceptions wholeCodons foldToLetters foldedTranslated translationTests translation names threeIn oneIn threeOf oneOf threes threeLetters oneLetters partnerIn complement reverseComplement complemented commonPrefix commonSuffix isShortEnd size isSize cdsSize fitsEnd areBounds cds codons areRising fitExceptions referenceProtein endsInStop isCutShort referenceTests place isOutside index isBefore isBehind counted startPlace endPlace startIndex endIndex endsPast isMisplaced isDisordered isOutOfCds areNewBases fitBases editTests part carried swapBy swap frame framed hasStop throughStopCodon cutAtStop findsStop kept cutSwap alteredTranscript deleted inserted cutOff alteredLength isUneven leavesCds putsBack frameshift suffixBehind inPrefix inSuffix shifted inFrame codonIndex codonNumber movedOne movedAll movedExceptions proteinOf alteredProtein liesBefore liesBehind origin isOfCds isReused alteredCoding codonsThroughStop countTo lookedUp isUnknown within silentWithin silentNumber ending partOf isCopy classByCounts classBy classOf firstCopied changeAt changeOf recordFrom recordOf replayed referenceRefusal refusal roomTests roomRefusal recordUnless writtenOf bytesOf writesNothing unknownReport fullReport writesAll outcomeBy outcome stands replays beginsThere leavesEnding isShortest isChanged isProposal proposalTests checksNothing verdictOf checksAll checkBy checkOutcome isGivenLongest limitsWith withLongest outcomeWithin checkWithin toldBy valuesOf twoBytes fourBytes field isWrongTag isWrongContent withField met fieldsFrom fields contentOf referenceForm exceptionsIn contentsOf joinedLetters isIncomplete isFull isBegunEarly areWrongBounds contentTests boundsIn referenceIn assembled assembledIn checked storedReference isJoined fitted readReference joinedBy writtenJoined inTwo fieldBytes fieldsBytes isVersion hasLongest versionOf layout withContent contentBy contentsIn settingsIn isLongest areSettings heldIn storedBy storedSettings storeValues settingsFields storeOf settingsTests writtenSettings isDigit digits valueFrom value isNumber numberOf number position joined range areCapitals startsWith isArrow baseVerb verb editLine behindSpace spaced behindRef referenceLine fitsLine decimalOf decimal shown refusedLine shownFirst changeLine recordLine answerLine editAnswer editLineAnswer answersFrom answersOf answers linesFrom lines unlines run
+unfolding same count all each isCapital firstOf unless over letterSet isLetter upper folded isTable codonRule codon exceptionList excepted residuesFrom translated residueCount beforeStop throughStop isResidue areExceptions wholeCodons foldToLetters foldedTranslated translationTests translation names threeIn oneIn threeOf oneOf threes threeLetters oneLetters partnerIn complement reverseComplement complemented commonPrefix commonSuffix isShortEnd size isSize cdsSize fitsEnd areBounds cds codons areRising fitExceptions referenceProtein endsInStop isCutShort referenceTests place isOutside index isBefore isBehind counted startPlace endPlace startIndex endIndex endsPast isMisplaced isDisordered isOutOfCds areNewBases fitBases editTests part carried swapBy swap frame framed hasStop throughStopCodon cutAtStop findsStop kept cutSwap alteredTranscript deleted inserted cutOff alteredLength isUneven leavesCds putsBack frameshift suffixBehind inPrefix inSuffix shifted inFrame codonIndex codonNumber movedOne movedAll movedExceptions proteinOf alteredProtein liesBefore liesBehind origin isOfCds isReused alteredCoding codonsThroughStop countTo lookedUp isUnknown within silentWithin silentNumber ending partOf isCopy classByCounts classBy classOf firstCopied changeAt changeOf recordFrom recordOf replayed referenceRefusal refusal roomTests roomRefusal recordUnless writtenOf bytesOf writesNothing unknownReport fullReport writesAll outcomeBy outcome stands replays beginsThere leavesEnding isShortest isChanged isProposal proposalTests checksNothing verdictOf checksAll checkBy checkOutcome isGivenLongest limitsWith withLongest outcomeWithin checkWithin isPanelKind isInside hasBases isOfPanel namesBase profileTests panelRefusal panelOutcome panelWithin toldBy valuesOf twoBytes fourBytes field isWrongTag isWrongContent withField met fieldsFrom fields contentOf referenceForm exceptionsIn contentsOf joinedLetters isIncomplete isFull isBegunEarly areWrongBounds contentTests boundsIn referenceIn assembled assembledIn checked storedReference isJoined fitted readReference joinedBy writtenJoined inTwo fieldBytes fieldsBytes isVersion hasLongest versionOf layout withContent contentBy contentsIn settingsIn isLongest areSettings heldIn storedBy storedSettings storeValues settingsFields storeOf settingsTests writtenSettings isDigit digits valueFrom value isNumber numberOf number position joined range areCapitals startsWith isArrow baseVerb verb editLine behindSpace spaced behindRef referenceLine fitsLine decimalOf decimal shown refusedLine shownFirst changeLine recordLine answerLine editAnswer editLineAnswer answersFrom answersOf answers linesFrom lines unlines run
 opened = 0

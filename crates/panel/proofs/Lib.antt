@@ -1,0 +1,3 @@
+-- Laws of the profile.
+pub mod Judging
+pub mod Answering

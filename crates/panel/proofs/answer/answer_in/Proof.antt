@@ -1,0 +1,81 @@
+-- `panel::answer::answer_in` meets its contract. Assumes nothing.
+use mathlib.Core.Path.{sym}
+use native.Mathlib.Omega.{arith}
+use borrow.Author.Needs.{needs}
+use lib.Seq.{length-take-le}
+use Rattle.rules.specs.Refusal.{limits}
+use Rattle.rules.specs.Views.{asked, referenceOf, roomOf}
+use Rattle.reference.proofs.Checking.{checked-refused, checked-accepted, protein-held, cds-known, residues-within, knows}
+use Rattle.panel.proofs.Answering.{reference-refused, answers-cds}
+use Rattle.panel.proofs.answer.answer_in.Statement.{statement}
+use Rattle.panel.proofs.answer.answer_in.Tie as tie
+
+-- where the reference was checked
+abbrev checked-before : tie.After-answer-profiled → tie.After-known-told2
+checked-before c = c .before .before .before .before .before
+
+slice-reshare-prefix-answer-profiled : tie.Need-slice-reshare-prefix-answer-profiled
+slice-reshare-prefix-answer-profiled c =
+    let a = c .before .before .before .before .before .before .before .before .before .before .before .before .before .before .before .args in
+    let x = c .before .before .before .before .before .check-reference in
+    let k = c .before .known .given .0 .0 in
+    let ok = checked-accepted (limits .longest) (a .letters .now) (a .asks .cds) (a .asks .e) (x .result) (x .ensures .0) k (c .before .known .given .1) in
+    let held = protein-held (limits .longest) (a .letters .now) (a .asks .cds) (a .asks .e) _ _ (ok .0) (x .ensures .1) in
+    residues-within limits (a .letters .now) (a .asks .cds) (a .asks .e) k (ok .0) (ok .1) _ _ held
+
+slice-aggregate-answer-profiled : tie.Need-slice-aggregate-answer-profiled
+slice-aggregate-answer-profiled c =
+    let d = c .before in
+    let a = d .before .before .before .before .before .before .before .before .before .before .before .before .before .before .before .args in
+    let x = d .before .before .before .before .before .check-reference in
+    let k = d .before .known .given .0 .0 in
+    let ok = checked-accepted (limits .longest) (a .letters .now) (a .asks .cds) (a .asks .e) (x .result) (x .ensures .0) k (d .before .known .given .1) in
+    let held = protein-held (limits .longest) (a .letters .now) (a .asks .cds) (a .asks .e) _ _ (ok .0) (x .ensures .1) in
+    sym (length-take-le (k .residues) _ (residues-within limits (a .letters .now) (a .asks .cds) (a .asks .e) k (ok .0) (ok .1) _ _ held))
+
+answer-profiled-requires : tie.Need-answer-profiled-requires
+answer-profiled-requires c κs =
+    let d = c .before .before .before .before in
+    let a = d .before .before .before .before .before .before .before .before .before .before .before .before .before .before .before .args in
+    let x = d .before .before .before .before .before .check-reference in
+    let k = d .before .known .given .0 .0 in
+    let ok = checked-accepted (limits .longest) (a .letters .now) (a .asks .cds) (a .asks .e) (x .result) (x .ensures .0) k (d .before .known .given .1) in
+    let held = protein-held (limits .longest) (a .letters .now) (a .asks .cds) (a .asks .e) _ _ (ok .0) (x .ensures .1) in
+    knows limits (a .letters .now) (a .asks .cds) (a .asks .e) k (ok .0) (ok .1) _ _ held (omega arith)
+
+returns : tie.Need-returns
+returns c =
+    let a = c .before .before .before .before .before .before .before .before .before .before .before .before .before .before .before .args in
+    let x = c .before .before .before .before .before .check-reference in
+    let n = c .before .n .given .0 .0 in
+    let no = checked-refused (limits .longest) (a .letters .now) (a .asks .cds) (a .asks .e) (x .result) (x .ensures .0) n (c .before .n .given .1) in
+    reference-refused limits (referenceOf (a .letters .now) (a .asks .cds) (a .asks .e)) (asked (a .asks .edit) (a .new .now)) (a .named) (a .transcript .now) (a .reference .now) (a .altered .now) n (no .0) (no .1)
+
+returns-2 : tie.Need-returns-2
+returns-2 c =
+    let e = c .before .before .before .before .before .before in
+    let d = checked-before e in
+    let a = d .before .before .before .before .before .before .before .before .before .before .before .before .before .before .before .args in
+    let x = d .before .before .before .before .before .check-reference in
+    let k = d .before .known .given .0 .0 in
+    let ok = checked-accepted (limits .longest) (a .letters .now) (a .asks .cds) (a .asks .e) (x .result) (x .ensures .0) k (d .before .known .given .1) in
+    answers-cds (a .letters .now) (k .cds) (a .asks .cds) (a .asks .e) (asked (a .asks .edit) (a .new .now)) (a .named) (roomOf (a .transcript .now) (a .reference .now) (a .altered .now)) _ (a .transcript .now) _ (a .reference .now) _ (a .altered .now) _
+    (cds-known limits (a .letters .now) (a .asks .cds) (a .asks .e) k (ok .0) (ok .1)) (e .answer-profiled .ensures)
+
+pub answer-in-spec : {M : Type 1} → statement M
+answer-in-spec =
+    tie.close
+    (tie.spec
+    (λ c κs. search needs)
+    (λ c. search needs)
+    (λ c. search needs)
+    slice-reshare-prefix-answer-profiled
+    slice-aggregate-answer-profiled
+    answer-profiled-requires
+    (λ c. search needs)
+    returns
+    (λ c. search needs)
+    (λ c. search needs)
+    (λ c. search needs)
+    (λ c. search needs)
+    returns-2)

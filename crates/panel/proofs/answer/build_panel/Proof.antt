@@ -1,0 +1,26 @@
+-- `panel::answer::build_panel` meets its contract. Assumes nothing.
+use native.Mathlib.Omega.{arith}
+use borrow.Author.Needs.{needs}
+use Rattle.rules.specs.Translation.{residueCount}
+use Rattle.panel.proofs.answer.build_panel.Statement.{statement}
+use Rattle.panel.proofs.answer.build_panel.Tie as tie
+
+answer-in-requires : tie.Need-answer-in-requires
+unfolding residueCount
+answer-in-requires c κs = search needs
+
+pub build-panel-spec : {M : Type 1} → statement M
+build-panel-spec =
+    tie.close
+    (tie.spec
+    (λ c κs. search needs)
+    (λ c. search needs)
+    (λ c. search needs)
+    (λ c. search needs)
+    (λ c. search needs)
+    (λ c. search needs)
+    answer-in-requires
+    (λ c. search needs)
+    (λ c. search needs)
+    (λ c. search needs)
+    (λ c. search needs))

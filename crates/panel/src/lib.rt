@@ -1,0 +1,5 @@
+// The panel profile: a stricter mode, whose answers are those of the full module.
+mod answer;
+mod profile;
+
+pub use answer::build_panel;
