@@ -130,11 +130,11 @@ static uint64_t excepted_len;
 static struct garumbott_answer ours_record(uint64_t table, int64_t start)
 {
 #ifdef __x86_64__
-    return garumbott_record(letters, ref.len, ref.cs, ref.ce, table, excepted, excepted_len, 0, edit.kind, 0, start, 0, edit.end, edit.bases, edit.bases_len, tx, sizeof tx, rp,
+    return garumbott_record(letters, ref.len, ref.cs, ref.ce, table, excepted, excepted_len, 0, edit.kind, 0, start, 0, edit.end, edit.bases, edit.bases_len, 0, tx, sizeof tx, rp,
                             sizeof rp, ap, sizeof ap);
 #else
     struct garumbott_answer answer;
-    record_through(&answer, letters, ref.len, ref.cs, ref.ce, table, excepted, excepted_len, 0, edit.kind, 0, start, 0, edit.end, edit.bases, edit.bases_len, tx, sizeof tx, rp,
+    record_through(&answer, letters, ref.len, ref.cs, ref.ce, table, excepted, excepted_len, 0, edit.kind, 0, start, 0, edit.end, edit.bases, edit.bases_len, 0, tx, sizeof tx, rp,
                    sizeof rp, ap, sizeof ap);
     return answer;
 #endif
@@ -152,11 +152,11 @@ static struct garumbott_answer own;
 static struct garumbott_checked ours_judged(void)
 {
 #ifdef __x86_64__
-    return garumbott_check(letters, ref.len, ref.cs, ref.ce, 0, excepted, excepted_len, 0, edit.kind, 0, edit.start, 0, edit.end, edit.bases, edit.bases_len, own.number, own_deleted,
+    return garumbott_check(letters, ref.len, ref.cs, ref.ce, 0, excepted, excepted_len, 0, edit.kind, 0, edit.start, 0, edit.end, edit.bases, edit.bases_len, 0, own.number, own_deleted,
                            own.deleted_len, own_inserted, own.inserted_len, tx, sizeof tx, rp, sizeof rp, ap, sizeof ap);
 #else
     struct garumbott_checked checked;
-    check_through(&checked, letters, ref.len, ref.cs, ref.ce, 0, excepted, excepted_len, 0, edit.kind, 0, edit.start, 0, edit.end, edit.bases, edit.bases_len, own.number, own_deleted,
+    check_through(&checked, letters, ref.len, ref.cs, ref.ce, 0, excepted, excepted_len, 0, edit.kind, 0, edit.start, 0, edit.end, edit.bases, edit.bases_len, 0, own.number, own_deleted,
                   own.deleted_len, own_inserted, own.inserted_len, tx, sizeof tx, rp, sizeof rp, ap, sizeof ap);
     return checked;
 #endif

@@ -147,11 +147,11 @@ static struct garumbott_answer ours_of(const struct reference *r, uint8_t *to_tx
 {
 #ifdef __x86_64__
     return garumbott_record(r->letters, r->len, r->cs, r->ce, r->table, r->exceptions, r->exceptions_len, r->end, edit.kind, edit.start_star, edit.start,
-                            edit.end_star, edit.end, edit.bases, edit.bases_len, to_tx, ROOM, to_r, ROOM, to_a, ROOM);
+                            edit.end_star, edit.end, edit.bases, edit.bases_len, 0, to_tx, ROOM, to_r, ROOM, to_a, ROOM);
 #else
     struct garumbott_answer answer;
     record_through(&answer, r->letters, r->len, r->cs, r->ce, r->table, r->exceptions, r->exceptions_len, r->end, edit.kind, edit.start_star, edit.start,
-                   edit.end_star, edit.end, edit.bases, edit.bases_len, to_tx, ROOM, to_r, ROOM, to_a, ROOM);
+                   edit.end_star, edit.end, edit.bases, edit.bases_len, 0, to_tx, ROOM, to_r, ROOM, to_a, ROOM);
     return answer;
 #endif
 }

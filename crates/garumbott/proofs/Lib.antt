@@ -2,5 +2,6 @@
 pub mod Signed
 pub mod Given
 pub mod Excepted
+pub mod Within
 pub mod Keeping
 pub mod Promised

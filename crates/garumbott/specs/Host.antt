@@ -22,9 +22,11 @@ use Rattle.rules.specs.Edit.{Asked}
 use Rattle.rules.specs.Stored.{exceptionsIn}
 use Rattle.rules.specs.Answer.{Outcome}
 use Rattle.rules.specs.Check.{CheckOutcome}
+use Rattle.rules.specs.Longest.{withLongest}
 use Rattle.rules.specs.Values.{kindAt, flagNumber, Told, Values, valuesOf}
 use Rattle.altseq.specs.declared.alone.Transcribed.{Transcribed}
 use Rattle.altseq.specs.declared.alone.Transcribed.the-variants as transcribed
+use Rattle.altseq.specs.Transcribing.{Edited, unwritten, edited}
 use Rattle.garumbott.specs.declared.numbers.GarumbottLength.{GarumbottLength}
 use Rattle.garumbott.specs.declared.numbers.GarumbottAnswer.{GarumbottAnswer}
 use Rattle.garumbott.specs.declared.numbers.GarumbottChecked.{GarumbottChecked}
@@ -129,6 +131,10 @@ transcribedOf (transcribed.Written n flag) =
       first = 0;
       codons = 0;
     }
+
+-- the altered transcript alone, with the longest edit of a call
+unfoldable pub editedWithin : ℕ → Reference → Asked → ℕ → Edited
+editedWithin n r e room = withLongest n (unwritten (transcribed.Refused 62)) (λ m. edited m r e room)
 
 -- what a proposed record is answered
 abbrev pub checkedOf : Check → GarumbottChecked
