@@ -10,7 +10,7 @@
 #include <string.h>
 #include <time.h>
 
-enum { PASSES = 10, ROUNDS = 100, SAMPLE_NS = 20000, MOST = 20000, CALLS = 5, ROWS = 96 };
+enum { PASSES = 10, ROUNDS = 100, SAMPLE_NS = 20000, MOST = 20000, CALLS = 5, ROWS = 128 };
 
 static double now(void)
 {
@@ -113,11 +113,11 @@ static void ours_prefix(void)
 #ifndef __x86_64__
 /* The object of bench/native follows x86-64's convention on every processor: a struct above sixteen bytes is written through a first argument. */
 void record_through(struct garumbott_answer *answer, const uint8_t *letters, uint64_t letters_len, uint64_t cs, uint64_t ce, uint64_t table,
-                    const uint8_t *exceptions, uint64_t exceptions_len, uint64_t cds_end, uint64_t kind, uint64_t start_star, int64_t start, uint64_t end_star,
+                    const uint8_t *exceptions, uint64_t exceptions_len, uint64_t cds_end, uint64_t form, uint64_t size, uint64_t kind, uint64_t start_star, int64_t start, uint64_t end_star,
                     int64_t end, const uint8_t *bases, uint64_t bases_len, uint8_t *transcript, uint64_t transcript_len, uint8_t *reference,
                     uint64_t reference_len, uint8_t *altered, uint64_t altered_len) __asm__("garumbott_record");
 void check_through(struct garumbott_checked *checked, const uint8_t *letters, uint64_t letters_len, uint64_t cs, uint64_t ce, uint64_t table,
-                   const uint8_t *exceptions, uint64_t exceptions_len, uint64_t cds_end, uint64_t kind, uint64_t start_star, int64_t start, uint64_t end_star,
+                   const uint8_t *exceptions, uint64_t exceptions_len, uint64_t cds_end, uint64_t form, uint64_t size, uint64_t kind, uint64_t start_star, int64_t start, uint64_t end_star,
                    int64_t end, const uint8_t *bases, uint64_t bases_len, uint64_t number, const uint8_t *deleted, uint64_t deleted_len,
                    const uint8_t *inserted, uint64_t inserted_len, uint8_t *transcript, uint64_t transcript_len, uint8_t *reference,
                    uint64_t reference_len, uint8_t *altered, uint64_t altered_len) __asm__("garumbott_check");
@@ -127,14 +127,29 @@ void check_through(struct garumbott_checked *checked, const uint8_t *letters, ui
 static const uint8_t *excepted;
 static uint64_t excepted_len;
 
+/* The letters as they are lent: a byte each, but where a row packs them. */
+static uint8_t packed[MOST / 2 + 1];
+static const uint8_t *lent = letters;
+static uint64_t lent_len, form;
+
+static void lend_bytes(void)
+{
+    lent = letters, lent_len = ref.len, form = GARUMBOTT_FORM_BYTES;
+}
+
+static void lend_packed(void)
+{
+    lent = packed, lent_len = GARUMBOTT_PACKED_BYTES(ref.len), form = GARUMBOTT_FORM_PACKED;
+}
+
 static struct garumbott_answer ours_record(uint64_t table, int64_t start)
 {
 #ifdef __x86_64__
-    return garumbott_record(letters, ref.len, ref.cs, ref.ce, table, excepted, excepted_len, 0, edit.kind, 0, start, 0, edit.end, edit.bases, edit.bases_len, tx, sizeof tx, rp,
+    return garumbott_record(lent, lent_len, ref.cs, ref.ce, table, excepted, excepted_len, 0, form, ref.len, edit.kind, 0, start, 0, edit.end, edit.bases, edit.bases_len, tx, sizeof tx, rp,
                             sizeof rp, ap, sizeof ap);
 #else
     struct garumbott_answer answer;
-    record_through(&answer, letters, ref.len, ref.cs, ref.ce, table, excepted, excepted_len, 0, edit.kind, 0, start, 0, edit.end, edit.bases, edit.bases_len, tx, sizeof tx, rp,
+    record_through(&answer, lent, lent_len, ref.cs, ref.ce, table, excepted, excepted_len, 0, form, ref.len, edit.kind, 0, start, 0, edit.end, edit.bases, edit.bases_len, tx, sizeof tx, rp,
                    sizeof rp, ap, sizeof ap);
     return answer;
 #endif
@@ -142,7 +157,15 @@ static struct garumbott_answer ours_record(uint64_t table, int64_t start)
 
 static void ours_anew(void)
 {
+    lend_bytes();
     sink += ours_record(0, edit.start).number;
+}
+
+static void ours_packed(void)
+{
+    lend_packed();
+    sink += ours_record(0, edit.start).number;
+    lend_bytes();
 }
 
 /* The edit's own record, handed back. */
@@ -152,11 +175,11 @@ static struct garumbott_answer own;
 static struct garumbott_checked ours_judged(void)
 {
 #ifdef __x86_64__
-    return garumbott_check(letters, ref.len, ref.cs, ref.ce, 0, excepted, excepted_len, 0, edit.kind, 0, edit.start, 0, edit.end, edit.bases, edit.bases_len, own.number, own_deleted,
+    return garumbott_check(lent, lent_len, ref.cs, ref.ce, 0, excepted, excepted_len, 0, form, ref.len, edit.kind, 0, edit.start, 0, edit.end, edit.bases, edit.bases_len, own.number, own_deleted,
                            own.deleted_len, own_inserted, own.inserted_len, tx, sizeof tx, rp, sizeof rp, ap, sizeof ap);
 #else
     struct garumbott_checked checked;
-    check_through(&checked, letters, ref.len, ref.cs, ref.ce, 0, excepted, excepted_len, 0, edit.kind, 0, edit.start, 0, edit.end, edit.bases, edit.bases_len, own.number, own_deleted,
+    check_through(&checked, lent, lent_len, ref.cs, ref.ce, 0, excepted, excepted_len, 0, form, ref.len, edit.kind, 0, edit.start, 0, edit.end, edit.bases, edit.bases_len, own.number, own_deleted,
                   own.deleted_len, own_inserted, own.inserted_len, tx, sizeof tx, rp, sizeof rp, ap, sizeof ap);
     return checked;
 #endif
@@ -185,6 +208,7 @@ static void ours_letters(void)
 #define ours_check NULL
 #define ours_letters NULL
 #define ours_record_checked NULL
+#define ours_packed NULL
 #endif
 
 /* ---- timing ---- */
@@ -263,21 +287,21 @@ static void row(const char *what, double ours, double rust, double until, double
     fflush(stdout);
 }
 
-static void head_checked(const char *what)
+static void head_pair(const char *what, const char *one, const char *two, const char *both)
 {
     if (pass == PASSES)
-        printf("\n%-38s%10s%10s%14s\n", what, "check", "record", "check/record");
+        printf("\n%-38s%10s%10s%14s\n", what, one, two, both);
 }
 
-static void row_checked(const char *what, double checked, double record)
+static void row_pair(const char *what, double one, double two)
 {
     if (pass < PASSES)
         return;
     printf("%-38s", what);
-    cell(checked);
-    cell(record);
+    cell(one);
+    cell(two);
     printf("    ");
-    ratio(checked, record);
+    ratio(one, two);
     printf("\n");
     fflush(stdout);
 }
@@ -290,6 +314,9 @@ static void make_letters(uint64_t len)
     ref = (struct base_reference){letters, len, 1, len / 3 * 3, 0, NULL, 0};
     for (uint64_t i = 0; i < len; i++)
         letters[i] = "ACGT"[next() & 3];
+#ifdef OURS
+    lend_bytes();
+#endif
 }
 
 /* One in a hundred, and at least one. */
@@ -404,6 +431,31 @@ static void check_edit(void)
 #endif
 }
 
+#ifdef OURS
+/* The same letters, packed, get the same answer and the same bytes. */
+static void check_packed(void)
+{
+    static uint8_t tx5[2 * MOST], rp5[MOST], ap5[MOST];
+    memset(tx, 0, sizeof tx);
+    memset(rp, 0, sizeof rp);
+    memset(ap, 0, sizeof ap);
+    struct garumbott_answer a = ours_record(0, edit.start);
+    memcpy(tx5, tx, sizeof tx);
+    memcpy(rp5, rp, sizeof rp);
+    memcpy(ap5, ap, sizeof ap);
+    memset(tx, 0, sizeof tx);
+    memset(rp, 0, sizeof rp);
+    memset(ap, 0, sizeof ap);
+    if (garumbott_pack(letters, ref.len, packed, sizeof packed).refusal)
+        fail("letters that can't be packed");
+    lend_packed();
+    struct garumbott_answer b = ours_record(0, edit.start);
+    lend_bytes();
+    if (a.refusal || memcmp(&a, &b, sizeof a) || memcmp(tx, tx5, sizeof tx) || memcmp(rp, rp5, sizeof rp) || memcmp(ap, ap5, sizeof ap))
+        fail("packed letters");
+}
+#endif
+
 /* ---- the tables ---- */
 
 /* What the whole takes beside a part of it. */
@@ -488,7 +540,7 @@ static void make_middle(unsigned k, uint64_t len, char what[64])
 static void row_own(const char *what)
 {
     const double *best = best_of((call[]){ours_record_checked, ours_anew}, 2);
-    row_checked(what, best[0], best[1]);
+    row_pair(what, best[0], best[1]);
 }
 
 static void checks(uint64_t len)
@@ -542,6 +594,30 @@ static void edits(uint64_t len)
     }
 }
 
+/* Whole calls on packed letters beside those on bytes, of plain letters and with one in a hundred ambiguous, none of which makes a stop. */
+static void packings(uint64_t len)
+{
+    for (int strewn = 0; strewn < 2; strewn++)
+        for (unsigned k = 0; k < sizeof kinds / sizeof *kinds; k++) {
+            char what[64];
+            make_middle(k, len, what);
+            if (strewn) {
+                seed = 3;
+                for (uint64_t i = 0; i < len; i++)
+                    if (next() % 100 == 0 && (i < ref.ce - 3 || i >= ref.ce))
+                        letters[i] = "YSWKMBDHVN"[next() % 10];
+                snprintf(what, sizeof what, "%lu %s, ambiguous", (unsigned long)len, kinds[k].name);
+            }
+#ifdef OURS
+            check_packed();
+#endif
+            const double *best = best_of((call[]){ours_packed, ours_anew}, 2);
+            row_pair(what, best[0], best[1]);
+            oracle_edit_free(rust_edit);
+            oracle_reference_free(rust_ref);
+        }
+}
+
 int main(void)
 {
     static const uint64_t lengths[] = {16384, 3000, 30};
@@ -558,9 +634,12 @@ int main(void)
         head("edits with their record");
         edits(3000);
         edits(16384);
-        head_checked("an edit's own record, checked");
+        head_pair("an edit's own record, checked", "check", "record", "check/record");
         checks(3000);
         checks(16384);
+        head_pair("packed letters beside bytes", "packed", "bytes", "packed/bytes");
+        packings(3000);
+        packings(16384);
     }
     return 0;
 }

@@ -49,7 +49,7 @@
  *   Versions. Later versions add members at the ends of the structs; 0 in a new member means what is done today. The functions over slices and numbers
  *     gain parameters; those over structs keep theirs. New in 2.0.0: the end of a CDS (cds_end in garumbott_record and garumbott_edit, behind
  *     exceptions_len; end in struct garumbott_reference and struct garumbott_stored; tag 8 of stored references; refusal 28), with R's room rounded
- *     up for a cut codon; garumbott_write_stored, with refusal 24; garumbott_check, with refusals 26 and 27; garumbott_pair, with refusals 51 to 53; garumbott_compare, with refusals 50, 101 to 106 and 128; codons in struct garumbott_answer; transcripts up to 131,072 bases (rooms and GARUMBOTT_STACK have grown; a buffer for joined letters in garumbott_read_stored and garumbott_reference_at; joined in struct garumbott_stored; tags 5, 6 and 7 of stored references; refusals 25 and 29). Other answers than in 1: a copy of the first
+ *     up for a cut codon; garumbott_write_stored, with refusal 24; garumbott_check, with refusals 26 and 27; garumbott_pair, with refusals 51 to 53; garumbott_compare, with refusals 50, 101 to 106 and 128; codons in struct garumbott_answer; packed letters (form and size, behind cds_end, and at the end of struct garumbott_reference), with garumbott_pack; transcripts up to 131,072 bases (rooms and GARUMBOTT_STACK have grown; a buffer for joined letters in garumbott_read_stored and garumbott_reference_at; joined in struct garumbott_stored; tags 5, 6 and 7 of stored references; refusals 25 and 29). Other answers than in 1: a copy of the first
  *     residues is a duplication, and a codon whose plain codons give exactly D and N, or exactly E and Q, is 'B' or 'Z' in R and A, where it was
  *     'X': a record kept with that 'X' no longer replays. The archive can't tell which header its caller was compiled with: compile all of a host
  *     with the header that came with the archive, and anew whenever they change.
@@ -108,6 +108,10 @@ extern "C" {
 #define GARUMBOTT_END_NO_STOP 1   /* without a stop, behind a whole codon: the transcript is cut short */
 #define GARUMBOTT_END_CUT_CODON 2 /* without a stop, in one or two bases of a codon: likewise */
 
+/* Forms of a reference's letters. Every other number is refused with 1. */
+#define GARUMBOTT_FORM_BYTES 0  /* a byte a letter */
+#define GARUMBOTT_FORM_PACKED 1 /* two letters a byte, each the sum of its bases (A 1, C 2, G 4, T 8): as BAM has them. See garumbott_pack */
+
 /* Kinds of edit. Every other number is an unknown kind and refused with 10. */
 #define GARUMBOTT_SUBSTITUTION 1 /* one base gives way to one new base */
 #define GARUMBOTT_DELETION 2     /* start to end go */
@@ -137,9 +141,9 @@ extern "C" {
 #define GARUMBOTT_CHANGE_DELINS 9
 
 /* Refusals. 0 is none. */
-#define GARUMBOTT_REFUSAL_LENGTH 1           /* the transcript has no letter, or more than GARUMBOTT_LONGEST */
-#define GARUMBOTT_REFUSAL_LETTER 2           /* a letter isn't one of ACGTRYSWKMBDHVN (plain translation: either case, and U too) */
-#define GARUMBOTT_REFUSAL_BOUNDS 3           /* not 1 <= cs <= ce <= letters_len, or ce-cs+1 not divisible by 3 (a cut codon: divisible), or below 6 */
+#define GARUMBOTT_REFUSAL_LENGTH 1           /* the transcript has no letter, or more than GARUMBOTT_LONGEST; packed: not as many bytes as L has; or no form */
+#define GARUMBOTT_REFUSAL_LETTER 2           /* a letter isn't one of ACGTRYSWKMBDHVN (plain translation: either case, and U too); packed: 0, or the spare half isn't */
+#define GARUMBOTT_REFUSAL_BOUNDS 3           /* not 1 <= cs <= ce <= L, or ce-cs+1 not divisible by 3 (a cut codon: divisible), or below 6 */
 #define GARUMBOTT_REFUSAL_TABLE 4            /* the table isn't 0, 1 or 2 */
 #define GARUMBOTT_REFUSAL_EXCEPTIONS 5       /* too many exceptions, a codon number or a residue that is none, or codon numbers out of order */
 #define GARUMBOTT_REFUSAL_LAST_CODON 6       /* the CDS is said to end at a stop, and its last codon, exceptions applied, doesn't read '*' */
@@ -264,7 +268,13 @@ struct garumbott_stored {
 /* The whole answer to one edit of a reference.
  *
  * The reference:
- *   letters, letters_len         the transcript, 1 to 131,072 upper-case letters (1, 2)
+ *   letters, letters_len         the transcript's bytes, and how many they are
+ *   form, size                   GARUMBOTT_FORM_BYTES: a byte a letter, 1 to 131,072 upper-case letters (1, 2); size isn't looked at.
+ *                                GARUMBOTT_FORM_PACKED: two letters a byte, the first in the high half, each the sum of its bases: A 1, C 2, G 4,
+ *                                T 8, so that R is 5 and N 15. size is L, the number of letters: "\x18\x48\x11", 6 is ATGTAA. Of an odd L the low
+ *                                half of the last byte is spare, and zero. Refused are: bytes that aren't half of L, rounded up, or an L that is 0
+ *                                or too large (1); a letter that is 0, or a spare half that isn't (2). Everything else is as for the same letters a
+ *                                byte each. The new bases, the three buffers and the stored form have a byte a letter
  *   cs, ce                       first and last base of the CDS, counted from 1, both included: six bases or more, whole codons, but for a CDS that
  *                                ends in a cut codon (3)
  *   table                        GARUMBOTT_TABLE_..; not NCBI's number (4)
@@ -313,16 +323,16 @@ struct garumbott_stored {
  * Refusals 1 to 12, the lowest that applies, 28 in 6's place where the CDS doesn't end at a stop; but Unknown is decided before 11, so that
  * it needs no room. Refused and Unknown write nothing; every other answer writes all three buffers. */
 struct garumbott_answer garumbott_record(const uint8_t *letters, uint64_t letters_len, uint64_t cs, uint64_t ce, uint64_t table,
-                                         const uint8_t *exceptions, uint64_t exceptions_len, uint64_t cds_end, uint64_t kind,
-                                         uint64_t start_star, int64_t start, uint64_t end_star, int64_t end, const uint8_t *bases,
+                                         const uint8_t *exceptions, uint64_t exceptions_len, uint64_t cds_end, uint64_t form,
+                                         uint64_t size, uint64_t kind, uint64_t start_star, int64_t start, uint64_t end_star, int64_t end, const uint8_t *bases,
                                          uint64_t bases_len, uint8_t *transcript, uint64_t transcript_len, uint8_t *reference,
                                          uint64_t reference_len, uint8_t *altered, uint64_t altered_len);
 
 /* The altered transcript alone. Parameters, refusals 1 to 11, 28 in 6's place, and Unknown are those of garumbott_record. Where it writes, the answer is
  * GARUMBOTT_CHANGED, with transcript_len and frameshift, and every other number is 0: no protein was compared. */
 struct garumbott_answer garumbott_edit(const uint8_t *letters, uint64_t letters_len, uint64_t cs, uint64_t ce, uint64_t table,
-                                       const uint8_t *exceptions, uint64_t exceptions_len, uint64_t cds_end, uint64_t kind,
-                                       uint64_t start_star, int64_t start, uint64_t end_star, int64_t end, const uint8_t *bases,
+                                       const uint8_t *exceptions, uint64_t exceptions_len, uint64_t cds_end, uint64_t form,
+                                       uint64_t size, uint64_t kind, uint64_t start_star, int64_t start, uint64_t end_star, int64_t end, const uint8_t *bases,
                                        uint64_t bases_len, uint8_t *transcript, uint64_t transcript_len);
 
 /* Checks a protein record that somebody else made of an edit: a proposal. The reference, the edit and the buffers are those of garumbott_record, and R and A
@@ -352,8 +362,8 @@ struct garumbott_answer garumbott_edit(const uint8_t *letters, uint64_t letters_
  * silent; 27. So an Unknown needs no room, and a proposal is looked at only where there is a change to hold it to. A refusal leaves every byte of the
  * three buffers as it was, 26 and 27 too. A yes and a no have written all three as garumbott_record does. */
 struct garumbott_checked garumbott_check(const uint8_t *letters, uint64_t letters_len, uint64_t cs, uint64_t ce, uint64_t table,
-                                         const uint8_t *exceptions, uint64_t exceptions_len, uint64_t cds_end, uint64_t kind,
-                                         uint64_t start_star, int64_t start, uint64_t end_star, int64_t end, const uint8_t *bases,
+                                         const uint8_t *exceptions, uint64_t exceptions_len, uint64_t cds_end, uint64_t form,
+                                         uint64_t size, uint64_t kind, uint64_t start_star, int64_t start, uint64_t end_star, int64_t end, const uint8_t *bases,
                                          uint64_t bases_len, uint64_t number, const uint8_t *deleted, uint64_t deleted_len,
                                          const uint8_t *inserted, uint64_t inserted_len, uint8_t *transcript, uint64_t transcript_len,
                                          uint8_t *reference, uint64_t reference_len, uint8_t *altered, uint64_t altered_len);
@@ -502,7 +512,7 @@ uint64_t garumbott_common_suffix(const uint8_t *a, uint64_t a_len, const uint8_t
 /* ---- The same over structs ---------------------------------------------------------------------------------------------------------- */
 
 /* More than twenty arguments in a row are easy to mix up: these hold them by name. Members that an initializer leaves out are 0: no exceptions, no stars, no
- * bases, GARUMBOTT_TABLE_STANDARD and GARUMBOTT_END_STOP. */
+ * bases, GARUMBOTT_TABLE_STANDARD, GARUMBOTT_END_STOP and GARUMBOTT_FORM_BYTES. */
 struct garumbott_reference {
     const uint8_t *letters;
     uint64_t letters_len;
@@ -511,7 +521,9 @@ struct garumbott_reference {
     uint64_t table;
     const uint8_t *exceptions;
     uint64_t exceptions_len;
-    uint64_t end; /* cds_end: how the CDS ends, GARUMBOTT_END_.. */
+    uint64_t end;  /* cds_end: how the CDS ends, GARUMBOTT_END_.. */
+    uint64_t form; /* of the letters, GARUMBOTT_FORM_.. */
+    uint64_t size; /* L where they are packed; letters_len counts their bytes */
 };
 
 struct garumbott_coding_edit {
@@ -546,14 +558,16 @@ static inline struct garumbott_reference garumbott_reference_at(const struct gar
     r.exceptions = s->exceptions_len == 0 ? NULL : data + s->exceptions_at;
     r.exceptions_len = s->exceptions_len;
     r.end = s->end;
+    r.form = GARUMBOTT_FORM_BYTES;
+    r.size = 0;
     return r;
 }
 
 static inline struct garumbott_answer garumbott_record_of(const struct garumbott_reference *r, const struct garumbott_coding_edit *e,
                                                           const struct garumbott_buffers *b)
 {
-    return garumbott_record(r->letters, r->letters_len, r->cs, r->ce, r->table, r->exceptions, r->exceptions_len, r->end, e->kind,
-                            e->start_star, e->start, e->end_star, e->end, e->bases, e->bases_len, b->transcript, b->transcript_len,
+    return garumbott_record(r->letters, r->letters_len, r->cs, r->ce, r->table, r->exceptions, r->exceptions_len, r->end, r->form,
+                            r->size, e->kind, e->start_star, e->start, e->end_star, e->end, e->bases, e->bases_len, b->transcript, b->transcript_len,
                             b->reference, b->reference_len, b->altered, b->altered_len);
 }
 
@@ -561,16 +575,16 @@ static inline struct garumbott_answer garumbott_record_of(const struct garumbott
 static inline struct garumbott_answer garumbott_edit_of(const struct garumbott_reference *r, const struct garumbott_coding_edit *e,
                                                         const struct garumbott_buffers *b)
 {
-    return garumbott_edit(r->letters, r->letters_len, r->cs, r->ce, r->table, r->exceptions, r->exceptions_len, r->end, e->kind,
-                          e->start_star, e->start, e->end_star, e->end, e->bases, e->bases_len, b->transcript, b->transcript_len);
+    return garumbott_edit(r->letters, r->letters_len, r->cs, r->ce, r->table, r->exceptions, r->exceptions_len, r->end, r->form,
+                          r->size, e->kind, e->start_star, e->start, e->end_star, e->end, e->bases, e->bases_len, b->transcript, b->transcript_len);
 }
 
 static inline struct garumbott_checked garumbott_check_of(const struct garumbott_reference *r, const struct garumbott_coding_edit *e,
                                                           uint64_t number, const uint8_t *deleted, uint64_t deleted_len,
                                                           const uint8_t *inserted, uint64_t inserted_len, const struct garumbott_buffers *b)
 {
-    return garumbott_check(r->letters, r->letters_len, r->cs, r->ce, r->table, r->exceptions, r->exceptions_len, r->end, e->kind,
-                           e->start_star, e->start, e->end_star, e->end, e->bases, e->bases_len, number, deleted, deleted_len, inserted,
+    return garumbott_check(r->letters, r->letters_len, r->cs, r->ce, r->table, r->exceptions, r->exceptions_len, r->end, r->form,
+                           r->size, e->kind, e->start_star, e->start, e->end_star, e->end, e->bases, e->bases_len, number, deleted, deleted_len, inserted,
                            inserted_len, b->transcript, b->transcript_len, b->reference, b->reference_len, b->altered, b->altered_len);
 }
 
@@ -604,12 +618,31 @@ static inline struct garumbott_length garumbott_compare_of(const struct garumbot
                              s->letters_len, s->cs, s->ce, s->table, s->exceptions, s->exceptions_len, s->end, out, out_len);
 }
 
-/* Room that is enough for any edit of a kind with so many new bases. Less may do: 11 and 12 ask for the altered length itself, and for a
+/* Packs upper-case letters, two to a byte, for GARUMBOTT_FORM_PACKED. packed needs GARUMBOTT_PACKED_BYTES(letters_len) bytes. The first of these that
+ * applies is given: 15, 2; a refusal changes no byte. */
+#define GARUMBOTT_PACKED_BYTES(letters) ((letters) / 2 + (letters) % 2)
+
+static inline struct garumbott_length garumbott_pack(const uint8_t *letters, uint64_t letters_len, uint8_t *packed, uint64_t packed_len)
+{
+    static const char of_sets[] = "ACMGRSVTWYHKDBN"; /* the letter of the sets 1 to 15 */
+    uint8_t sets[256] = {0};
+    struct garumbott_length l = {0, 0};
+    for (uint8_t s = 1; s < 16; s++) sets[(uint8_t)of_sets[s - 1]] = s;
+    if (packed_len < GARUMBOTT_PACKED_BYTES(letters_len)) l.refusal = GARUMBOTT_REFUSAL_OUTPUT;
+    for (uint64_t i = 0; l.refusal == 0 && i < letters_len; i++) if (sets[letters[i]] == 0) l.refusal = GARUMBOTT_REFUSAL_LETTER;
+    if (l.refusal != 0) return l;
+    for (uint64_t i = 0; i < letters_len; i += 2)
+        packed[i / 2] = (uint8_t)(sets[letters[i]] << 4 | (i + 1 < letters_len ? sets[letters[i + 1]] : 0));
+    l.len = GARUMBOTT_PACKED_BYTES(letters_len);
+    return l;
+}
+
+/* Room that is enough for any edit of a kind with so many new bases, of a transcript of so many letters (which a packed one's letters_len isn't). Less may do: 11 and 12 ask for the altered length itself, and for a
  * residue of each of its codons from cs on. The numbers are those of a reference and an edit that aren't refused; garumbott_record with three
  * buffers of length 0 tells whether they are: it answers 11, 12 or Unknown to one that is accepted. */
-static inline uint64_t garumbott_transcript_room(uint64_t letters_len, uint64_t kind, uint64_t bases_len)
+static inline uint64_t garumbott_transcript_room(uint64_t letters, uint64_t kind, uint64_t bases_len)
 {
-    return letters_len + (kind == GARUMBOTT_DUPLICATION ? letters_len : bases_len);
+    return letters + (kind == GARUMBOTT_DUPLICATION ? letters : bases_len);
 }
 
 /* Exactly what 12 asks for R: a third of the CDS, rounded up. */

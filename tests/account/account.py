@@ -1,4 +1,4 @@
-"""A second account of documents 01 and 02 (E1, E2, E4, E5, E7, E8, E9, E11, E12, E13), in Python, written from their text and not from the definitions or the code.
+"""A second account of documents 01 and 02 (E1, E2, E4, E5, E7, E8, E9, E10, E11, E12, E13), in Python, written from their text and not from the definitions or the code.
 
 What the programs print is compared with it. It is only as good as its reading of the documents: where it and the proved module differ, one of
 the two is wrong. `python3 account.py < input` prints what the text program prints, `python3 account.py records < input` what check-records does.
@@ -95,6 +95,22 @@ class Reference:
         else:
             refuse(28, self.end not in (NO_STOP, CUT_CODON) or self.ce != len(self.letters) or "*" in self.protein)
         return self
+
+
+# Four bits a base (E10)
+
+SETS = {sum({"A": 1, "C": 2, "G": 4, "T": 8}[base] for base in bases): letter for letter, bases in LETTERS.items()}
+
+
+def held(form, size, data):
+    """The letters of a reference's bytes: a byte each (form 0), or two to a byte, the first in the high half, so many in all (form 1)."""
+    refuse(1, form not in (0, 1))
+    if form == 0:
+        return data.decode("latin-1")
+    refuse(1, not 1 <= size <= LONGEST or len(data) != (size + 1) // 2)
+    halves = [half for b in data for half in (b >> 4, b & 15)]
+    refuse(2, any(half != 0 for half in halves[size:]) or 0 in halves[:size])
+    return "".join(SETS[half] for half in halves[:size])
 
 
 def is_residue(x):

@@ -6,7 +6,9 @@ use excepted::excepted_at;
 use exceptions::moved_all;
 use letters::letter_set;
 use numbers::least;
+use packed::size_of;
 use rules::Exceptions;
+use rules::Form;
 ghost use mathlib.Core.Path.{_≡_};
 ghost use Prim.Native.Nat.{_+_, _*_, _≤_, _<_};
 ghost use lib.ListN.{length, getD};
@@ -14,6 +16,7 @@ ghost use Rattle.rules.specs.Letters.{letterSet};
 ghost use Rattle.rules.specs.Codons.{codon};
 ghost use Rattle.rules.specs.Translation.{exceptionList, excepted};
 ghost use Rattle.rules.specs.Complement.{complement};
+ghost use Rattle.rules.specs.Packed.{lettersBy};
 ghost use Rattle.rules.specs.Trims.{commonPrefix};
 ghost use Rattle.rules.specs.Exceptions.{suffixBehind, movedAll};
 ghost use Rattle.exceptions.specs.Moving.{Given};
@@ -43,53 +46,54 @@ fn complement_of(b: u8) -> u8
 }
 
 // A letter of what goes in, by its source.
-fn put_at(letters: &[u8], plan: Plan, new: &[u8], i: usize) -> u8
-    requires { ⌜ Sourced plan (now letters) (now new) ⌝ }
+fn put_at(letters: &[u8], form: Form, plan: Plan, new: &[u8], i: usize) -> u8
+    requires { ⌜ Sourced plan (lettersBy form (now letters)) (now new) ⌝ }
     requires { ⌜ i < plan .kept ⌝ }
-    ensures { λ r. ⌜ r ≡ getD (goesIn plan (now (letters .entry)) (now (new .entry))) i 0 ⌝ }
+    ensures { λ r. ⌜ r ≡ getD (goesIn plan (lettersBy form (now (letters .entry))) (now (new .entry))) i 0 ⌝ }
 {
     let source = plan.source;
     let start = plan.start;
     let end = plan.end;
     match source {
         Source::New => new[i],
-        Source::Copy => letters[start + i],
-        Source::Turned => complement_of(letters[end - 1 - i]),
+        Source::Copy => packed::letter_at(letters, form, start + i),
+        Source::Turned => complement_of(packed::letter_at(letters, form, end - 1 - i)),
     }
 }
 
 // A letter of the altered transcript: before the edit, of what goes in, or behind the edit.
-pub fn letter_at(letters: &[u8], plan: Plan, new: &[u8], i: usize) -> u8
-    requires { ⌜ Makes plan (now letters) (now new) ⌝ }
-    requires { ⌜ i < length (carriedBy plan (now letters) (now new)) ⌝ }
-    ensures { λ r. ⌜ r ≡ getD (carriedBy plan (now (letters .entry)) (now (new .entry))) i 0 ⌝ }
+pub fn letter_at(letters: &[u8], form: Form, plan: Plan, new: &[u8], i: usize) -> u8
+    requires { ⌜ Makes plan (lettersBy form (now letters)) (now new) ⌝ }
+    requires { ⌜ i < length (carriedBy plan (lettersBy form (now letters)) (now new)) ⌝ }
+    ensures { λ r. ⌜ r ≡ getD (carriedBy plan (lettersBy form (now (letters .entry))) (now (new .entry))) i 0 ⌝ }
 {
     let from = plan.from;
     let to = plan.to;
     let kept = plan.kept;
     if i < from {
-        return letters[i];
+        return packed::letter_at(letters, form, i);
     }
     let past = i - from;
     if past < kept {
-        return put_at(letters, plan, new, past);
+        return put_at(letters, form, plan, new, past);
     }
-    letters[past - kept + to]
+    packed::letter_at(letters, form, past - kept + to)
 }
 
 // The set of a letter of the altered transcript.
-fn set_at(letters: &[u8], plan: Plan, new: &[u8], i: usize) -> usize
-    requires { ⌜ Makes plan (now letters) (now new) ⌝ }
-    requires { ⌜ i < length (carriedBy plan (now letters) (now new)) ⌝ }
-    ensures { λ r. ⌜ r ≡ letterSet (getD (carriedBy plan (now (letters .entry)) (now (new .entry))) i 0) ⌝ }
+fn set_at(letters: &[u8], form: Form, plan: Plan, new: &[u8], i: usize) -> usize
+    requires { ⌜ Makes plan (lettersBy form (now letters)) (now new) ⌝ }
+    requires { ⌜ i < length (carriedBy plan (lettersBy form (now letters)) (now new)) ⌝ }
+    ensures { λ r. ⌜ r ≡ letterSet (getD (carriedBy plan (lettersBy form (now (letters .entry))) (now (new .entry))) i 0) ⌝ }
     ensures some { λ r. ⌜ (0 < r) × (r < 16) ⌝ }
 {
-    letter_set(letter_at(letters, plan, new, i))
+    letter_set(letter_at(letters, form, plan, new, i))
 }
 
 // The residue of a codon of the altered transcript, counted from 0 behind `first`, exceptions applied.
 pub fn residue_at(
     letters: &[u8],
+    form: Form,
     table: usize,
     plan: Plan,
     new: &[u8],
@@ -97,28 +101,28 @@ pub fn residue_at(
     first: usize,
     k: usize,
 ) -> u8
-    requires { ⌜ Makes plan (now letters) (now new) ⌝ }
-    requires { ⌜ first + k * 3 + 3 ≤ length (carriedBy plan (now letters) (now new)) ⌝ }
+    requires { ⌜ Makes plan (lettersBy form (now letters)) (now new) ⌝ }
+    requires { ⌜ first + k * 3 + 3 ≤ length (carriedBy plan (lettersBy form (now letters)) (now new)) ⌝ }
     requires { ⌜ (table < 3) × (e .count ≤ 16) ⌝ }
-    ensures { λ r. ⌜ r ≡ excepted (exceptionList e) (k + 1) (codon table (getD (carriedBy plan (now (letters .entry)) (now (new .entry))) (first + k * 3) 0) (getD (carriedBy plan (now (letters .entry)) (now (new .entry))) (first + k * 3 + 1) 0) (getD (carriedBy plan (now (letters .entry)) (now (new .entry))) (first + k * 3 + 2) 0)) ⌝ }
+    ensures { λ r. ⌜ r ≡ excepted (exceptionList e) (k + 1) (codon table (getD (carriedBy plan (lettersBy form (now (letters .entry))) (now (new .entry))) (first + k * 3) 0) (getD (carriedBy plan (lettersBy form (now (letters .entry))) (now (new .entry))) (first + k * 3 + 1) 0) (getD (carriedBy plan (lettersBy form (now (letters .entry))) (now (new .entry))) (first + k * 3 + 2) 0)) ⌝ }
 {
     let at = first + k * 3;
-    let a = set_at(letters, plan, new, at);
-    let b = set_at(letters, plan, new, at + 1);
-    let c = set_at(letters, plan, new, at + 2);
+    let a = set_at(letters, form, plan, new, at);
+    let b = set_at(letters, form, plan, new, at + 1);
+    let c = set_at(letters, form, plan, new, at + 2);
     excepted_at(e, k + 1, read_codon(table, a, b, c))
 }
 
 // How many first letters an edit leaves: those before it, and those equal behind them. The altered transcript has `made` bases, here and below.
-fn shared_front(letters: &[u8], plan: Plan, new: &[u8], made: usize) -> usize
-    requires { ⌜ Makes plan (now letters) (now new) ⌝ }
-    requires { ⌜ made ≡ length (carriedBy plan (now letters) (now new)) ⌝ }
-    ensures { λ r. ⌜ r ≡ commonPrefix (now (letters .entry)) (carriedBy plan (now (letters .entry)) (now (new .entry))) ⌝ }
+fn shared_front(letters: &[u8], form: Form, plan: Plan, new: &[u8], made: usize) -> usize
+    requires { ⌜ Makes plan (lettersBy form (now letters)) (now new) ⌝ }
+    requires { ⌜ made ≡ length (carriedBy plan (lettersBy form (now letters)) (now new)) ⌝ }
+    ensures { λ r. ⌜ r ≡ commonPrefix (lettersBy form (now (letters .entry))) (carriedBy plan (lettersBy form (now (letters .entry))) (now (new .entry))) ⌝ }
 {
-    let n = least(letters.len(), made);
+    let n = least(size_of(letters, form), made);
     let mut i = plan.from;
     while i < n {
-        if letters[i] != letter_at(letters, plan, new, i) {
+        if packed::letter_at(letters, form, i) != letter_at(letters, form, plan, new, i) {
             return i;
         }
         i += 1;
@@ -127,17 +131,26 @@ fn shared_front(letters: &[u8], plan: Plan, new: &[u8], made: usize) -> usize
 }
 
 // How many last letters it leaves behind the prefix: those behind the edit, and those equal before them.
-fn shared_back(letters: &[u8], plan: Plan, new: &[u8], made: usize, prefix: usize) -> usize
-    requires { ⌜ Makes plan (now letters) (now new) ⌝ }
-    requires { ⌜ made ≡ length (carriedBy plan (now letters) (now new)) ⌝ }
-    requires { ⌜ (prefix ≤ length (now letters)) × (prefix ≤ made) ⌝ }
-    ensures { λ r. ⌜ r ≡ suffixBehind prefix (now (letters .entry)) (carriedBy plan (now (letters .entry)) (now (new .entry))) ⌝ }
+fn shared_back(
+    letters: &[u8],
+    form: Form,
+    plan: Plan,
+    new: &[u8],
+    made: usize,
+    prefix: usize,
+) -> usize
+    requires { ⌜ Makes plan (lettersBy form (now letters)) (now new) ⌝ }
+    requires { ⌜ made ≡ length (carriedBy plan (lettersBy form (now letters)) (now new)) ⌝ }
+    requires { ⌜ (prefix ≤ length (lettersBy form (now letters))) × (prefix ≤ made) ⌝ }
+    ensures { λ r. ⌜ r ≡ suffixBehind prefix (lettersBy form (now (letters .entry))) (carriedBy plan (lettersBy form (now (letters .entry))) (now (new .entry))) ⌝ }
 {
-    let size = letters.len();
+    let size = size_of(letters, form);
     let n = least(size, made) - prefix;
     let mut i = least(size - plan.to, n);
     while i < n {
-        if letters[size - 1 - i] != letter_at(letters, plan, new, made - 1 - i) {
+        if packed::letter_at(letters, form, size - 1 - i)
+            != letter_at(letters, form, plan, new, made - 1 - i)
+        {
             return i;
         }
         i += 1;
@@ -146,19 +159,26 @@ fn shared_back(letters: &[u8], plan: Plan, new: &[u8], made: usize, prefix: usiz
 }
 
 // The exceptions of the altered transcript. The CDS begins at index `first`.
-pub fn moved_over(letters: &[u8], plan: Plan, new: &[u8], first: usize, e: Exceptions) -> Exceptions
-    requires { ⌜ Makes plan (now letters) (now new) ⌝ }
+pub fn moved_over(
+    letters: &[u8],
+    form: Form,
+    plan: Plan,
+    new: &[u8],
+    first: usize,
+    e: Exceptions,
+) -> Exceptions
+    requires { ⌜ Makes plan (lettersBy form (now letters)) (now new) ⌝ }
     requires { ⌜ first ≤ plan .from ⌝ }
-    requires { ⌜ Given first (now letters) e ⌝ }
-    ensures { λ r. ⌜ exceptionList r ≡ movedAll (commonPrefix (now (letters .entry)) (carriedBy plan (now (letters .entry)) (now (new .entry)))) first (now (letters .entry)) (carriedBy plan (now (letters .entry)) (now (new .entry))) (exceptionList e) ⌝ }
+    requires { ⌜ Given first (lettersBy form (now letters)) e ⌝ }
+    ensures { λ r. ⌜ exceptionList r ≡ movedAll (commonPrefix (lettersBy form (now (letters .entry))) (carriedBy plan (lettersBy form (now (letters .entry))) (now (new .entry)))) first (lettersBy form (now (letters .entry))) (carriedBy plan (lettersBy form (now (letters .entry))) (now (new .entry))) (exceptionList e) ⌝ }
     ensures few { λ r. ⌜ r .count ≤ 16 ⌝ }
 {
     if e.count == 0 {
         return e;
     }
-    let size = letters.len();
+    let size = size_of(letters, form);
     let made = plan.from + plan.kept + (size - plan.to);
-    let prefix = shared_front(letters, plan, new, made);
-    let suffix = shared_back(letters, plan, new, made, prefix);
+    let prefix = shared_front(letters, form, plan, new, made);
+    let suffix = shared_back(letters, form, plan, new, made, prefix);
     moved_all(e, first, prefix, suffix, size, made)
 }

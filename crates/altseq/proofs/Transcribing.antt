@@ -8,6 +8,7 @@ use native.Mathlib.Omega.{arith}
 use lib.Dec.{ltb}
 use lib.ListN.{length}
 use borrow.Author.Tests.{lt-ltb, le-ltb}
+use Rattle.rules.specs.declared.Form.{Form}
 use Rattle.rules.specs.declared.Cds.{Cds}
 use Rattle.rules.specs.declared.Exceptions.{Exceptions}
 use Rattle.rules.specs.declared.Limits.{Limits}
@@ -23,7 +24,7 @@ use Rattle.reference.specs.declared.Known.{Known}
 use Rattle.reference.specs.declared.Checked.{Checked}
 use Rattle.reference.specs.declared.Checked.the-variants as checked
 use Rattle.reference.specs.Known.{knownOf, checkedOf, Knows}
-use Rattle.reference.proofs.Checking.{checked-accepted, cds-known}
+use Rattle.reference.proofs.Checking.{checked-accepted, cds-known, form-known}
 use Rattle.edits.specs.declared.plans.Plan.{Plan}
 use Rattle.edits.specs.declared.decision.Decision.{Decision}
 use Rattle.edits.specs.declared.decision.Decision.the-variants as decision
@@ -82,18 +83,23 @@ module _ (m : Limits) (r : Reference) (a : Asked) (room : ℕ) where
   reference-refused (suc n) h some = edited-refused (suc n) (refused-reference m r a n h) some
 
 -- what is known of a reference that the check accepts
-module _ (s : List ℕ) (c : Cds) (e : Exceptions) (x : Checked) (is : x ≡ checkedOf (limits .longest) s c e) (k : Known) (h : x ≡ checked.Known k) where
+module _ (f : Form) (s : List ℕ) (c : Cds) (e : Exceptions) (x : Checked) (is : x ≡ checkedOf (limits .longest) f s c e) (k : Known) (h : x ≡ checked.Known k) where
+  pub form-at : k .form ≡ f
+  form-at =
+      let ok = checked-accepted (limits .longest) f s c e x is k h in
+      form-known limits f s c e k (ok .0) (ok .1)
+
   pub cds-at : k .cds ≡ c
   cds-at =
-      let ok = checked-accepted (limits .longest) s c e x is k h in
-      cds-known limits s c e k (ok .0) (ok .1)
+      let ok = checked-accepted (limits .longest) f s c e x is k h in
+      cds-known limits f s c e k (ok .0) (ok .1)
 
   pub known-at : Knows limits s k e (referenceProtein (referenceOf s (k .cds) e))
   known-at =
-      let ok = checked-accepted (limits .longest) s c e x is k h in
+      let ok = checked-accepted (limits .longest) f s c e x is k h in
       record {
         accepted = rw cds-at (ok .0);
-        is = ok .1 ∙ ap (λ (c : Cds). knownOf s c e) (sym cds-at);
+        is = ok .1 ∙ ap (λ (c : Cds). knownOf f s c e) (sym cds-at) ∙ ap (λ (f : Form). knownOf f s (k .cds) e) (sym form-at);
         read = refl;
         small = omega arith;
       }

@@ -3,11 +3,11 @@ use crate::carry::carry_out;
 use crate::room::with_room;
 use edits::decision::Decision;
 use edits::decision::decide;
+use packed::size_of;
 use reference::Checked;
 use reference::Known;
 use reference::check_reference;
 use rules::Answer;
-use rules::Cds;
 use rules::Edit;
 use rules::Exceptions;
 use rules::LONGEST;
@@ -24,6 +24,7 @@ ghost use lib.ListN.{length};
 ghost use Rattle.rules.specs.Bytes.{over};
 ghost use Rattle.rules.specs.Refusal.{limits};
 ghost use Rattle.rules.specs.Answer.{unknownReport, outcome, Answers};
+ghost use Rattle.rules.specs.Packed.{lettersBy};
 ghost use Rattle.rules.specs.Views.{bare, asked, referenceOf, roomOf};
 ghost use Rattle.reference.specs.Known.{HasRoom, Knows};
 ghost use Rattle.edits.specs.declared.plans.Plan.{Plan};
@@ -55,10 +56,10 @@ fn answer_decided(
     transcript: &mut [u8],
     altered: &mut [u8],
 ) -> Answer
-    requires { ⌜ ((p : Plan) → decision ≡ Decision.Goes p → Carries (now letters) known e (now protein) p (now new) (now transcript) (now altered)) ⌝ }
-    ensures { λ r. ⌜ r ≡ decidedOutcome (referenceOf (now (letters .entry)) (known .cds) e) decision (now (new .entry)) .answer ⌝ }
-    ensures { λ _. ⌜ now (transcript .exit) ≡ over (decidedOutcome (referenceOf (now (letters .entry)) (known .cds) e) decision (now (new .entry)) .transcript) (now (transcript .entry)) ⌝ }
-    ensures { λ _. ⌜ now (altered .exit) ≡ over (decidedOutcome (referenceOf (now (letters .entry)) (known .cds) e) decision (now (new .entry)) .altered) (now (altered .entry)) ⌝ }
+    requires { ⌜ ((p : Plan) → decision ≡ Decision.Goes p → Carries (lettersBy (known .form) (now letters)) known e (now protein) p (now new) (now transcript) (now altered)) ⌝ }
+    ensures { λ r. ⌜ r ≡ decidedOutcome (referenceOf (lettersBy (known .form) (now (letters .entry))) (known .cds) e) decision (now (new .entry)) .answer ⌝ }
+    ensures { λ _. ⌜ now (transcript .exit) ≡ over (decidedOutcome (referenceOf (lettersBy (known .form) (now (letters .entry))) (known .cds) e) decision (now (new .entry)) .transcript) (now (transcript .entry)) ⌝ }
+    ensures { λ _. ⌜ now (altered .exit) ≡ over (decidedOutcome (referenceOf (lettersBy (known .form) (now (letters .entry))) (known .cds) e) decision (now (new .entry)) .altered) (now (altered .entry)) ⌝ }
 {
     match decision {
         Decision::Refused(n) => Answer::Refused(n),
@@ -100,8 +101,8 @@ pub fn decide_in(
     reference: usize,
     altered: usize,
 ) -> Decision
-    requires { ⌜ Accepts (now letters) known ⌝ }
-    ensures { λ r. ⌜ r ≡ decidedIn (known .several) (bare (now (letters .entry)) (known .cds)) (asked edit (now (new .entry))) (record { transcript = transcript; reference = reference; altered = altered }) ⌝ }
+    requires { ⌜ Accepts (lettersBy (known .form) (now letters)) known ⌝ }
+    ensures { λ r. ⌜ r ≡ decidedIn (known .several) (bare (lettersBy (known .form) (now (letters .entry))) (known .cds)) (asked edit (now (new .entry))) (record { transcript = transcript; reference = reference; altered = altered }) ⌝ }
 {
     let decided = decide(letters, known, MOST, edit, new);
     with_room(decided, known.cds, transcript, reference, altered)
@@ -125,9 +126,9 @@ pub fn answer_known(
     reference: &mut [u8],
     altered: &mut [u8],
 ) -> Answer
-    requires { ⌜ Knows limits (now letters) (ready .known) (ready .e) (now protein) ⌝ }
+    requires { ⌜ Knows limits (lettersBy (ready .known .form) (now letters)) (ready .known) (ready .e) (now protein) ⌝ }
     ensures { λ r. ⌜ Answers
-        (outcome limits (referenceOf (now (letters .entry)) (ready .known .cds) (ready .e)) (asked (ready .edit) (now (new .entry))) (roomOf (now (transcript .entry)) (now (reference .entry)) (now (altered .entry))))
+        (outcome limits (referenceOf (lettersBy (ready .known .form) (now (letters .entry))) (ready .known .cds) (ready .e)) (asked (ready .edit) (now (new .entry))) (roomOf (now (transcript .entry)) (now (reference .entry)) (now (altered .entry))))
         r (now (transcript .entry)) (now (transcript .exit)) (now (reference .entry)) (now (reference .exit)) (now (altered .entry)) (now (altered .exit)) ⌝ }
 {
     let known = ready.known;
@@ -166,14 +167,15 @@ fn answer_in(
     reference: &mut [u8],
     altered: &mut [u8],
 ) -> Answer
-    requires { ⌜ HasRoom (limits .longest) (now letters) (length (now protein)) ⌝ }
+    requires { ⌜ HasRoom (limits .longest) (lettersBy (asks .form) (now letters)) (length (now protein)) ⌝ }
     ensures { λ r. ⌜ Answers
-        (outcome limits (referenceOf (now (letters .entry)) (asks .cds) (asks .e)) (asked (asks .edit) (now (new .entry))) (roomOf (now (transcript .entry)) (now (reference .entry)) (now (altered .entry))))
+        (outcome limits (referenceOf (lettersBy (asks .form) (now (letters .entry))) (asks .cds) (asks .e)) (asked (asks .edit) (now (new .entry))) (roomOf (now (transcript .entry)) (now (reference .entry)) (now (altered .entry))))
         r (now (transcript .entry)) (now (transcript .exit)) (now (reference .entry)) (now (reference .exit)) (now (altered .entry)) (now (altered .exit)) ⌝ }
 {
     let e = asks.e;
     let edit = asks.edit;
-    match check_reference(letters, asks.cds, e, LONGEST, protein) {
+    let form = asks.form;
+    match check_reference(letters, form, asks.cds, e, LONGEST, protein) {
         Checked::Refused(n) => Answer::Refused(n),
         Checked::Known(known) => {
             let residues = known.residues;
@@ -201,7 +203,7 @@ fn answer_long(
     altered: &mut [u8],
 ) -> Answer
     ensures { λ r. ⌜ Answers
-        (outcome limits (referenceOf (now (letters .entry)) (asks .cds) (asks .e)) (asked (asks .edit) (now (new .entry))) (roomOf (now (transcript .entry)) (now (reference .entry)) (now (altered .entry))))
+        (outcome limits (referenceOf (lettersBy (asks .form) (now (letters .entry))) (asks .cds) (asks .e)) (asked (asks .edit) (now (new .entry))) (roomOf (now (transcript .entry)) (now (reference .entry)) (now (altered .entry))))
         r (now (transcript .entry)) (now (transcript .exit)) (now (reference .entry)) (now (reference .exit)) (now (altered .entry)) (now (altered .exit)) ⌝ }
 {
     let mut protein = [0u8; LONGEST_PROTEIN];
@@ -220,20 +222,18 @@ fn answer_long(
 // for clearing the room of a long one.
 pub fn build_altseq(
     letters: &[u8],
-    cds: Cds,
-    e: Exceptions,
-    edit: Edit,
+    asks: Question,
     new: &[u8],
     transcript: &mut [u8],
     reference: &mut [u8],
     altered: &mut [u8],
 ) -> Answer
     ensures { λ r. ⌜ Answers
-        (outcome limits (referenceOf (now (letters .entry)) cds e) (asked edit (now (new .entry))) (roomOf (now (transcript .entry)) (now (reference .entry)) (now (altered .entry))))
+        (outcome limits (referenceOf (lettersBy (asks .form) (now (letters .entry))) (asks .cds) (asks .e)) (asked (asks .edit) (now (new .entry))) (roomOf (now (transcript .entry)) (now (reference .entry)) (now (altered .entry))))
         r (now (transcript .entry)) (now (transcript .exit)) (now (reference .entry)) (now (reference .exit)) (now (altered .entry)) (now (altered .exit)) ⌝ }
 {
-    let asks = Question { cds, e, edit };
-    if SHORT < letters.len() {
+    let form = asks.form;
+    if SHORT < size_of(letters, form) {
         return answer_long(letters, asks, new, transcript, reference, altered);
     }
     let mut protein = [0u8; SHORT_PROTEIN];

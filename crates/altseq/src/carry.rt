@@ -16,6 +16,7 @@ ghost use Prim.Native.Nat.{_-_, _/_, min};
 ghost use lib.ListN.{length, drop};
 ghost use Rattle.rules.specs.Bytes.{over};
 ghost use Rattle.rules.specs.Protein.{proteinOf};
+ghost use Rattle.rules.specs.Packed.{lettersBy};
 ghost use Rattle.rules.specs.Views.{referenceOf};
 ghost use Rattle.transcript.specs.Carrying.{carriedBy};
 ghost use Rattle.record.specs.Shares.{Shares};
@@ -30,14 +31,15 @@ fn write_protein(
     transcript: &[u8],
     altered: &mut [u8],
 ) -> Walked
-    requires { ⌜ Codes (now letters) known e (now new) (now transcript) (now altered) ⌝ }
-    ensures { λ r. ⌜ r .residues ≡ length (proteinOf (referenceOf (now (letters .entry)) (known .cds) e) (now (transcript .entry))) ⌝ }
-    ensures { λ r. ⌜ r .looked ≡ min (length (proteinOf (referenceOf (now (letters .entry)) (known .cds) e) (now (transcript .entry)))) (length (drop (known .cds .cs - 1) (now (transcript .entry))) / 3) ⌝ }
-    ensures { λ _. ⌜ now (altered .exit) ≡ over (proteinOf (referenceOf (now (letters .entry)) (known .cds) e) (now (transcript .entry))) (now (altered .entry)) ⌝ }
+    requires { ⌜ Codes (lettersBy (known .form) (now letters)) known e (now new) (now transcript) (now altered) ⌝ }
+    ensures { λ r. ⌜ r .residues ≡ length (proteinOf (referenceOf (lettersBy (known .form) (now (letters .entry))) (known .cds) e) (now (transcript .entry))) ⌝ }
+    ensures { λ r. ⌜ r .looked ≡ min (length (proteinOf (referenceOf (lettersBy (known .form) (now (letters .entry))) (known .cds) e) (now (transcript .entry)))) (length (drop (known .cds .cs - 1) (now (transcript .entry))) / 3) ⌝ }
+    ensures { λ _. ⌜ now (altered .exit) ≡ over (proteinOf (referenceOf (lettersBy (known .form) (now (letters .entry))) (known .cds) e) (now (transcript .entry))) (now (altered .entry)) ⌝ }
 {
     let c = known.cds;
     let first = c.cs - 1;
-    let moved = alt_translation_exceptions(letters, transcript, first, e);
+    let form = known.form;
+    let moved = alt_translation_exceptions(letters, form, transcript, first, e);
     let plain = known.plain & all_bases(new);
     write_through_stop(&transcript[first..], c.table, plain, moved, altered)
 }
@@ -61,11 +63,11 @@ fn write_altered(
     transcript: &[u8],
     altered: &mut [u8],
 ) -> Made
-    requires { ⌜ Makes (now letters) known e (now protein) plan (now new) (now transcript) (now altered) ⌝ }
-    ensures { λ r. ⌜ r .residues ≡ length (proteinBy (referenceOf (now (letters .entry)) (known .cds) e) plan (now (new .entry))) ⌝ }
-    ensures { λ r. ⌜ r .looked ≡ lookedBy (referenceOf (now (letters .entry)) (known .cds) e) plan (now (new .entry)) ⌝ }
-    ensures { λ r. ⌜ Shares (r .ahead) (r .behind) (now (protein .entry)) (proteinBy (referenceOf (now (letters .entry)) (known .cds) e) plan (now (new .entry))) ⌝ }
-    ensures { λ _. ⌜ now (altered .exit) ≡ over (proteinBy (referenceOf (now (letters .entry)) (known .cds) e) plan (now (new .entry))) (now (altered .entry)) ⌝ }
+    requires { ⌜ Makes (lettersBy (known .form) (now letters)) known e (now protein) plan (now new) (now transcript) (now altered) ⌝ }
+    ensures { λ r. ⌜ r .residues ≡ length (proteinBy (referenceOf (lettersBy (known .form) (now (letters .entry))) (known .cds) e) plan (now (new .entry))) ⌝ }
+    ensures { λ r. ⌜ r .looked ≡ lookedBy (referenceOf (lettersBy (known .form) (now (letters .entry))) (known .cds) e) plan (now (new .entry)) ⌝ }
+    ensures { λ r. ⌜ Shares (r .ahead) (r .behind) (now (protein .entry)) (proteinBy (referenceOf (lettersBy (known .form) (now (letters .entry))) (known .cds) e) plan (now (new .entry))) ⌝ }
+    ensures { λ _. ⌜ now (altered .exit) ≡ over (proteinBy (referenceOf (lettersBy (known .form) (now (letters .entry))) (known .cds) e) plan (now (new .entry))) (now (altered .entry)) ⌝ }
 {
     if e.count != 0 {
         let walked = write_protein(letters, known, e, new, transcript, altered);
@@ -100,12 +102,13 @@ pub fn carry_out(
     transcript: &mut [u8],
     altered: &mut [u8],
 ) -> Report
-    requires { ⌜ Carries (now letters) known e (now protein) plan (now new) (now transcript) (now altered) ⌝ }
-    ensures { λ r. ⌜ r ≡ reportBy (referenceOf (now (letters .entry)) (known .cds) e) plan (now (new .entry)) ⌝ }
-    ensures { λ _. ⌜ now (transcript .exit) ≡ over (carriedBy plan (now (letters .entry)) (now (new .entry))) (now (transcript .entry)) ⌝ }
-    ensures { λ _. ⌜ now (altered .exit) ≡ over (proteinBy (referenceOf (now (letters .entry)) (known .cds) e) plan (now (new .entry))) (now (altered .entry)) ⌝ }
+    requires { ⌜ Carries (lettersBy (known .form) (now letters)) known e (now protein) plan (now new) (now transcript) (now altered) ⌝ }
+    ensures { λ r. ⌜ r ≡ reportBy (referenceOf (lettersBy (known .form) (now (letters .entry))) (known .cds) e) plan (now (new .entry)) ⌝ }
+    ensures { λ _. ⌜ now (transcript .exit) ≡ over (carriedBy plan (lettersBy (known .form) (now (letters .entry))) (now (new .entry))) (now (transcript .entry)) ⌝ }
+    ensures { λ _. ⌜ now (altered .exit) ≡ over (proteinBy (referenceOf (lettersBy (known .form) (now (letters .entry))) (known .cds) e) plan (now (new .entry))) (now (altered .entry)) ⌝ }
 {
-    let n = write_transcript(letters, plan, new, transcript);
+    let form = known.form;
+    let n = write_transcript(letters, form, plan, new, transcript);
     let made = write_altered(
         letters,
         known,

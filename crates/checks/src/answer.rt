@@ -4,6 +4,7 @@ use crate::decide_changing;
 use altseq::carry_out;
 use edits::decision::Decision;
 use edits::plans::Plan;
+use packed::size_of;
 use proposals::is_proposal;
 use proposals::judge;
 use reference::Checked;
@@ -22,6 +23,7 @@ ghost use lib.ListN.{length};
 ghost use Rattle.rules.specs.Bytes.{over};
 ghost use Rattle.rules.specs.Refusal.{limits};
 ghost use Rattle.rules.specs.Check.{checkOutcome};
+ghost use Rattle.rules.specs.Packed.{lettersBy};
 ghost use Rattle.rules.specs.Views.{asked, referenceOf, roomOf};
 ghost use Rattle.reference.specs.Known.{HasRoom};
 ghost use Rattle.edits.specs.declared.plans.Plan.{Plan};
@@ -69,10 +71,10 @@ fn judge_going(
     transcript: &mut [u8],
     altered: &mut [u8],
 ) -> Check
-    requires { ⌜ Carries (now letters) (going .known) (going .e) (now protein) (going .plan) (now new) (now transcript) (now altered) ⌝ }
-    ensures { λ r. ⌜ r ≡ judgedOutcome (proposed (going .number) (now (deleted .entry)) (now (inserted .entry))) (referenceOf (now (letters .entry)) (going .known .cds) (going .e)) (going .plan) (now (new .entry)) .answer ⌝ }
-    ensures { λ _. ⌜ now (transcript .exit) ≡ over (judgedOutcome (proposed (going .number) (now (deleted .entry)) (now (inserted .entry))) (referenceOf (now (letters .entry)) (going .known .cds) (going .e)) (going .plan) (now (new .entry)) .transcript) (now (transcript .entry)) ⌝ }
-    ensures { λ _. ⌜ now (altered .exit) ≡ over (judgedOutcome (proposed (going .number) (now (deleted .entry)) (now (inserted .entry))) (referenceOf (now (letters .entry)) (going .known .cds) (going .e)) (going .plan) (now (new .entry)) .altered) (now (altered .entry)) ⌝ }
+    requires { ⌜ Carries (lettersBy (going .known .form) (now letters)) (going .known) (going .e) (now protein) (going .plan) (now new) (now transcript) (now altered) ⌝ }
+    ensures { λ r. ⌜ r ≡ judgedOutcome (proposed (going .number) (now (deleted .entry)) (now (inserted .entry))) (referenceOf (lettersBy (going .known .form) (now (letters .entry))) (going .known .cds) (going .e)) (going .plan) (now (new .entry)) .answer ⌝ }
+    ensures { λ _. ⌜ now (transcript .exit) ≡ over (judgedOutcome (proposed (going .number) (now (deleted .entry)) (now (inserted .entry))) (referenceOf (lettersBy (going .known .form) (now (letters .entry))) (going .known .cds) (going .e)) (going .plan) (now (new .entry)) .transcript) (now (transcript .entry)) ⌝ }
+    ensures { λ _. ⌜ now (altered .exit) ≡ over (judgedOutcome (proposed (going .number) (now (deleted .entry)) (now (inserted .entry))) (referenceOf (lettersBy (going .known .form) (now (letters .entry))) (going .known .cds) (going .e)) (going .plan) (now (new .entry)) .altered) (now (altered .entry)) ⌝ }
 {
     let known = going.known;
     let e = going.e;
@@ -104,10 +106,10 @@ fn judge_decided(
     transcript: &mut [u8],
     altered: &mut [u8],
 ) -> Check
-    requires { ⌜ ((p : Plan) → decided .decision ≡ Decision.Goes p → Carries (now letters) (decided .known) (decided .e) (now protein) p (now new) (now transcript) (now altered)) ⌝ }
-    ensures { λ r. ⌜ r ≡ decidedCheck (proposed (decided .number) (now (deleted .entry)) (now (inserted .entry))) (referenceOf (now (letters .entry)) (decided .known .cds) (decided .e)) (decided .decision) (now (new .entry)) .answer ⌝ }
-    ensures { λ _. ⌜ now (transcript .exit) ≡ over (decidedCheck (proposed (decided .number) (now (deleted .entry)) (now (inserted .entry))) (referenceOf (now (letters .entry)) (decided .known .cds) (decided .e)) (decided .decision) (now (new .entry)) .transcript) (now (transcript .entry)) ⌝ }
-    ensures { λ _. ⌜ now (altered .exit) ≡ over (decidedCheck (proposed (decided .number) (now (deleted .entry)) (now (inserted .entry))) (referenceOf (now (letters .entry)) (decided .known .cds) (decided .e)) (decided .decision) (now (new .entry)) .altered) (now (altered .entry)) ⌝ }
+    requires { ⌜ ((p : Plan) → decided .decision ≡ Decision.Goes p → Carries (lettersBy (decided .known .form) (now letters)) (decided .known) (decided .e) (now protein) p (now new) (now transcript) (now altered)) ⌝ }
+    ensures { λ r. ⌜ r ≡ decidedCheck (proposed (decided .number) (now (deleted .entry)) (now (inserted .entry))) (referenceOf (lettersBy (decided .known .form) (now (letters .entry))) (decided .known .cds) (decided .e)) (decided .decision) (now (new .entry)) .answer ⌝ }
+    ensures { λ _. ⌜ now (transcript .exit) ≡ over (decidedCheck (proposed (decided .number) (now (deleted .entry)) (now (inserted .entry))) (referenceOf (lettersBy (decided .known .form) (now (letters .entry))) (decided .known .cds) (decided .e)) (decided .decision) (now (new .entry)) .transcript) (now (transcript .entry)) ⌝ }
+    ensures { λ _. ⌜ now (altered .exit) ≡ over (decidedCheck (proposed (decided .number) (now (deleted .entry)) (now (inserted .entry))) (referenceOf (lettersBy (decided .known .form) (now (letters .entry))) (decided .known .cds) (decided .e)) (decided .decision) (now (new .entry)) .altered) (now (altered .entry)) ⌝ }
 {
     let known = decided.known;
     let e = decided.e;
@@ -162,9 +164,9 @@ fn check_in(
     transcript: &mut [u8],
     altered: &mut [u8],
 ) -> Check
-    requires { ⌜ HasRoom (limits .longest) (now letters) (length (now protein)) ⌝ }
+    requires { ⌜ HasRoom (limits .longest) (lettersBy (proposing .asks .form) (now letters)) (length (now protein)) ⌝ }
     ensures { λ r. ⌜ Holds
-        (checkOutcome limits (referenceOf (now (letters .entry)) (proposing .asks .cds) (proposing .asks .e)) (asked (proposing .asks .edit) (now (new .entry))) (proposed (proposing .number) (now (deleted .entry)) (now (inserted .entry)))
+        (checkOutcome limits (referenceOf (lettersBy (proposing .asks .form) (now (letters .entry))) (proposing .asks .cds) (proposing .asks .e)) (asked (proposing .asks .edit) (now (new .entry))) (proposed (proposing .number) (now (deleted .entry)) (now (inserted .entry)))
         (record { transcript = length (now (transcript .entry)); reference = proposing .room; altered = length (now (altered .entry)) }))
         r (now (transcript .entry)) (now (transcript .exit)) (proposing .room) (now (protein .exit)) (now (altered .entry)) (now (altered .exit)) ⌝ }
 {
@@ -172,7 +174,8 @@ fn check_in(
     let e = asks.e;
     let edit = asks.edit;
     let number = proposing.number;
-    match check_reference(letters, asks.cds, e, LONGEST, protein) {
+    let form = asks.form;
+    match check_reference(letters, form, asks.cds, e, LONGEST, protein) {
         Checked::Refused(n) => Check::Refused(n),
         Checked::Known(known) => {
             let residues = known.residues;
@@ -222,7 +225,7 @@ fn check_long(
     altered: &mut [u8],
 ) -> Check
     ensures { λ r. ⌜ CheckAnswers
-        (checkOutcome limits (referenceOf (now (letters .entry)) (p .asks .cds) (p .asks .e)) (asked (p .asks .edit) (now (new .entry))) (proposed (p .number) (now (deleted .entry)) (now (inserted .entry))) (roomOf (now (transcript .entry)) (now (reference .entry)) (now (altered .entry))))
+        (checkOutcome limits (referenceOf (lettersBy (p .asks .form) (now (letters .entry))) (p .asks .cds) (p .asks .e)) (asked (p .asks .edit) (now (new .entry))) (proposed (p .number) (now (deleted .entry)) (now (inserted .entry))) (roomOf (now (transcript .entry)) (now (reference .entry)) (now (altered .entry))))
         r (now (transcript .entry)) (now (transcript .exit)) (now (reference .entry)) (now (reference .exit)) (now (altered .entry)) (now (altered .exit)) ⌝ }
 {
     let asks = p.asks;
@@ -259,10 +262,12 @@ pub fn check_altseq(
     altered: &mut [u8],
 ) -> Check
     ensures { λ r. ⌜ CheckAnswers
-        (checkOutcome limits (referenceOf (now (letters .entry)) (p .asks .cds) (p .asks .e)) (asked (p .asks .edit) (now (new .entry))) (proposed (p .number) (now (deleted .entry)) (now (inserted .entry))) (roomOf (now (transcript .entry)) (now (reference .entry)) (now (altered .entry))))
+        (checkOutcome limits (referenceOf (lettersBy (p .asks .form) (now (letters .entry))) (p .asks .cds) (p .asks .e)) (asked (p .asks .edit) (now (new .entry))) (proposed (p .number) (now (deleted .entry)) (now (inserted .entry))) (roomOf (now (transcript .entry)) (now (reference .entry)) (now (altered .entry))))
         r (now (transcript .entry)) (now (transcript .exit)) (now (reference .entry)) (now (reference .exit)) (now (altered .entry)) (now (altered .exit)) ⌝ }
 {
-    if SHORT < letters.len() {
+    let asks = p.asks;
+    let form = asks.form;
+    if SHORT < size_of(letters, form) {
         return check_long(
             letters,
             p,
@@ -274,7 +279,6 @@ pub fn check_altseq(
             altered,
         );
     }
-    let asks = p.asks;
     let proposing = Proposing {
         asks,
         number: p.number,

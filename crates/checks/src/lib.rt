@@ -12,6 +12,7 @@ use silent::keeps_protein;
 ghost use mathlib.Core.Path.{_≡_};
 ghost use Rattle.rules.specs.Check.{isChanged};
 ghost use Rattle.rules.specs.Refusal.{limits};
+ghost use Rattle.rules.specs.Packed.{lettersBy};
 ghost use Rattle.rules.specs.Views.{asked, referenceOf};
 ghost use Rattle.reference.specs.Known.{Knows};
 ghost use Rattle.altseq.specs.Carried.{proteinBy};
@@ -35,16 +36,17 @@ fn changes(
     plan: Plan,
     new: &[u8],
 ) -> bool
-    requires { ⌜ Changes (now letters) known e (now protein) plan (now new) ⌝ }
-    ensures { λ r. ⌜ r ≡ isChanged (now (protein .entry)) (proteinBy (referenceOf (now (letters .entry)) (known .cds) e) plan (now (new .entry))) ⌝ }
+    requires { ⌜ Changes (lettersBy (known .form) (now letters)) known e (now protein) plan (now new) ⌝ }
+    ensures { λ r. ⌜ r ≡ isChanged (now (protein .entry)) (proteinBy (referenceOf (lettersBy (known .form) (now (letters .entry))) (known .cds) e) plan (now (new .entry))) ⌝ }
 {
     let c = known.cds;
     let first = c.cs - 1;
     if plan.length <= first {
         return false;
     }
-    let moved = moved_over(letters, plan, new, first, e);
-    !keeps_protein(letters, c, e, moved, protein, plan, new)
+    let form = known.form;
+    let moved = moved_over(letters, form, plan, new, first, e);
+    !keeps_protein(letters, form, c, e, moved, protein, plan, new)
 }
 
 // 7 to 10, 26 for an Unknown, 11 and 12, 26 where the answer isn't Changed, or what an edit of a checked reference does.
@@ -57,8 +59,8 @@ pub fn decide_changing(
     new: &[u8],
     room: Room,
 ) -> Decision
-    requires { ⌜ Knows limits (now letters) known e (now protein) ⌝ }
-    ensures { λ r. ⌜ r ≡ changingIn (referenceOf (now (letters .entry)) (known .cds) e) (asked edit (now (new .entry))) (record { transcript = room .transcript; reference = room .reference; altered = room .altered }) ⌝ }
+    requires { ⌜ Knows limits (lettersBy (known .form) (now letters)) known e (now protein) ⌝ }
+    ensures { λ r. ⌜ r ≡ changingIn (referenceOf (lettersBy (known .form) (now (letters .entry))) (known .cds) e) (asked edit (now (new .entry))) (record { transcript = room .transcript; reference = room .reference; altered = room .altered }) ⌝ }
 {
     match decide_in(
         letters,

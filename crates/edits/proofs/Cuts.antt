@@ -10,11 +10,12 @@ use native.Mathlib.Decide.{decLt}
 use borrow.Author.Tests.{lt-ltb, le-ltb, eq-eqb, ne-eqb}
 use lib.Dec.{eqb, ltb}
 use lib.ListN.{length, take, drop, getD, length-take, length-drop}
+use lib.Seq.{take-nil, take-length, getD-take, getD-drop, drop-drop}
 use Rattle.rules.specs.declared.Exceptions.{Exceptions}
 use Rattle.rules.specs.Bytes.{byte, if_then_else_, all}
 use Rattle.rules.specs.Letters.{letterSet, isLetter}
 use Rattle.rules.specs.Codons.{residueX, codonRule, codon}
-use Rattle.rules.specs.Altered.{framed, hasStop, throughStopCodon, cutAtStop}
+use Rattle.rules.specs.Altered.{part, framed, hasStop, throughStopCodon, cutAtStop}
 use Rattle.rules.specs.Translation.{exceptionList, excepted, residuesFrom, translated, residueCount, beforeStop, wholeCodons, foldedTranslated}
 use Rattle.rules.proofs.Lists.{all-at}
 use Rattle.rules.proofs.Translation.{length-translated}
@@ -27,6 +28,26 @@ use Rattle.places.proofs.Strict.{strict-letters, strict-whole, whole-bases, bas
 use Rattle.edits.specs.declared.cut.Cut.{Cut}
 use Rattle.edits.specs.Cuts.{cutOf, Cuts}
 
+-- a letter of a part, and what is left behind its first n
+pub part-at : (start end i : ℕ) (s : List ℕ) → i < end - start → getD s (start + i) 0 ≡ getD (part start end s) i 0
+unfolding part
+part-at start end i s h = sym (getD-take (end - start) (drop start s) i 0 h ∙ getD-drop start s i 0)
+
+pub part-first : (start end : ℕ) (s : List ℕ) → 0 < end - start → getD s start 0 ≡ getD (part start end s) 0 0
+part-first start end s h = ap (λ (k : ℕ). getD s k 0) (let z : start ≡ start + 0 = omega arith in z) ∙ part-at start end 0 s h
+
+drop-take : (a n : ℕ) (s : List ℕ) → drop a (take n s) ≡ take (n - a) (drop a s)
+drop-take zero n s = let all : n ≡ n - 0 = omega arith in ap (λ (k : ℕ). take k s) all
+drop-take (suc a) zero s = let none : 0 ≡ 0 - suc a = omega arith in ap (λ (k : ℕ). take k (drop (suc a) s)) none
+drop-take (suc a) (suc n) [] = sym (take-nil (suc n - suc a))
+drop-take (suc a) (suc n) (x ∷ s) = let same : n - a ≡ suc n - suc a = omega arith in drop-take a n s ∙ ap (λ (k : ℕ). take k (drop a s)) same
+
+pub part-behind : (start end n : ℕ) (s : List ℕ) → part (start + n) end s ≡ drop n (part start end s)
+unfolding part
+part-behind start end n s =
+    let left : end - start - n ≡ end - (start + n) = omega arith in
+    sym (drop-take n (end - start) (drop start s) ∙ rw (drop-drop n start s, left))
+
 -- a part of what can be cut can be cut
 pub cuts-part : (t n i : ℕ) (plain : Bool) (put : List ℕ) → Cuts t plain put → Cuts t plain (take n (drop i put))
 cuts-part t n i plain put x =
@@ -35,6 +56,15 @@ cuts-part t n i plain put x =
       letters = all-take isLetter n (drop i put) (all-drop isLetter i put (x .letters));
       bases = λ p. all-take isBase n (drop i put) (all-drop isBase i put (x .bases p));
     }
+
+pub cuts-behind : (t start end n : ℕ) (plain : Bool) (s : List ℕ) → Cuts t plain (part start end s) → Cuts t plain (part (start + n) end s)
+cuts-behind t start end n plain s x =
+    rw (part-behind start end n s)
+    (record {
+      code = x .code;
+      letters = all-drop isLetter n (part start end s) (x .letters);
+      bases = λ p. all-drop isBase n (part start end s) (x .bases p);
+    })
 
 -- and be read without exceptions
 pub cuts-read : (t : ℕ) (plain : Bool) (put : List ℕ) (x : Exceptions) → Cuts t plain put → x .count ≡ 0 → Reads t plain put x
@@ -45,6 +75,14 @@ cuts-read t plain put x c none =
       bases = λ p. whole-bases put (bases-fold put (c .bases p));
       few = omega arith;
     }
+
+-- all of the bases
+pub whole-part : (s : List ℕ) → part 0 (length s) s ≡ s
+unfolding part
+whole-part s = let all : length s - 0 ≡ length s = omega arith in rw all (take-length s)
+
+pub cuts-bases : (t : ℕ) (new : List ℕ) (plain : Bool) → t < 3 → all isLetter new ≡ true → plain ≡ all isBase new → Cuts t plain (part 0 (length new) new)
+cuts-bases t new plain code letters is = rw (whole-part new) (record { code = code; letters = letters; bases = λ p. sym is ∙ p })
 
 -- the cut keeps no more than there is
 pub cut-le : (t frame : ℕ) (put : List ℕ) → cutOf t frame put .kept ≤ length put

@@ -354,8 +354,8 @@ module _ (k : Kind) (s : List ℕ) (start end : ℕ) (new : List ℕ) where
   unfolding swapBy
   by-insertion h = rw h
 
-  by-duplication : k ≡ Duplication → swapBy k s start end new ≡ record { from = end; to = end; put = take (end - start) (drop start s) }
-  unfolding swapBy part
+  by-duplication : k ≡ Duplication → swapBy k s start end new ≡ record { from = end; to = end; put = part start end s }
+  unfolding swapBy
   by-duplication h = rw h
 
 module _ (r : Reference) (e : Asked) (g : Range) (range : Ranges r e g) where
@@ -363,7 +363,7 @@ module _ (r : Reference) (e : Asked) (g : Range) (range : Ranges r e g) where
   unfolding swap
   insertion-swap h = by-insertion (kindOf e) (r .letters) (startIndex r e) (endIndex r e) (e .new) h ∙ rw (range .start)
 
-  pub duplication-swap : kindOf e ≡ Duplication → swap r e ≡ record { from = g .end; to = g .end; put = take (g .end - g .start) (drop (g .start) (r .letters)) }
+  pub duplication-swap : kindOf e ≡ Duplication → swap r e ≡ record { from = g .end; to = g .end; put = part (g .start) (g .end) (r .letters) }
   unfolding swap
   duplication-swap h = by-duplication (kindOf e) (r .letters) (startIndex r e) (endIndex r e) (e .new) h ∙ rw (range .start, range .end)
 
@@ -372,6 +372,7 @@ module _ (s : List ℕ) (k : Known) (x : Checks s k) where
   pub cuts-new : (new : List ℕ) (plain : Bool) → all isLetter new ≡ true → plain ≡ all isBase new → Cuts (k .cds .table) plain new
   cuts-new new plain letters is = record { code = x .sound .table; letters = letters; bases = λ p. sym is ∙ p }
 
-  pub cuts-copy : (n i : ℕ) → Cuts (k .cds .table) (k .plain) (take n (drop i s))
-  cuts-copy n i =
-      cuts-part (k .cds .table) n i (k .plain) s (cuts-new s (k .plain) (x .sound .letters) (x .plain))
+  pub cuts-copy : (start end : ℕ) → Cuts (k .cds .table) (k .plain) (part start end s)
+  unfolding part
+  cuts-copy start end =
+      cuts-part (k .cds .table) (end - start) start (k .plain) s (cuts-new s (k .plain) (x .sound .letters) (x .plain))

@@ -1,9 +1,10 @@
 -- What an accepted edit does, in numbers.
-use Prim.Native.Nat.{ℕ, _-_, _<_, _≤_}
+use Prim.Native.Nat.{ℕ, _-_, _%_, _<_, _≤_}
 use mathlib.Core.Path.{_≡_}
 use mathlib.Core.List.{List}
 use mathlib.Core.Bool.{true, false, _||_}
 use lib.ListN.{length, take}
+use Rattle.rules.specs.declared.Cds.{Cds}
 use Rattle.rules.specs.declared.Kind.{Kind}
 use Rattle.rules.specs.declared.Kind.the-variants.{Substitution, Deletion, Delins, Insertion, Duplication, Inversion, Identity, Other}
 use Rattle.rules.specs.Bytes.{all}
@@ -14,6 +15,8 @@ use Rattle.rules.specs.Position.{isOutside}
 use Rattle.rules.specs.Edit.{Asked, kindOf, startIndex, endIndex}
 use Rattle.rules.specs.Altered.{part, isReplacing, isInserting, swap, findsStop, kept, alteredLength, frameshift}
 use Rattle.rules.specs.Record.{silentNumber}
+use Rattle.edits.specs.declared.cut.Cut.{Cut}
+use Rattle.edits.specs.Cuts.{cutOf}
 use Rattle.edits.specs.declared.plans.Range.{Range}
 use Rattle.edits.specs.declared.plans.Source.{Source}
 use Rattle.edits.specs.declared.plans.Source.the-variants.{New, Copy, Turned}
@@ -83,6 +86,12 @@ pub record Inserts (r : Reference) (e : Asked) (g : Range) (source : Source) (in
   pub range : Ranges r e g
   pub comes : sourceOf (kindOf e) ≡ source
   pub swaps : swap r e ≡ record { from = index; to = index; put = put }
+
+-- so many bases of a transcript of so many, and their cut where they go in at an index
+pub record Goes (size put : ℕ) (cut : Cut) (s : List ℕ) (c : Cds) (index : ℕ) (bases : List ℕ) : Type 0 where
+  pub long : length s ≡ size
+  pub many : length bases ≡ put
+  pub cuts : cut ≡ cutOf (c .table) ((index - (c .cs - 1)) % 3) bases
 
 -- the range gives way to as many bases, from a source
 pub record Keeps (r : Reference) (e : Asked) (g : Range) (source : Source) : Type 0 where

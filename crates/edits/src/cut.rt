@@ -1,16 +1,16 @@
-// The stop cut: what goes in ends with its first stop codon.
+// The stop cut: what goes in ends with its first stop codon. It is the letters start..end of a reference, or of the new bases.
 use codons::reader::read_codon;
-use letters::letter_set;
+use packed::first_stop_by;
+use packed::set_at;
 use rules::Exception;
 use rules::Exceptions;
-use walks::first_stop;
-ghost use Prim.Native.Nat.{_+_, _<_, _≤_};
+use rules::Form;
+ghost use Prim.Native.Nat.{_+_, _-_, _<_, _≤_};
 ghost use mathlib.Core.Path.{_≡_};
-ghost use mathlib.Core.Bool.{true};
-ghost use lib.ListN.{length, getD};
-ghost use Rattle.rules.specs.Bytes.{all};
-ghost use Rattle.rules.specs.Letters.{isLetter};
-ghost use Rattle.rules.specs.Altered.{framed};
+ghost use lib.ListN.{getD};
+ghost use Rattle.rules.specs.Altered.{part, framed};
+ghost use Rattle.rules.specs.Packed.{lettersBy};
+ghost use Rattle.packed.specs.Halves.{InLetters};
 ghost use Rattle.edits.specs.Cuts.{cutOf, Cuts};
 
 // Whether a `*` appears, and how many of the bases stay.
@@ -23,18 +23,25 @@ pub struct Cut {
 const ANY: usize = 15;
 
 // The residue of the first codon, of `frame` letters N and the first bases.
-fn framed_codon(put: &[u8], frame: usize, table: usize) -> u8
+fn framed_codon(
+    letters: &[u8],
+    form: Form,
+    start: usize,
+    end: usize,
+    frame: usize,
+    table: usize,
+) -> u8
+    requires { ⌜ InLetters form (now letters) start end ⌝ }
     requires { ⌜ (1 ≤ frame) × (frame < 3) ⌝ }
-    requires { ⌜ 3 ≤ frame + length (now put) ⌝ }
+    requires { ⌜ 3 ≤ frame + (end - start) ⌝ }
     requires { ⌜ table < 3 ⌝ }
-    requires { ⌜ all isLetter (now put) ≡ true ⌝ }
-    ensures { λ r. ⌜ r ≡ getD (framed table frame (now (put .entry))) 0 0 ⌝ }
+    ensures { λ r. ⌜ r ≡ getD (framed table frame (part start end (lettersBy form (now (letters .entry))))) 0 0 ⌝ }
 {
-    let a = letter_set(put[0]);
+    let a = set_at(letters, form, start);
     if frame == 2 {
         return read_codon(table, ANY, ANY, a);
     }
-    let b = letter_set(put[1]);
+    let b = set_at(letters, form, start + 1);
     read_codon(table, ANY, a, b)
 }
 
@@ -51,12 +58,21 @@ pub fn no_exceptions() -> Exceptions
 }
 
 // The cut of bases that begin with a codon.
-fn cut_in_frame(put: &[u8], table: usize, plain: bool) -> Cut
-    requires { ⌜ Cuts table plain (now put) ⌝ }
-    ensures { λ r. ⌜ r ≡ cutOf table 0 (now (put .entry)) ⌝ }
+fn cut_in_frame(
+    letters: &[u8],
+    form: Form,
+    start: usize,
+    end: usize,
+    table: usize,
+    plain: bool,
+) -> Cut
+    requires { ⌜ InLetters form (now letters) start end ⌝ }
+    requires { ⌜ Cuts table plain (part start end (lettersBy form (now letters))) ⌝ }
+    ensures { λ r. ⌜ r ≡ cutOf table 0 (part start end (lettersBy form (now (letters .entry)))) ⌝ }
 {
-    let stop = first_stop(put, table, plain, no_exceptions());
-    if stop < put.len() / 3 {
+    let size = end - start;
+    let stop = first_stop_by(letters, form, start, end, table, plain, no_exceptions());
+    if stop < size / 3 {
         return Cut {
             found: true,
             kept: (stop + 1) * 3,
@@ -64,33 +80,43 @@ fn cut_in_frame(put: &[u8], table: usize, plain: bool) -> Cut
     }
     Cut {
         found: false,
-        kept: put.len(),
+        kept: size,
     }
 }
 
 // The cut of bases that go in behind `frame` bases of a codon, which count as letters N.
-pub(crate) fn insert_stop_seq_end(put: &[u8], frame: usize, table: usize, plain: bool) -> Cut
+pub(crate) fn insert_stop_seq_end(
+    letters: &[u8],
+    form: Form,
+    start: usize,
+    end: usize,
+    frame: usize,
+    table: usize,
+    plain: bool,
+) -> Cut
+    requires { ⌜ InLetters form (now letters) start end ⌝ }
     requires { ⌜ frame < 3 ⌝ }
-    requires { ⌜ Cuts table plain (now put) ⌝ }
-    ensures { λ r. ⌜ r ≡ cutOf table frame (now (put .entry)) ⌝ }
+    requires { ⌜ Cuts table plain (part start end (lettersBy form (now letters))) ⌝ }
+    ensures { λ r. ⌜ r ≡ cutOf table frame (part start end (lettersBy form (now (letters .entry)))) ⌝ }
 {
     if frame == 0 {
-        return cut_in_frame(put, table, plain);
+        return cut_in_frame(letters, form, start, end, table, plain);
     }
+    let size = end - start;
     let first = 3 - frame;
-    if put.len() < first {
+    if size < first {
         return Cut {
             found: false,
-            kept: put.len(),
+            kept: size,
         };
     }
-    if framed_codon(put, frame, table) == b'*' {
+    if framed_codon(letters, form, start, end, frame, table) == b'*' {
         return Cut {
             found: true,
             kept: first,
         };
     }
-    let cut = cut_in_frame(&put[first..], table, plain);
+    let cut = cut_in_frame(letters, form, start + first, end, table, plain);
     Cut {
         found: cut.found,
         kept: first + cut.kept,

@@ -7,11 +7,12 @@ use Prim.Native.Nat.{ℕ, zero, suc, _+_, _-_, _*_, _/_, _%_, _≤_, _<_}
 use native.Mathlib.Numerals.{add-one}
 use native.Mathlib.Omega.{arith}
 use lib.ListN.{length, take, drop, getD, set}
-use lib.Seq.{take-suc, take-suc-set, getD-take, length-take-le}
+use lib.Seq.{take-length, take-suc, take-suc-set, getD-take, length-take-le}
 use borrow.Author.Tests.{le-leb, lt-leb, eq-eqb, ne-eqb}
 use Rattle.rules.specs.declared.Exception.{Exception}
 use Rattle.rules.specs.declared.Exceptions.{Exceptions}
 use Rattle.rules.specs.Translation.{noException, exceptionList}
+use Rattle.rules.specs.Altered.{part}
 use Rattle.rules.specs.Trims.{commonPrefix, commonSuffix}
 use Rattle.rules.specs.Reference.{Reference, size, cdsSize, codons, areRising}
 use Rattle.rules.specs.Edit.{Asked}
@@ -61,13 +62,23 @@ pub number-fits : (first codon size made : ℕ) → 1 ≤ codon → first + 3 * 
 number-fits first codon size made g h k l = omega arith
 
 -- what the two trims find
-pub shared-of : (prefix suffix : ℕ) (old new : List ℕ) → prefix ≡ commonPrefix old new
-    → suffix ≡ commonSuffix (take (length old - prefix) (drop prefix old)) (take (length new - prefix) (drop prefix new))
-    → Shared prefix suffix (length old) (length new) old new
-unfolding suffixBehind
-shared-of prefix suffix old new p s = record { front = p; back = s ∙ rw (tail-is prefix old, tail-is prefix new); old-size = refl; new-size = refl }
+-- all of the letters
+pub whole-part : (size : ℕ) (s : List ℕ) → size ≡ length s → part 0 size s ≡ s
+unfolding part
+whole-part size s h = let all : size - 0 ≡ length s = omega arith in rw all (take-length s)
 
--- the suffix is within either transcript, behind the prefix
+pub shared-of : (prefix suffix size : ℕ) (old new : List ℕ) → size ≡ length old → prefix ≡ commonPrefix (part 0 size old) new
+    → suffix ≡ commonSuffix (part prefix size old) (take (length new - prefix) (drop prefix new))
+    → Shared prefix suffix size (length new) old new
+unfolding suffixBehind part
+shared-of prefix suffix size old new sized p s =
+    record {
+      front = p ∙ ap (λ (l : List ℕ). commonPrefix l new) (whole-part size old sized);
+      back = s ∙ rw (sized, tail-is prefix old, tail-is prefix new);
+      old-size = sym sized;
+      new-size = refl;
+    }
+
 pub lengths-of : (first prefix suffix size made : ℕ) (old new : List ℕ) → Moves first old new → Shared prefix suffix size made old new → Lengths first prefix suffix size made
 lengths-of first prefix suffix size made old new m s =
     let fits : (prefix + suffix ≤ length old) × (prefix + suffix ≤ length new) = rw (s .back, s .front) (suffix-fits old new) in

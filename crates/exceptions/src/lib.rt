@@ -1,13 +1,19 @@
 // "Positions and edits": exceptions move.
+use packed::prefix_by;
+use packed::size_of;
+use packed::suffix_by;
 use rules::Exception;
 use rules::Exceptions;
-use sequences::common_prefix_len;
-use sequences::common_suffix_len;
+use rules::Form;
 ghost use mathlib.Core.Path.{_≡_};
+ghost use mathlib.Core.Bool.{true};
 ghost use mathlib.Core.List.{List};
 ghost use Prim.Native.Nat.{ℕ, _+_, _*_, _≤_};
 ghost use lib.ListN.{length};
+ghost use Rattle.rules.specs.Bytes.{all};
+ghost use Rattle.rules.specs.Letters.{isLetter};
 ghost use Rattle.rules.specs.Translation.{exceptionList};
+ghost use Rattle.rules.specs.Packed.{lettersBy};
 ghost use Rattle.rules.specs.Trims.{commonPrefix};
 ghost use Rattle.rules.specs.Exceptions.{movedOne, movedAll};
 ghost use Rattle.exceptions.specs.Moving.{leftOf, Moves, Given, Rises, Lengths, Shared};
@@ -82,16 +88,24 @@ pub fn moved_all(
 }
 
 // The exceptions of the transcript `new` that an edit makes of `old`, whose CDS begins at index `first`.
-pub fn alt_translation_exceptions(old: &[u8], new: &[u8], first: usize, e: Exceptions) -> Exceptions
-    requires { ⌜ Moves first (now old) (now new) ⌝ }
-    requires { ⌜ Given first (now old) e ⌝ }
-    ensures { λ r. ⌜ exceptionList r ≡ movedAll (commonPrefix (now (old .entry)) (now (new .entry))) first (now (old .entry)) (now (new .entry)) (exceptionList e) ⌝ }
+pub fn alt_translation_exceptions(
+    old: &[u8],
+    form: Form,
+    new: &[u8],
+    first: usize,
+    e: Exceptions,
+) -> Exceptions
+    requires { ⌜ all isLetter (lettersBy form (now old)) ≡ true ⌝ }
+    requires { ⌜ Moves first (lettersBy form (now old)) (now new) ⌝ }
+    requires { ⌜ Given first (lettersBy form (now old)) e ⌝ }
+    ensures { λ r. ⌜ exceptionList r ≡ movedAll (commonPrefix (lettersBy form (now (old .entry))) (now (new .entry))) first (lettersBy form (now (old .entry))) (now (new .entry)) (exceptionList e) ⌝ }
     ensures few { λ r. ⌜ r .count ≤ 16 ⌝ }
 {
     if e.count == 0 {
         return e;
     }
-    let prefix = common_prefix_len(old, new);
-    let suffix = common_suffix_len(&old[prefix..], &new[prefix..]);
-    moved_all(e, first, prefix, suffix, old.len(), new.len())
+    let size = size_of(old, form);
+    let prefix = prefix_by(old, form, 0, size, new);
+    let suffix = suffix_by(old, form, prefix, size, &new[prefix..]);
+    moved_all(e, first, prefix, suffix, size, new.len())
 }

@@ -12,7 +12,9 @@ use mir.Syntax.{w64}
 use mir.Val.{SFits, toZ, ofZ}
 use mir.ValLaws.{toZ-ofZ}
 use Rattle.rules.specs.declared.Edit.{Edit}
+use Rattle.rules.specs.declared.Form.the-variants.{Packed}
 use Rattle.rules.specs.declared.Position.the-variants.{Plus, Minus, Star}
+use Rattle.rules.specs.Packed.{formAt}
 use Rattle.rules.proofs.Tests.{and-left, and-right}
 use Rattle.garumbott.specs.Host.{positionAt, editAt}
 
@@ -54,3 +56,9 @@ module _ (star : ℕ) (p : ℤ) (fits : SFits w64 p) (n : ℕ) (is : n ≡ natAb
 pub given-edit : (kind startStar : ℕ) (start : ℤ) (endStar : ℕ) (end : ℤ) → SFits w64 start → SFits w64 end → (e : Edit)
     → e ≡ editAt kind startStar (toZ w64 (ofZ w64 start)) endStar (toZ w64 (ofZ w64 end)) → e ≡ editAt kind startStar start endStar end
 given-edit kind startStar start endStar end f g e h = h ∙ rw (toZ-ofZ w64 start f, toZ-ofZ w64 end g)
+
+-- a number that is no form's
+pub form-other : (form size : ℕ) → (form ≡ 0 → ⊥) → (form ≡ 1 → ⊥) → Packed 0 ≡ formAt form size
+form-other zero size h g = absurd (h refl)
+form-other (suc zero) size h g = absurd (g refl)
+form-other (suc (suc n)) size h g = refl

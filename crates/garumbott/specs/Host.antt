@@ -22,6 +22,7 @@ use Rattle.rules.specs.Translation.{noException}
 use Rattle.rules.specs.Reference.{Reference}
 use Rattle.rules.specs.Edit.{Asked}
 use Rattle.rules.specs.Stored.{exceptionsIn}
+use Rattle.rules.specs.Packed.{lettersBy, formAt}
 use Rattle.rules.specs.Answer.{Outcome}
 use Rattle.rules.specs.Check.{CheckOutcome}
 use Rattle.rules.specs.Pair.{PairOutcome}
@@ -52,9 +53,10 @@ hostAsked kind startStar start endStar end bases = record { edit = editAt kind s
 unfoldable pub exceptionsAt : List ℕ → List Exception
 exceptionsAt s = if eqb (length s % 3) 0 then exceptionsIn s else (noException ∷ [])
 
-abbrev pub hostReference : List ℕ → ℕ → ℕ → ℕ → List ℕ → ℕ → Reference
-hostReference letters cs ce table exceptions end =
-    record { letters = letters; cs = cs; ce = ce; table = table; exceptions = exceptionsAt exceptions; end = end }
+-- the letters are those that the bytes hold in their form
+abbrev pub hostReference : List ℕ → ℕ → ℕ → ℕ → List ℕ → ℕ → ℕ → ℕ → Reference
+hostReference letters cs ce table exceptions end form size =
+    record { letters = lettersBy (formAt form size) letters; cs = cs; ce = ce; table = table; exceptions = exceptionsAt exceptions; end = end }
 
 -- 0 or not 0
 abbrev pub isSet : ℕ → Bool

@@ -3,6 +3,7 @@ use crate::numbers::GarumbottChecked;
 use crate::numbers::cds_at;
 use crate::numbers::checked_of;
 use crate::numbers::edit_at;
+use crate::numbers::form_at;
 use checks::Proposed;
 use checks::check_altseq;
 use rules::Question;
@@ -22,6 +23,8 @@ pub extern "C" fn garumbott_check(
     table: u64,
     exceptions: &[u8],
     cds_end: u64,
+    form: u64,
+    size: u64,
     kind: u64,
     start_star: u64,
     start: i64,
@@ -36,13 +39,18 @@ pub extern "C" fn garumbott_check(
     altered: &mut [u8],
 ) -> GarumbottChecked
     ensures { λ r. ⌜ Judges
-        (checkOutcome limits (hostReference (now (letters .entry)) cs ce table (now (exceptions .entry)) «cds_end») (hostAsked kind «start_star» start «end_star» end (now (bases .entry))) (proposed number (now (deleted .entry)) (now (inserted .entry))) (roomOf (now (transcript .entry)) (now (reference .entry)) (now (altered .entry))))
+        (checkOutcome limits (hostReference (now (letters .entry)) cs ce table (now (exceptions .entry)) «cds_end» form size) (hostAsked kind «start_star» start «end_star» end (now (bases .entry))) (proposed number (now (deleted .entry)) (now (inserted .entry))) (roomOf (now (transcript .entry)) (now (reference .entry)) (now (altered .entry))))
         r (now (transcript .entry)) (now (transcript .exit)) (now (reference .entry)) (now (reference .exit)) (now (altered .entry)) (now (altered .exit)) ⌝ }
 {
     let cds = cds_at(cs, ce, table, cds_end);
     let e = exceptions_in(exceptions);
     let edit = edit_at(kind, start_star, start, end_star, end);
-    let asks = Question { cds, e, edit };
+    let asks = Question {
+        form: form_at(form, size),
+        cds,
+        e,
+        edit,
+    };
     let proposed = Proposed {
         asks,
         number: number as usize,

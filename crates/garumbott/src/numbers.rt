@@ -5,6 +5,7 @@ use rules::Cds;
 use rules::Check;
 use rules::Class;
 use rules::Edit;
+use rules::Form;
 use rules::Kind;
 use rules::Paired;
 use rules::Position;
@@ -17,6 +18,7 @@ ghost use Prim.Native.Nat.{_-_};
 ghost use lib.IntN.{natAbs};
 ghost use Rattle.rules.specs.declared.Answer.the-variants as answer;
 ghost use Rattle.rules.specs.declared.Check.the-variants as check;
+ghost use Rattle.rules.specs.Packed.{formAt};
 ghost use Rattle.rules.specs.Views.{cdsOf};
 ghost use Rattle.rules.specs.Values.{kindAt, classNumber, flagNumber, toldBy};
 ghost use Rattle.garumbott.specs.Host.{positionAt, editAt, lengthOf, aloneOf, toldOf, answerOf, checkedOf, pairedOf, transcribedOf};
@@ -133,6 +135,17 @@ pub fn cds_at(cs: u64, ce: u64, table: u64, end: u64) -> Cds
         ce: ce as usize,
         table: table as usize,
         end: end as usize,
+    }
+}
+
+// The form of a host's two numbers. What is none is packed with no letters, which is refused with 1 where letters are judged.
+pub fn form_at(form: u64, size: u64) -> Form
+    ensures { λ r. ⌜ r ≡ formAt form size ⌝ }
+{
+    match form {
+        0 => Form::Bytes,
+        1 => Form::Packed(size as usize),
+        _ => Form::Packed(0),
     }
 }
 

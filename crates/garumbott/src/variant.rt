@@ -3,9 +3,11 @@ use crate::numbers::GarumbottAnswer;
 use crate::numbers::answer_of;
 use crate::numbers::cds_at;
 use crate::numbers::edit_at;
+use crate::numbers::form_at;
 use crate::numbers::transcribed_of;
 use altseq::build_altseq;
 use altseq::build_transcript;
+use rules::Question;
 use stored_fields::exceptions_in;
 ghost use mathlib.Core.Path.{_≡_};
 ghost use lib.ListN.{length};
@@ -24,6 +26,8 @@ pub extern "C" fn garumbott_edit(
     table: u64,
     exceptions: &[u8],
     cds_end: u64,
+    form: u64,
+    size: u64,
     kind: u64,
     start_star: u64,
     start: i64,
@@ -32,13 +36,19 @@ pub extern "C" fn garumbott_edit(
     bases: &[u8],
     transcript: &mut [u8],
 ) -> GarumbottAnswer
-    ensures { λ r. ⌜ r ≡ transcribedOf (edited limits (hostReference (now (letters .entry)) cs ce table (now (exceptions .entry)) «cds_end») (hostAsked kind «start_star» start «end_star» end (now (bases .entry))) (length (now (transcript .entry))) .answer) ⌝ }
-    ensures { λ _. ⌜ now (transcript .exit) ≡ over (edited limits (hostReference (now (letters .entry)) cs ce table (now (exceptions .entry)) «cds_end») (hostAsked kind «start_star» start «end_star» end (now (bases .entry))) (length (now (transcript .entry))) .transcript) (now (transcript .entry)) ⌝ }
+    ensures { λ r. ⌜ r ≡ transcribedOf (edited limits (hostReference (now (letters .entry)) cs ce table (now (exceptions .entry)) «cds_end» form size) (hostAsked kind «start_star» start «end_star» end (now (bases .entry))) (length (now (transcript .entry))) .answer) ⌝ }
+    ensures { λ _. ⌜ now (transcript .exit) ≡ over (edited limits (hostReference (now (letters .entry)) cs ce table (now (exceptions .entry)) «cds_end» form size) (hostAsked kind «start_star» start «end_star» end (now (bases .entry))) (length (now (transcript .entry))) .transcript) (now (transcript .entry)) ⌝ }
 {
     let cds = cds_at(cs, ce, table, cds_end);
     let e = exceptions_in(exceptions);
     let edit = edit_at(kind, start_star, start, end_star, end);
-    transcribed_of(build_transcript(letters, cds, e, edit, bases, transcript))
+    let asks = Question {
+        form: form_at(form, size),
+        cds,
+        e,
+        edit,
+    };
+    transcribed_of(build_transcript(letters, asks, bases, transcript))
 }
 
 #[no_mangle]
@@ -49,6 +59,8 @@ pub extern "C" fn garumbott_record(
     table: u64,
     exceptions: &[u8],
     cds_end: u64,
+    form: u64,
+    size: u64,
     kind: u64,
     start_star: u64,
     start: i64,
@@ -60,11 +72,17 @@ pub extern "C" fn garumbott_record(
     altered: &mut [u8],
 ) -> GarumbottAnswer
     ensures { λ r. ⌜ Tells
-        (outcome limits (hostReference (now (letters .entry)) cs ce table (now (exceptions .entry)) «cds_end») (hostAsked kind «start_star» start «end_star» end (now (bases .entry))) (roomOf (now (transcript .entry)) (now (reference .entry)) (now (altered .entry))))
+        (outcome limits (hostReference (now (letters .entry)) cs ce table (now (exceptions .entry)) «cds_end» form size) (hostAsked kind «start_star» start «end_star» end (now (bases .entry))) (roomOf (now (transcript .entry)) (now (reference .entry)) (now (altered .entry))))
         r (now (transcript .entry)) (now (transcript .exit)) (now (reference .entry)) (now (reference .exit)) (now (altered .entry)) (now (altered .exit)) ⌝ }
 {
     let cds = cds_at(cs, ce, table, cds_end);
     let e = exceptions_in(exceptions);
     let edit = edit_at(kind, start_star, start, end_star, end);
-    answer_of(build_altseq(letters, cds, e, edit, bases, transcript, reference, altered))
+    let asks = Question {
+        form: form_at(form, size),
+        cds,
+        e,
+        edit,
+    };
+    answer_of(build_altseq(letters, asks, bases, transcript, reference, altered))
 }

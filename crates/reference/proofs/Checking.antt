@@ -5,6 +5,8 @@ use mathlib.Core.List.{List}
 use Prim.Native.Nat.{ℕ, zero, suc, _≤_, _<_}
 use native.Mathlib.Omega.{arith}
 use lib.ListN.{length, take}
+use Rattle.rules.specs.declared.Form.{Form}
+use Rattle.rules.specs.declared.Form.the-variants.{Bytes}
 use Rattle.rules.specs.declared.Cds.{Cds}
 use Rattle.rules.specs.declared.Exceptions.{Exceptions}
 use Rattle.rules.specs.declared.Limits.{Limits}
@@ -22,13 +24,13 @@ use Rattle.reference.specs.Bounds.{Bounded, Sound}
 use Rattle.reference.specs.Known.{proteinUnless, knownOf, checkedBy, checkedOf, Checks, Knows}
 
 -- what the check answers and writes, by its refusal
-module _ (longest : ℕ) (s : List ℕ) (c : Cds) (e : Exceptions) where
+module _ (longest : ℕ) (f : Form) (s : List ℕ) (c : Cds) (e : Exceptions) where
   module _ (n : ℕ) (is : referenceRefusal longest (referenceOf s c e) ≡ n) (some : n ≡ 0 → ⊥) where
-    pub check-refused : checked.Refused n ≡ checkedOf longest s c e
+    pub check-refused : checked.Refused n ≡ checkedOf longest f s c e
     unfolding checkedOf checkedBy
     check-refused = rw is (by n some)
       where
-        by : (n : ℕ) → (n ≡ 0 → ⊥) → checked.Refused n ≡ checkedBy n (knownOf s c e)
+        by : (n : ℕ) → (n ≡ 0 → ⊥) → checked.Refused n ≡ checkedBy n (knownOf f s c e)
         by zero h = absurd (h refl)
         by (suc n) h = refl
 
@@ -41,7 +43,7 @@ module _ (longest : ℕ) (s : List ℕ) (c : Cds) (e : Exceptions) where
         by (suc n) h = refl
 
   module _ (none : referenceRefusal longest (referenceOf s c e) ≡ 0) where
-    pub check-known : (k : Known) → k ≡ knownOf s c e → checked.Known k ≡ checkedOf longest s c e
+    pub check-known : (k : Known) → k ≡ knownOf f s c e → checked.Known k ≡ checkedOf longest f s c e
     unfolding checkedOf checkedBy
     check-known k h = rw (none, h)
 
@@ -50,30 +52,34 @@ module _ (longest : ℕ) (s : List ℕ) (c : Cds) (e : Exceptions) where
     all-read old = rw none
 
 -- what the whole check answers
-module _ (longest : ℕ) (s : List ℕ) (c : Cds) (e : Exceptions) (x : Checked) (is : x ≡ checkedOf longest s c e) where
+module _ (longest : ℕ) (f : Form) (s : List ℕ) (c : Cds) (e : Exceptions) (x : Checked) (is : x ≡ checkedOf longest f s c e) where
   pub checked-refused : (n : ℕ) → x ≡ checked.Refused n → (referenceRefusal longest (referenceOf s c e) ≡ n) × (n ≡ 0 → ⊥)
   unfolding checkedOf checkedBy
   checked-refused n h = by (referenceRefusal longest (referenceOf s c e)) (sym is ∙ h)
     where
-      by : (m : ℕ) → checkedBy m (knownOf s c e) ≡ checked.Refused n → (m ≡ n) × (n ≡ 0 → ⊥)
+      by : (m : ℕ) → checkedBy m (knownOf f s c e) ≡ checked.Refused n → (m ≡ n) × (n ≡ 0 → ⊥)
       by zero h = let z : _≡_ {A = ℕ} 0 1 = cc in absurd (omega arith)
       by (suc m) h = let some : suc m ≡ n = cc in (some, λ z. omega arith)
 
-  pub checked-accepted : (k : Known) → x ≡ checked.Known k → (referenceRefusal longest (referenceOf s c e) ≡ 0) × (k ≡ knownOf s c e)
+  pub checked-accepted : (k : Known) → x ≡ checked.Known k → (referenceRefusal longest (referenceOf s c e) ≡ 0) × (k ≡ knownOf f s c e)
   unfolding checkedOf checkedBy
   checked-accepted k h = by (referenceRefusal longest (referenceOf s c e)) (sym is ∙ h)
     where
-      by : (m : ℕ) → checkedBy m (knownOf s c e) ≡ checked.Known k → (m ≡ 0) × (k ≡ knownOf s c e)
+      by : (m : ℕ) → checkedBy m (knownOf f s c e) ≡ checked.Known k → (m ≡ 0) × (k ≡ knownOf f s c e)
       by zero h = (refl, cc)
       by (suc m) h = let z : _≡_ {A = ℕ} 0 1 = cc in absurd (omega arith)
 
 -- R is in the buffer where the check accepts
 pub protein-held : (longest : ℕ) (s : List ℕ) (c : Cds) (e : Exceptions) (old out : List ℕ) → referenceRefusal longest (referenceOf s c e) ≡ 0
     → out ≡ over (proteinUnless (referenceRefusal longest (referenceOf s c e)) (referenceOf s c e)) old → out ≡ over (referenceProtein (referenceOf s c e)) old
-protein-held longest s c e old out none held = held ∙ sym (all-read longest s c e none old)
+protein-held longest s c e old out none held = held ∙ sym (all-read longest Bytes s c e none old)
 
 -- what is known of a reference that the check accepts
-module _ (m : Limits) (s : List ℕ) (c : Cds) (e : Exceptions) (k : Known) (none : referenceRefusal (m .longest) (referenceOf s c e) ≡ 0) (is : k ≡ knownOf s c e) where
+module _ (m : Limits) (f : Form) (s : List ℕ) (c : Cds) (e : Exceptions) (k : Known) (none : referenceRefusal (m .longest) (referenceOf s c e) ≡ 0) (is : k ≡ knownOf f s c e) where
+  pub form-known : k .form ≡ f
+  unfolding knownOf
+  form-known = ap (λ (k : Known). k .form) is
+
   pub cds-known : k .cds ≡ c
   unfolding knownOf
   cds-known = ap (λ (k : Known). k .cds) is
@@ -91,7 +97,7 @@ module _ (m : Limits) (s : List ℕ) (c : Cds) (e : Exceptions) (k : Known) (non
         let read = read-back (referenceProtein (referenceOf s c e)) old out (k .residues) residues-known held in
         record {
           accepted = rw cds-known none;
-          is = is ∙ ap (λ (c : Cds). knownOf s c e) (sym cds-known);
+          is = is ∙ ap (λ (c : Cds). knownOf f s c e) (sym cds-known) ∙ ap (λ (f : Form). knownOf f s (k .cds) e) (sym form-known);
           read = rw cds-known read;
           small = small;
         }

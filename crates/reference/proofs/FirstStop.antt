@@ -8,6 +8,7 @@ use native.Mathlib.Omega.{arith}
 use lib.Dec.{eqb, ltb}
 use lib.ListN.{length, getD, take, drop, length-take, length-drop}
 use borrow.Author.Tests.{eqb-true, eqb-false, eq-eqb, ne-eqb, lt-ltb, le-ltb, ltb-true, ltb-false}
+use Rattle.rules.specs.declared.Form.{Form}
 use Rattle.rules.specs.declared.Cds.{Cds}
 use Rattle.rules.specs.declared.Exceptions.{Exceptions}
 use Rattle.rules.specs.Bytes.{byte, if_then_else_, all, count}
@@ -107,9 +108,9 @@ module _ (s : List ℕ) (c : Cds) (e : Exceptions) (x : Readable s c e) (R : Ref
       let first : r ≡ beforeStop (referenceProtein (referenceOf s c e)) = is ∙ ap beforeStop strict ∙ sym (ap beforeStop read) in
       rw (first, ← many) (several-in (referenceProtein (referenceOf s c e)) (omega (arith, R .two)) (R .last at))
 
-pub known-is : (s : List ℕ) (c : Cds) (e : Exceptions) (n : ℕ) (plain several : Bool) → 1 ≤ c .cs → n ≡ (c .ce - (c .cs - 1) + 2) / 3 → plain ≡ all isBase s
-    → several ≡ ltb 1 (count (byte "*") (referenceProtein (referenceOf s c e))) → _≡_ {A = Known} record { cds = c; residues = n; plain = plain; several = several } (knownOf s c e)
+pub known-is : (f : Form) (s : List ℕ) (c : Cds) (e : Exceptions) (n : ℕ) (plain several : Bool) → 1 ≤ c .cs → n ≡ (c .ce - (c .cs - 1) + 2) / 3 → plain ≡ all isBase s
+    → several ≡ ltb 1 (count (byte "*") (referenceProtein (referenceOf s c e))) → _≡_ {A = Known} record { form = f; cds = c; residues = n; plain = plain; several = several } (knownOf f s c e)
 unfolding knownOf residueCount cdsSize
-known-is s c e n plain several first is p q =
+known-is f s c e n plain several first is p q =
     let count : n ≡ (c .ce + 1 - c .cs + 2) / 3 = omega arith in
     rw (count, p, q)

@@ -8,6 +8,7 @@ use native.Mathlib.Omega.{arith}
 use lib.Dec.{leb, ltb}
 use lib.ListN.{length, take, drop}
 use borrow.Author.Tests.{leb-true}
+use Rattle.rules.specs.declared.Form.{Form}
 use Rattle.rules.specs.declared.Cds.{Cds}
 use Rattle.rules.specs.declared.Exceptions.{Exceptions}
 use Rattle.rules.specs.Bytes.{byte, all, count, over}
@@ -87,9 +88,9 @@ module _ (s : List ℕ) (c : Cds) (e : Exceptions) (x : Readable s c e) where
         let long = ap length holds-protein ∙ length-over (referenceProtein (referenceOf s c e)) old (omega (arith, residues-read)) in
         omega (arith, residues-are)
 
-    pub read-known : (n : ℕ) → n ≡ residueCount (c .ce - (c .cs - 1)) → (plain several : Bool) → plain ≡ all isBase s → several ≡ ltb 1 (count (byte "*") (take n out))
-        → _≡_ {A = Known} record { cds = c; residues = n; plain = plain; several = several } (knownOf s c e)
+    pub read-known : (f : Form) (n : ℕ) → n ≡ residueCount (c .ce - (c .cs - 1)) → (plain several : Bool) → plain ≡ all isBase s → several ≡ ltb 1 (count (byte "*") (take n out))
+        → _≡_ {A = Known} record { form = f; cds = c; residues = n; plain = plain; several = several } (knownOf f s c e)
     unfolding knownOf
-    read-known n is plain several p q =
+    read-known f n is plain several p q =
         let back = read-back (referenceProtein (referenceOf s c e)) old out n (is ∙ residues-are ∙ residues-read) holds-protein in
         rw (p, q, back, is, residues-are)

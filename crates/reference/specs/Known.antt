@@ -5,6 +5,7 @@ use mathlib.Core.List.{List, []}
 use mathlib.Core.Bool.{Bool, true, _&&_}
 use lib.Dec.{leb, ltb}
 use lib.ListN.{length, take, drop}
+use Rattle.rules.specs.declared.Form.{Form}
 use Rattle.rules.specs.declared.Cds.{Cds}
 use Rattle.rules.specs.declared.Exception.{Exception}
 use Rattle.rules.specs.declared.Exceptions.{Exceptions}
@@ -52,11 +53,12 @@ unfoldable pub proteinUnless : ℕ → Reference → List ℕ
 proteinUnless zero r = referenceProtein r
 proteinUnless (suc n) r = []
 
--- what is known of a reference that isn't refused: its CDS, how many residues R has, whether each letter is one base, and whether R has more
+-- what is known of a reference that isn't refused: the form of its letters, which are s, its CDS, how many residues R has, whether each letter is one base, and whether R has more
 -- than one stop
-unfoldable pub knownOf : List ℕ → Cds → Exceptions → Known
-knownOf s c e =
+unfoldable pub knownOf : Form → List ℕ → Cds → Exceptions → Known
+knownOf f s c e =
     record {
+      form = f;
       cds = c;
       residues = residueCount (cdsSize (referenceOf s c e));
       plain = all isBase s;
@@ -68,8 +70,8 @@ checkedBy zero k = checked.Known k
 checkedBy (suc n) k = checked.Refused (suc n)
 
 -- 1 to 5, 6 or 28, else what is known from then on
-unfoldable pub checkedOf : ℕ → List ℕ → Cds → Exceptions → Checked
-checkedOf longest s c e = checkedBy (referenceRefusal longest (referenceOf s c e)) (knownOf s c e)
+unfoldable pub checkedOf : ℕ → Form → List ℕ → Cds → Exceptions → Checked
+checkedOf longest f s c e = checkedBy (referenceRefusal longest (referenceOf s c e)) (knownOf f s c e)
 
 -- room for R of letters that 1 takes
 abbrev pub HasRoom : ℕ → List ℕ → ℕ → Type 0
@@ -89,6 +91,6 @@ pub record Checks (s : List ℕ) (k : Known) : Type 0 where
 -- a checked reference: its letters, its exceptions and R, lent beside what is known of it; the limits keep every altered length small
 pub record Knows (m : Limits) (s : List ℕ) (k : Known) (e : Exceptions) (protein : List ℕ) : Type 0 where
   pub accepted : referenceRefusal (m .longest) (referenceOf s (k .cds) e) ≡ 0
-  pub is : k ≡ knownOf s (k .cds) e
+  pub is : k ≡ knownOf (k .form) s (k .cds) e
   pub read : protein ≡ referenceProtein (referenceOf s (k .cds) e)
   pub small : m .longest + max (m .most) (m .longest) < 4294967296

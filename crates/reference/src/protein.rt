@@ -3,9 +3,10 @@ use crate::Known;
 use numbers::least;
 use numbers::thirds;
 use numbers::wide;
+use packed::write_residues;
 use rules::Cds;
 use rules::Exceptions;
-use translation::write_translated;
+use rules::Form;
 ghost use mathlib.Core.Path.{_≡_};
 ghost use mathlib.Core.List.{[], _∷_};
 ghost use Prim.Native.Nat.{_≤_};
@@ -14,6 +15,7 @@ ghost use lib.ListN.{length};
 ghost use Rattle.rules.specs.Bytes.{byte, all, count, over};
 ghost use Rattle.rules.specs.Translation.{residueCount};
 ghost use Rattle.rules.specs.Reference.{cdsSize, referenceProtein};
+ghost use Rattle.rules.specs.Packed.{lettersBy};
 ghost use Rattle.rules.specs.Views.{bare, referenceOf};
 ghost use Rattle.letters.specs.Sets.{isBase};
 ghost use Rattle.reference.specs.Known.{knownOf, Readable};
@@ -57,23 +59,25 @@ fn several_stops(protein: &[u8]) -> bool
 // Reads R into the buffer, and tells what is known of the reference from then on.
 pub(crate) fn read_reference(
     letters: &[u8],
+    form: Form,
     c: Cds,
     e: Exceptions,
     plain: bool,
     protein: &mut [u8],
 ) -> Known
-    requires { ⌜ Readable (now letters) c e ⌝ }
-    requires { ⌜ plain ≡ all isBase (now letters) ⌝ }
-    requires { ⌜ residueCount (cdsSize (bare (now letters) c)) ≤ length (now protein) ⌝ }
-    ensures { λ r. ⌜ r ≡ knownOf (now (letters .entry)) c e ⌝ }
-    ensures { λ _. ⌜ now (protein .exit) ≡ over (referenceProtein (referenceOf (now (letters .entry)) c e)) (now (protein .entry)) ⌝ }
+    requires { ⌜ Readable (lettersBy form (now letters)) c e ⌝ }
+    requires { ⌜ plain ≡ all isBase (lettersBy form (now letters)) ⌝ }
+    requires { ⌜ residueCount (cdsSize (bare (lettersBy form (now letters)) c)) ≤ length (now protein) ⌝ }
+    ensures { λ r. ⌜ r ≡ knownOf form (lettersBy form (now (letters .entry))) c e ⌝ }
+    ensures { λ _. ⌜ now (protein .exit) ≡ over (referenceProtein (referenceOf (lettersBy form (now (letters .entry))) c e)) (now (protein .entry)) ⌝ }
 {
     let first = c.cs - 1;
     let end = c.ce;
     let residues = thirds(end - first);
-    write_translated(&letters[first..end], c.table, plain, e, protein);
+    write_residues(letters, form, first, end, c.table, plain, e, protein);
     let several = several_stops(&protein[..residues]);
     Known {
+        form,
         cds: c,
         residues,
         plain,

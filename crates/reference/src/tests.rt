@@ -1,21 +1,24 @@
 // Refusals 1 to 5: what is judged of a reference before a codon is read.
 use crate::Judged;
 use letters::is_residue;
+use packed::all_bases_by;
+use packed::all_letters_by;
+use packed::size_of;
 use rules::Cds;
 use rules::Exception;
 use rules::Exceptions;
-use sequences::all_letters;
-use translation::all_bases;
+use rules::Form;
 ghost use mathlib.Core.Path.{_≡_};
 ghost use mathlib.Core.Bool.{_&&_};
 ghost use mathlib.Core.List.{List};
-ghost use Prim.Native.Nat.{ℕ};
+ghost use Prim.Native.Nat.{ℕ, _<_};
 ghost use lib.Dec.{leb};
 ghost use lib.ListN.{length};
 ghost use Rattle.rules.specs.Bytes.{all};
 ghost use Rattle.rules.specs.Letters.{isLetter};
 ghost use Rattle.rules.specs.Translation.{exceptionList};
 ghost use Rattle.rules.specs.Reference.{fitsEnd, areBounds, areRising};
+ghost use Rattle.rules.specs.Packed.{lettersBy};
 ghost use Rattle.rules.specs.Views.{bare};
 ghost use Rattle.letters.specs.Sets.{isBase};
 ghost use Rattle.reference.specs.Known.{isException, earlyOf};
@@ -68,28 +71,36 @@ pub fn fit_exceptions(e: Exceptions, most: usize) -> bool
 }
 
 // Whether each letter is of the fifteen. Plain ones are, and needn't be looked at again.
-fn are_letters(letters: &[u8], plain: bool) -> bool
-    requires { ⌜ plain ≡ all isBase (now letters) ⌝ }
-    ensures { λ r. ⌜ r ≡ all isLetter (now (letters .entry)) ⌝ }
+fn are_letters(letters: &[u8], form: Form, plain: bool) -> bool
+    requires { ⌜ 0 < length (lettersBy form (now letters)) ⌝ }
+    requires { ⌜ plain ≡ all isBase (lettersBy form (now letters)) ⌝ }
+    ensures { λ r. ⌜ r ≡ all isLetter (lettersBy form (now (letters .entry))) ⌝ }
 {
     if plain {
         return true;
     }
-    all_letters(letters)
+    all_letters_by(letters, form)
 }
 
 // The lowest of 1 to 5 that applies, or whether the letters are plain.
-pub(crate) fn early_refusal(letters: &[u8], c: Cds, e: Exceptions, longest: usize) -> Judged
-    ensures { λ r. ⌜ r ≡ earlyOf longest (now (letters .entry)) c e ⌝ }
+pub(crate) fn early_refusal(
+    letters: &[u8],
+    form: Form,
+    c: Cds,
+    e: Exceptions,
+    longest: usize,
+) -> Judged
+    ensures { λ r. ⌜ r ≡ earlyOf longest (lettersBy form (now (letters .entry))) c e ⌝ }
 {
-    if (letters.len() < 1) | (longest < letters.len()) {
+    let size = size_of(letters, form);
+    if (size < 1) | (longest < size) {
         return Judged::Refused(1);
     }
-    let plain = all_bases(letters);
-    if !are_letters(letters, plain) {
+    let plain = all_bases_by(letters, form);
+    if !are_letters(letters, form, plain) {
         return Judged::Refused(2);
     }
-    if !are_bounds(letters.len(), c) {
+    if !are_bounds(size, c) {
         return Judged::Refused(3);
     }
     if 2 < c.table {

@@ -11,6 +11,7 @@ pub mod Complement
 pub mod Parts
 pub mod Reference
 pub mod Refusal
+pub mod Packed
 pub mod Span
 pub mod Moved
 pub mod Altered

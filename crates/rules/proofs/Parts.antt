@@ -23,7 +23,7 @@ unfolding part
 letters-part start end s h = all-take isLetter (end - start) (drop start s) (all-drop isLetter start s h)
 
 -- two parts in a row
-part-split : (start mid end : ℕ) (s : List ℕ) → start ≤ mid → mid ≤ end → part start end s ≡ part start mid s ++ part mid end s
+pub part-split : (start mid end : ℕ) (s : List ℕ) → start ≤ mid → mid ≤ end → part start end s ≡ part start mid s ++ part mid end s
 unfolding part
 part-split start mid end s h k =
     let whole : end - start ≡ (mid - start) + (end - mid) = omega arith in

@@ -1,5 +1,5 @@
 -- The definitions of document 01 as document 02 amends it, a file for each part and in its order, each over those above it; Reuse is E4, Check E7,
--- Storing E1, Longest and Settings E12, Panel E9, Pair E13, Editions E11. Bytes has the words that all share, Views the plain types as the sections'
+-- Storing E1, Longest and Settings E12, Panel E9, Pair E13, Editions E11, Packed E10. Bytes has the words that all share, Views the plain types as the sections'
 -- own, Values the numbers that a host reads, Opened what a worked example computes with.
 pub mod Bytes
 pub mod Letters
@@ -17,6 +17,7 @@ pub mod Protein
 pub mod Reuse
 pub mod Record
 pub mod Refusal
+pub mod Packed
 pub mod Views
 pub mod Answer
 pub mod Check

@@ -47,8 +47,15 @@ pub struct Cds {
     pub end: usize,
 }
 
-// What is asked of a reference: its numbers and its exceptions, and an edit. The letters and the new bases are lent beside them.
+// How a reference's letters are lent: a byte each, or packed two to a byte, so many letters in all.
+pub enum Form {
+    Bytes,
+    Packed(usize),
+}
+
+// What is asked of a reference: its letters' form, its numbers and its exceptions, and an edit. The letters and the new bases are lent beside them.
 pub struct Question {
+    pub form: Form,
     pub cds: Cds,
     pub e: Exceptions,
     pub edit: Edit,

@@ -4,10 +4,12 @@ use edits::plans::Plan;
 use numbers::least;
 use rules::Cds;
 use rules::Exceptions;
+use rules::Form;
 ghost use mathlib.Core.Path.{_≡_};
 ghost use Prim.Native.Nat.{_+_, _*_, _≤_};
 ghost use lib.ListN.{drop};
 ghost use Rattle.rules.specs.Bytes.{same};
+ghost use Rattle.rules.specs.Packed.{lettersBy};
 ghost use Rattle.rules.proofs.Reading.{restOf};
 ghost use Rattle.silent.specs.Comparing.{proteinWith, Compares, Placed, Reused};
 
@@ -55,6 +57,7 @@ fn source_of(plan: Plan, first: usize, count: usize, residues: usize, k: usize) 
 // the two part or end, or to where the codons are the reference's again: then A is R exactly if they stand where they stood.
 pub fn keeps_protein(
     letters: &[u8],
+    form: Form,
     c: Cds,
     e: Exceptions,
     moved: Exceptions,
@@ -62,8 +65,8 @@ pub fn keeps_protein(
     plan: Plan,
     new: &[u8],
 ) -> bool
-    requires { ⌜ Compares (now letters) c e moved (now protein) plan (now new) ⌝ }
-    ensures { λ r. ⌜ r ≡ same (now (protein .entry)) (proteinWith c moved plan (now (letters .entry)) (now (new .entry))) ⌝ }
+    requires { ⌜ Compares (lettersBy form (now letters)) c e moved (now protein) plan (now new) ⌝ }
+    ensures { λ r. ⌜ r ≡ same (now (protein .entry)) (proteinWith c moved plan (lettersBy form (now (letters .entry))) (now (new .entry))) ⌝ }
 {
     let first = c.cs - 1;
     let whole = (plan.length - first) / 3;
@@ -81,7 +84,7 @@ pub fn keeps_protein(
         if source < protein.len() {
             return source == k;
         }
-        let r = residue_at(letters, c.table, plan, new, moved, first, k);
+        let r = residue_at(letters, form, c.table, plan, new, moved, first, k);
         if r != protein[k] {
             return false;
         }

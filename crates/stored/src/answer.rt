@@ -5,6 +5,8 @@ use altseq::build_altseq;
 use fields::bytes_at;
 use rules::Answer;
 use rules::Edit;
+use rules::Form;
+use rules::Question;
 use stored_fields::Stored;
 use stored_fields::StoredAt;
 use stored_fields::exceptions_in;
@@ -36,11 +38,16 @@ fn answer_at(
         r (now (transcript .entry)) (now (transcript .exit)) (now (reference .entry)) (now (reference .exit)) (now (altered .entry)) (now (altered .exit)) ⌝ }
 {
     let e = exceptions_in(bytes_at(s, p.exceptions));
-    build_altseq(
-        bytes_at(s, p.letters),
-        p.cds,
+    let cds = p.cds;
+    let asks = Question {
+        form: Form::Bytes,
+        cds,
         e,
         edit,
+    };
+    build_altseq(
+        bytes_at(s, p.letters),
+        asks,
         new,
         transcript,
         reference,

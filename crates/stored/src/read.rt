@@ -3,6 +3,7 @@ use fields::bytes_at;
 use parts::judge_parts;
 use reference::Judged;
 use reference::judge_reference;
+use rules::Form;
 use rules::LONGEST;
 use stored_fields::Stored;
 use stored_fields::StoredAt;
@@ -32,7 +33,7 @@ fn refusal_of_one(s: &[u8], p: StoredAt) -> usize
     ensures { λ r. ⌜ r ≡ referenceRefusal (limits .longest) (placedReference (now (s .entry)) p) ⌝ }
 {
     let e = exceptions_in(bytes_at(s, p.exceptions));
-    match judge_reference(bytes_at(s, p.letters), p.cds, e, LONGEST) {
+    match judge_reference(bytes_at(s, p.letters), Form::Bytes, p.cds, e, LONGEST) {
         Judged::Refused(n) => n,
         Judged::Clear { plain: _ } => 0,
     }

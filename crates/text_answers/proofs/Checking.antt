@@ -16,13 +16,14 @@ use Rattle.rules.specs.Line.{textLimits, referenceLine, fitsLine}
 use Rattle.rules.specs.Run.{refusedLine, answersFrom, answersOf, answers, lineFeed, unlines}
 use Rattle.rules.proofs.Over.{copied, fits-over, read-back, tail-is}
 use Rattle.rules.proofs.Reference.{accepted as passed}
+use Rattle.rules.specs.declared.Form.the-variants.{Bytes}
 use Rattle.rules.specs.declared.Cds.{Cds}
 use Rattle.rules.specs.Views.{bare, referenceOf}
 use Rattle.reference.specs.declared.Known.{Known}
 use Rattle.reference.specs.declared.Checked.{Checked}
 use Rattle.reference.specs.declared.Checked.the-variants as checked
 use Rattle.reference.specs.Known.{proteinUnless, checkedOf, knownOf, Knows}
-use Rattle.reference.proofs.Checking.{checked-refused, checked-accepted, nothing-read, protein-held, cds-known, residues-within, knows}
+use Rattle.reference.proofs.Checking.{checked-refused, checked-accepted, nothing-read, protein-held, cds-known, form-known, residues-within, knows}
 use Rattle.text_forms.specs.declared.line.ReferenceLine.{ReferenceLine}
 use Rattle.text_forms.specs.declared.line.ReferenceLine.the-variants as reference-line
 use Rattle.text_forms.specs.Views.{referenceLineIn}
@@ -51,28 +52,28 @@ refused-ends r zero h = absurd (h refl)
 refused-ends r (suc n) h = refl
 
 -- a reference without exceptions, checked
-module _ (x₀ : Exceptions) (are : x₀ ≡ noExceptions) (s : List ℕ) (c : Cds) (x : Checked) (said : x ≡ checkedOf lettersRoom s c x₀) where
+module _ (x₀ : Exceptions) (are : x₀ ≡ noExceptions) (s : List ℕ) (c : Cds) (x : Checked) (said : x ≡ checkedOf lettersRoom Bytes s c x₀) where
   abbrev given-answer : List ℕ
   given-answer = unlines (answersOf (some (bare s c)) [])
 
   abbrev given-next : Stage
   given-next = behindFirst (accepted (some (bare s c)))
 
-  is : x ≡ checkedOf lettersRoom s c noExceptions
-  is = said ∙ ap (checkedOf lettersRoom s c) are
+  is : x ≡ checkedOf lettersRoom Bytes s c noExceptions
+  is = said ∙ ap (checkedOf lettersRoom Bytes s c) are
 
   pub opens-refused : (n : ℕ) (p : Phase) (m : ℕ) → x ≡ checked.Refused n → (letters protein protein′ text text′ : List ℕ) → protein′ ≡ over (proteinUnless (referenceRefusal lettersRoom (referenceOf s c x₀)) (referenceOf s c x₀)) protein → p ≡ Ended → m ≡ length (refusedLine n ++ (lineFeed ∷ [])) → text′ ≡ over (refusedLine n ++ (lineFeed ∷ [])) text
       → Opens given-answer given-next p m letters letters protein protein′ text text′
   unfolding exceptionList answersOf unlines accepted behindFirst
   opens-refused n p m h letters protein protein′ text text′ read done e q =
-      let refused = checked-refused lettersRoom s c noExceptions x is n h in
-      let same : protein′ ≡ protein = read ∙ ap (λ (x₀ : Exceptions). over (proteinUnless (referenceRefusal lettersRoom (referenceOf s c x₀)) (referenceOf s c x₀)) protein) are ∙ sym (nothing-read lettersRoom s c noExceptions n (refused .0) (refused .1) protein) in
+      let refused = checked-refused lettersRoom Bytes s c noExceptions x is n h in
+      let same : protein′ ≡ protein = read ∙ ap (λ (x₀ : Exceptions). over (proteinUnless (referenceRefusal lettersRoom (referenceOf s c x₀)) (referenceOf s c x₀)) protein) are ∙ sym (nothing-read lettersRoom Bytes s c noExceptions n (refused .0) (refused .1) protein) in
       opens-ended given-answer (refusedLine n ++ (lineFeed ∷ [])) given-next p m letters protein protein′ text text′
       (rw (refused .0, refused-answers (bare s c) n (refused .1))) (rw (refused .0, refused-ends (bare s c) n (refused .1))) done same e q
 
   module _ (k : Known) (h : x ≡ checked.Known k) where
-    taken : (referenceRefusal lettersRoom (referenceOf s c noExceptions) ≡ 0) × (k ≡ knownOf s c noExceptions)
-    taken = checked-accepted lettersRoom s c noExceptions x is k h
+    taken : (referenceRefusal lettersRoom (referenceOf s c noExceptions) ≡ 0) × (k ≡ knownOf Bytes s c noExceptions)
+    taken = checked-accepted lettersRoom Bytes s c noExceptions x is k h
 
     pub letters-fit : length s ≤ lettersRoom
     unfolding size
@@ -85,10 +86,10 @@ module _ (x₀ : Exceptions) (are : x₀ ≡ noExceptions) (s : List ℕ) (c : C
           (q ∙ ap (λ (x₀ : Exceptions). over (proteinUnless (referenceRefusal lettersRoom (referenceOf s c x₀)) (referenceOf s c x₀)) old) are)
 
       pub protein-fits : k .residues ≤ length protein
-      protein-fits = residues-within textLimits s c noExceptions k (taken .0) (taken .1) old protein held
+      protein-fits = residues-within textLimits Bytes s c noExceptions k (taken .0) (taken .1) old protein held
 
       known-here : Knows textLimits s k noExceptions (take (k .residues) protein)
-      known-here = knows textLimits s c noExceptions k (taken .0) (taken .1) old protein held (omega arith)
+      known-here = knows textLimits Bytes s c noExceptions k (taken .0) (taken .1) old protein held (omega arith)
 
       pub reference-room : (n : ℕ) → n ≡ firstRoom → length (bytes "reference " ++ take (k .residues) protein) < n
       reference-room n e = omega (arith, protein-short s k (take (k .residues) protein) known-here .1)
@@ -98,7 +99,7 @@ module _ (x₀ : Exceptions) (are : x₀ ≡ noExceptions) (s : List ℕ) (c : C
           → Opens given-answer given-next (Editing k n) m letters letters′ old protein text text′
       unfolding exceptionList answersOf answersFrom unlines accepted acceptedBy behindFirst
       opens-known n m letters letters′ text text′ e copy e₂ q₂ =
-          let cds = cds-known textLimits s c noExceptions k (taken .0) (taken .1) in
+          let cds = cds-known textLimits Bytes s c noExceptions k (taken .0) (taken .1) in
           let there : letters′ ≡ over s letters = copy ∙ copied s letters in
           let back : take n letters′ ≡ s = read-back s letters letters′ n e there in
           let same : take (k .residues) protein ≡ referenceProtein (bare s c) = known-here .read ∙ rw cds in
@@ -109,7 +110,7 @@ module _ (x₀ : Exceptions) (are : x₀ ≡ noExceptions) (s : List ℕ) (c : C
             counts = e₂;
             prints = q₂;
             reaches = rw (back, cds);
-            known = rw back (fits-over s letters letters′ n e there, protein-fits, known-here);
+            known = rw back (fits-over s letters letters′ n e there, protein-fits, record { form = form-known textLimits Bytes s c noExceptions k (taken .0) (taken .1); known = known-here });
             keeps-letters = there;
             keeps-protein = held;
           })

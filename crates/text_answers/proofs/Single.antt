@@ -39,7 +39,8 @@ phase-once (Editing k m) (Editing l n) letters protein e a b =
     let bytes : take m letters ≡ take n letters = ap (λ (r : Reference). r .letters) same in
     let cds : k .cds ≡ l .cds = ap (λ (r : Reference). cdsOf (r .cs) (r .ce) (r .table) (r .end)) same in
     let size : m ≡ n = sym (length-take-le m letters (a .0)) ∙ ap length bytes ∙ length-take-le n letters (b .0) in
-    let known : k ≡ l = a .2 .is ∙ rw (bytes, cds) (sym (b .2 .is)) in
+    let form : k .form ≡ l .form = a .2 .form ∙ sym (b .2 .form) in
+    let known : k ≡ l = a .2 .known .is ∙ rw (form, bytes, cds) (sym (b .2 .known .is)) in
     rw (known, size)
 
 -- two answers that meet the promise are the same, and so is every byte that they leave

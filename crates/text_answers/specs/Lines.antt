@@ -3,6 +3,7 @@ use Prim.Native.Nat.{ℕ, _≤_}
 use mathlib.Core.Path.{_≡_}
 use mathlib.Core.List.{List, []}
 use lib.ListN.{length, take, replicate}
+use Rattle.rules.specs.declared.Form.the-variants.{Bytes}
 use Rattle.rules.specs.declared.Exceptions.{Exceptions}
 use Rattle.rules.specs.Bytes.{over}
 use Rattle.rules.specs.Translation.{noException}
@@ -10,6 +11,7 @@ use Rattle.rules.specs.Reference.{Reference, referenceProtein}
 use Rattle.rules.specs.Line.{textLimits}
 use Rattle.rules.specs.Run.{recordLine}
 use Rattle.rules.specs.Views.{bare}
+use Rattle.reference.specs.declared.Known.{Known}
 use Rattle.reference.specs.Known.{Knows}
 use Rattle.edits.specs.declared.plans.Plan.{Plan}
 use Rattle.altseq.specs.Carried.{proteinBy, reportBy}
@@ -36,11 +38,16 @@ stageBy Opening l letters = opening l
 stageBy (Editing k size) l letters = editing (bare (take size letters) (k .cds)) l
 stageBy Ended l letters = ended
 
+-- a reference that was checked, whose letters are a byte each
+pub record KnowsText (s : List ℕ) (k : Known) (protein : List ℕ) : Type 0 where
+  pub form : k .form ≡ Bytes
+  pub known : Knows textLimits s k noExceptions protein
+
 -- the buffers hold the letters and R of a reference that was checked
 abbrev pub KnownIn : Phase → List ℕ → List ℕ → Type 0
 KnownIn Opening letters protein = Unit
 KnownIn (Editing k size) letters protein =
-    (size ≤ length letters) × (k .residues ≤ length protein) × Knows textLimits (take size letters) k noExceptions (take (k .residues) protein)
+    (size ≤ length letters) × (k .residues ≤ length protein) × KnowsText (take size letters) k (take (k .residues) protein)
 KnownIn Ended letters protein = Unit
 
 -- what a stage keeps of its reference: the letters, and R

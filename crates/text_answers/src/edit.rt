@@ -14,14 +14,12 @@ use text_prints::print_record;
 use text_prints::print_refused;
 ghost use mathlib.Core.Option.{some};
 ghost use mathlib.Core.List.{[], _∷_};
-ghost use Rattle.rules.specs.Line.{textLimits};
 ghost use Rattle.rules.specs.Run.{editAnswer, unlines};
 ghost use Rattle.rules.specs.Views.{bare, asked, referenceOf};
-ghost use Rattle.reference.specs.Known.{Knows};
 ghost use Rattle.altseq.specs.Carried.{Carries};
 ghost use Rattle.text_answers.specs.Rooms.{Ample};
 ghost use Rattle.text_answers.specs.Stage.{editing, answered};
-ghost use Rattle.text_answers.specs.Lines.{noExceptions, planLine, Line};
+ghost use Rattle.text_answers.specs.Lines.{noExceptions, KnowsText, planLine, Line};
 
 // The most new bases of an edit.
 const MOST: usize = 4096;
@@ -37,7 +35,7 @@ fn answer_plan(
     altered: &mut [u8],
 ) -> usize
     requires { ⌜ Carries (now letters) known noExceptions (now protein) plan (now new) (now transcript) (now altered) ⌝ }
-    requires { ⌜ Knows textLimits (now letters) known noExceptions (now protein) ⌝ }
+    requires { ⌜ KnowsText (now letters) known (now protein) ⌝ }
     requires { ⌜ Ample (now transcript) (now altered) ⌝ }
     ensures { λ r. ⌜ Line r (now (transcript .exit)) (unlines (planLine (referenceOf (now (letters .entry)) (known .cds) noExceptions) (now (protein .entry)) plan (now (new .entry)) ∷ [])) ⌝ }
 {
@@ -64,7 +62,7 @@ fn answer_asked(
     transcript: &mut [u8],
     altered: &mut [u8],
 ) -> usize
-    requires { ⌜ Knows textLimits (now letters) known noExceptions (now protein) ⌝ }
+    requires { ⌜ KnowsText (now letters) known (now protein) ⌝ }
     requires { ⌜ Ample (now transcript) (now altered) ⌝ }
     ensures { λ r. ⌜ Line r (now (transcript .exit)) (unlines (editAnswer (bare (now (letters .entry)) (known .cds)) (some (asked edit (now (new .entry)))) ∷ [])) ⌝ }
 {
@@ -86,7 +84,7 @@ pub fn answer_edit(
     transcript: &mut [u8],
     altered: &mut [u8],
 ) -> usize
-    requires { ⌜ Knows textLimits (now letters) known noExceptions (now protein) ⌝ }
+    requires { ⌜ KnowsText (now letters) known (now protein) ⌝ }
     requires { ⌜ Ample (now transcript) (now altered) ⌝ }
     ensures { λ r. ⌜ Line r (now (transcript .exit)) (answered (editing (bare (now (letters .entry)) (known .cds)) (now (line .entry)))) ⌝ }
 {

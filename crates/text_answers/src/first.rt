@@ -6,6 +6,7 @@ use crate::no_exceptions;
 use reference::Checked;
 use reference::check_reference;
 use rules::Cds;
+use rules::Form;
 use text_forms::ReferenceLine;
 use text_forms::parse_reference;
 use text_prints::print_reference;
@@ -52,7 +53,7 @@ fn answer_given(
     ensures { λ r. ⌜ Opens (unlines (answersOf (some (bare (now (given .entry)) cds)) [])) (behindFirst (accepted (some (bare (now (given .entry)) cds)))) (r .phase) (r .size)
         (now (letters .entry)) (now (letters .exit)) (now (protein .entry)) (now (protein .exit)) (now (text .entry)) (now (text .exit)) ⌝ }
 {
-    match check_reference(given, cds, no_exceptions(), LETTERS, protein) {
+    match check_reference(given, Form::Bytes, cds, no_exceptions(), LETTERS, protein) {
         Checked::Refused(n) => refuse(n, text),
         Checked::Known(known) => {
             let residues = known.residues;

@@ -13,12 +13,10 @@ ghost use Prim.Native.Nat.{_≤_, _<_};
 ghost use lib.ListN.{length, take};
 ghost use Rattle.rules.specs.Bytes.{over};
 ghost use Rattle.rules.specs.Answer.{writtenOf, bytesOf};
-ghost use Rattle.rules.specs.Line.{textLimits};
 ghost use Rattle.rules.specs.Views.{bare};
-ghost use Rattle.reference.specs.Known.{Knows};
 ghost use Rattle.text_answers.specs.Rooms.{lineRoom, Ample};
 ghost use Rattle.text_answers.specs.Stage.{editing, answered};
-ghost use Rattle.text_answers.specs.Lines.{noExceptions, KnownIn};
+ghost use Rattle.text_answers.specs.Lines.{KnowsText, KnownIn};
 ghost use Rattle.text_gather.specs.Steps.{within, Full, Moves, Steps};
 
 // What is known of the reference, and how many bytes of the line so far are held.
@@ -51,7 +49,7 @@ fn answer_line(
     altered: &mut [u8],
     out: &mut [u8],
 ) -> Written
-    requires { ⌜ Knows textLimits (now letters) known noExceptions (now protein) ⌝ }
+    requires { ⌜ KnowsText (now letters) known (now protein) ⌝ }
     requires { ⌜ Ample (now transcript) (now altered) ⌝ }
     ensures { λ r. ⌜ r ≡ writtenOf (within (answered (editing (bare (now (letters .entry)) (known .cds)) (now (line .entry)))) (length (now (out .entry)))) ⌝ }
     ensures { λ _. ⌜ now (out .exit) ≡ over (bytesOf (within (answered (editing (bare (now (letters .entry)) (known .cds)) (now (line .entry)))) (length (now (out .entry))))) (now (out .entry)) ⌝ }
@@ -72,7 +70,7 @@ fn edit_line(
     out: &mut [u8],
 ) -> Turn
     requires { ⌜ (length (now line) ≡ lineRoom) × (begun .held ≤ lineRoom) ⌝ }
-    requires { ⌜ Knows textLimits (now letters) (begun .known) noExceptions (now protein) ⌝ }
+    requires { ⌜ KnowsText (now letters) (begun .known) (now protein) ⌝ }
     requires { ⌜ Ample (now transcript) (now altered) ⌝ }
     ensures { λ r. ⌜ r .held ≤ lineRoom ⌝ }
     ensures { λ r. ⌜ Moves (editing (bare (now (letters .entry)) (begun .known .cds)) (take (begun .held) (now (line .entry))))
@@ -130,7 +128,7 @@ fn edit_lines(
     out: &mut [u8],
 ) -> Moved
     requires { ⌜ (length (now line) ≡ lineRoom) × (begun .held ≤ lineRoom) ⌝ }
-    requires { ⌜ Knows textLimits (now letters) (begun .known) noExceptions (now protein) ⌝ }
+    requires { ⌜ KnowsText (now letters) (begun .known) (now protein) ⌝ }
     requires { ⌜ Ample (now transcript) (now altered) ⌝ }
     ensures { λ r. ⌜ r .held ≤ lineRoom ⌝ }
     ensures { λ r. ⌜ Steps (editing (bare (now (letters .entry)) (begun .known .cds)) (take (begun .held) (now (line .entry))))

@@ -4,7 +4,7 @@ use mathlib.Core.Path.{_≡_, sym, ap, _∙_}
 use mathlib.Core.List.{List}
 use Prim.Native.Nat.{ℕ, _+_, _-_, _≤_}
 use native.Mathlib.Omega.{arith}
-use lib.ListN.{length, take}
+use lib.ListN.{length, take, drop}
 use lib.Seq.{length-take-le}
 use Rattle.rules.specs.Complement.{reverseComplement}
 use Rattle.rules.specs.Reference.{Reference, size}
@@ -12,6 +12,7 @@ use Rattle.rules.specs.Edit.{Asked}
 use Rattle.rules.specs.Altered.{part, carried, alteredTranscript, alteredLength}
 use Rattle.rules.specs.declared.Limits.{Limits}
 use Rattle.rules.specs.Refusal.{refusal}
+use Rattle.rules.proofs.Over.{tail-is}
 use Rattle.rules.proofs.Complement.{length-complement}
 use Rattle.rules.proofs.Parts.{length-part, take-part, take-complement}
 use Rattle.rules.proofs.Refusal.{reference-accepted}
@@ -22,6 +23,15 @@ use Rattle.edits.specs.declared.plans.Source.the-variants.{New, Copy, Turned}
 use Rattle.edits.specs.Plans.{planOf, sourceBytes, goesIn}
 use Rattle.edits.proofs.Planning.{kept-fits, transcript-is}
 use Rattle.transcript.specs.Carrying.{carriedBy, Sourced, Fits}
+
+-- the letters before a place, and those behind it
+pub front-part : (n : ℕ) (s : List ℕ) → part 0 n s ≡ take n s
+unfolding part
+front-part n s = let all : n - 0 ≡ n = omega arith in rw all
+
+pub tail-part : (n size : ℕ) (s : List ℕ) → size ≡ length s → part n size s ≡ drop n s
+unfolding part
+tail-part n size s h = rw h (tail-is n s)
 
 module _ (p : Plan) (letters new : List ℕ) (i : Sourced p letters new) where
   pub length-goes-in : length (goesIn p letters new) ≡ p .kept

@@ -18,6 +18,8 @@ use altseq::build_altseq;
 use numbers::least;
 use rules::Cds;
 use rules::Edit;
+use rules::Form;
+use rules::Question;
 ghost use mathlib.Core.Path.{_≡_};
 ghost use Prim.Native.Nat.{_≤_};
 ghost use Rattle.vectors_calls.specs.Given.{cdsIn, editIn, listedFrom};
@@ -66,11 +68,15 @@ fn answer(line: &[u8], letters: &[u8], new: &[u8]) {
     let r = least(number(line, fields::REFERENCE), REFERENCE_ROOM);
     let a = least(number(line, fields::ALTERED), ALTERED_ROOM);
     let e = exceptions_of(line, listed_from(line), number(line, fields::COUNT));
+    let asks = Question {
+        form: Form::Bytes,
+        cds: cds_of(line),
+        e,
+        edit: edit_of(line),
+    };
     let found = build_altseq(
         letters,
-        cds_of(line),
-        e,
-        edit_of(line),
+        asks,
         new,
         &mut transcript[0..t],
         &mut reference[0..r],

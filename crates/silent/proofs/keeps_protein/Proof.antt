@@ -11,67 +11,68 @@ use Rattle.rules.proofs.Silent.{sameFrom}
 use Rattle.transcript.specs.Carrying.{carriedBy}
 use Rattle.silent.specs.Comparing.{proteinWith}
 use Rattle.silent.proofs.Same.{first-some, in-transcript, some-residues, codes, in-made, placed, starts, starts-within, past, ends, ends-either, read-is, parts, stops, goes-on}
+use Rattle.rules.specs.Packed.{lettersBy}
 use Rattle.silent.proofs.keeps_protein.Statement.{statement}
 use Rattle.silent.proofs.keeps_protein.Tie as tie
 
 abbrev Inv-loop : tie.InvT-loop
-Inv-loop letters c moved protein plan new first whole rest count k₀ k =
-    (sameFrom (c .table) (exceptionList moved) (drop (c .cs - 1) (carriedBy plan letters new)) protein k ≡ same protein (proteinWith c moved plan letters new))
+Inv-loop letters form c moved protein plan new first whole rest count k₀ k =
+    (sameFrom (c .table) (exceptionList moved) (drop (c .cs - 1) (carriedBy plan (lettersBy form letters) new)) protein k ≡ same protein (proteinWith c moved plan (lettersBy form letters) new))
     × (k ≤ (plan .length - (c .cs - 1)) / 3)
 
 abbrev μ-loop : tie.MeasureT-loop
-μ-loop letters c moved protein plan new first whole rest count k₀ k = (plan .length - (c .cs - 1)) / 3 - k
+μ-loop letters form c moved protein plan new first whole rest count k₀ k = (plan .length - (c .cs - 1)) / 3 - k
 
 sub-first : tie.Need-sub-first Inv-loop μ-loop
 sub-first c =
     let a = c .before .before .before .before .args in
     let x = c .before .before .before .before .pre in
-    first-some (a .letters .now) (a .c) (a .e) (a .moved) (a .protein .now) (a .plan) (a .new .now) x
+    first-some (lettersBy (a .form) (a .letters .now)) (a .c) (a .e) (a .moved) (a .protein .now) (a .plan) (a .new .now) x
 
 sub-whole : tie.Need-sub-whole Inv-loop μ-loop
 sub-whole c =
     let a = c .before .before .before .before .before .args in
     let x = c .before .before .before .before .before .pre in
-    in-transcript (a .letters .now) (a .c) (a .e) (a .moved) (a .protein .now) (a .plan) (a .new .now) x
+    in-transcript (lettersBy (a .form) (a .letters .now)) (a .c) (a .e) (a .moved) (a .protein .now) (a .plan) (a .new .now) x
 
 sub-rest : tie.Need-sub-rest Inv-loop μ-loop
 sub-rest c =
     let a = c .before .before .before .before .before .before .args in
     let x = c .before .before .before .before .before .before .pre in
-    in-transcript (a .letters .now) (a .c) (a .e) (a .moved) (a .protein .now) (a .plan) (a .new .now) x
+    in-transcript (lettersBy (a .form) (a .letters .now)) (a .c) (a .e) (a .moved) (a .protein .now) (a .plan) (a .new .now) x
 
 first-changed-requires : tie.Need-first-changed-requires Inv-loop μ-loop
 first-changed-requires c κs =
     let a = c .before .before .before .before .before .before .args in
     let x = c .before .before .before .before .before .before .pre in
-    (x .front, some-residues (a .letters .now) (a .c) (a .e) (a .moved) (a .protein .now) (a .plan) (a .new .now) x)
+    (x .front, some-residues (lettersBy (a .form) (a .letters .now)) (a .c) (a .e) (a .moved) (a .protein .now) (a .plan) (a .new .now) x)
 
 loop-holds : tie.Need-loop-holds Inv-loop μ-loop
 loop-holds c =
     let a = c .before .before .before .before .before .before .before .args in
     let x = c .before .before .before .before .before .before .before .pre in
     let from = c .first-changed in
-    (starts (a .letters .now) (a .c) (a .e) (a .moved) (a .protein .now) (a .plan) (a .new .now) x (from .result) (from .ensures .0) (from .ensures .1), starts-within (a .letters .now) (a .c) (a .e) (a .moved) (a .protein .now) (a .plan) (a .new .now) x (from .result) (from .ensures .1))
+    (starts (lettersBy (a .form) (a .letters .now)) (a .c) (a .e) (a .moved) (a .protein .now) (a .plan) (a .new .now) x (from .result) (from .ensures .0) (from .ensures .1), starts-within (lettersBy (a .form) (a .letters .now)) (a .c) (a .e) (a .moved) (a .protein .now) (a .plan) (a .new .now) x (from .result) (from .ensures .1))
 
 returns : tie.Need-returns Inv-loop μ-loop
 returns c =
     let a = c .before .before .before .before .before .before .before .before .before .before .args in
     let x = c .before .before .before .before .before .before .before .before .before .before .pre in
     let turn = c .before .before .loop in
-    c .rest-alike .ensures ∙ sym (ends (a .letters .now) (a .c) (a .e) (a .moved) (a .protein .now) (a .plan) (a .new .now) x (turn .k) (omega (arith, turn .inv .1, c .before .if1 .taken))) ∙ turn .inv .0
+    c .rest-alike .ensures ∙ sym (ends (lettersBy (a .form) (a .letters .now)) (a .c) (a .e) (a .moved) (a .protein .now) (a .plan) (a .new .now) x (turn .k) (omega (arith, turn .inv .1, c .before .if1 .taken))) ∙ turn .inv .0
 
 returns-2 : tie.Need-returns-2 Inv-loop μ-loop
 returns-2 c =
     let a = c .before .before .before .before .before .before .before .before .before .before .args in
     let x = c .before .before .before .before .before .before .before .before .before .before .pre in
     let turn = c .before .before .loop in
-    sym (past (a .letters .now) (a .c) (a .e) (a .moved) (a .protein .now) (a .plan) (a .new .now) x (turn .k) (omega (arith, c .before .if1 .left)) (c .if2 .taken)) ∙ turn .inv .0
+    sym (past (lettersBy (a .form) (a .letters .now)) (a .c) (a .e) (a .moved) (a .protein .now) (a .plan) (a .new .now) x (turn .k) (omega (arith, c .before .if1 .left)) (c .if2 .taken)) ∙ turn .inv .0
 
 source-of-requires : tie.Need-source-of-requires Inv-loop μ-loop
 source-of-requires c κs =
     let a = c .before .before .before .before .before .before .before .before .before .before .args in
     let x = c .before .before .before .before .before .before .before .before .before .before .pre in
-    placed (a .letters .now) (a .c) (a .e) (a .moved) (a .protein .now) (a .plan) (a .new .now) x (c .before .before .loop .k) (omega (arith, c .before .if1 .left))
+    placed (lettersBy (a .form) (a .letters .now)) (a .c) (a .e) (a .moved) (a .protein .now) (a .plan) (a .new .now) x (c .before .before .loop .k) (omega (arith, c .before .if1 .left))
 
 returns-3 : tie.Need-returns-3 Inv-loop μ-loop
 returns-3 c =
@@ -81,13 +82,13 @@ returns-3 c =
     let source = c .before .source-of in
     let found = source .ensures in
     let below = c .if3 .taken in
-    sym (ends-either (a .letters .now) (a .c) (a .e) (a .moved) (a .protein .now) (a .plan) (a .new .now) x (turn .k) (source .result) (found .none below) (found .behind below) (found .place below) (omega (arith, c .before .before .if2 .left)) below) ∙ turn .inv .0
+    sym (ends-either (lettersBy (a .form) (a .letters .now)) (a .c) (a .e) (a .moved) (a .protein .now) (a .plan) (a .new .now) x (turn .k) (source .result) (found .none below) (found .behind below) (found .place below) (omega (arith, c .before .before .if2 .left)) below) ∙ turn .inv .0
 
 residue-at-requires : tie.Need-residue-at-requires Inv-loop μ-loop
 residue-at-requires c κs =
     let a = c .before .before .before .before .before .before .before .before .before .before .before .before .args in
     let x = c .before .before .before .before .before .before .before .before .before .before .before .before .pre in
-    (x .makes, (in-made (a .letters .now) (a .c) (a .e) (a .moved) (a .protein .now) (a .plan) (a .new .now) x (c .before .before .before .before .loop .k) (omega (arith, c .before .before .before .if1 .left)), (codes (a .letters .now) (a .c) (a .e) (a .moved) (a .protein .now) (a .plan) (a .new .now) x, x .few)))
+    (x .makes, (in-made (lettersBy (a .form) (a .letters .now)) (a .c) (a .e) (a .moved) (a .protein .now) (a .plan) (a .new .now) x (c .before .before .before .before .loop .k) (omega (arith, c .before .before .before .if1 .left)), (codes (lettersBy (a .form) (a .letters .now)) (a .c) (a .e) (a .moved) (a .protein .now) (a .plan) (a .new .now) x, x .few)))
 
 returns-4 : tie.Need-returns-4 Inv-loop μ-loop
 returns-4 c =
@@ -95,7 +96,7 @@ returns-4 c =
     let x = c .before .before .before .before .before .before .before .before .before .before .before .before .before .before .before .pre in
     let turn = c .before .before .before .before .before .before .before .loop in
     let read = c .before .before .residue-at in
-    sym (parts (a .letters .now) (a .c) (a .e) (a .moved) (a .protein .now) (a .plan) (a .new .now) x (turn .k) (read .result) (omega (arith, c .before .before .before .before .before .before .if1 .left)) (read-is (a .letters .now) (a .c) (a .e) (a .moved) (a .protein .now) (a .plan) (a .new .now) x (turn .k) (read .result) (read .ensures)) (omega (arith, c .before .before .before .before .before .if2 .left)) (c .if4 .taken)) ∙ turn .inv .0
+    sym (parts (lettersBy (a .form) (a .letters .now)) (a .c) (a .e) (a .moved) (a .protein .now) (a .plan) (a .new .now) x (turn .k) (read .result) (omega (arith, c .before .before .before .before .before .before .if1 .left)) (read-is (lettersBy (a .form) (a .letters .now)) (a .c) (a .e) (a .moved) (a .protein .now) (a .plan) (a .new .now) x (turn .k) (read .result) (read .ensures)) (omega (arith, c .before .before .before .before .before .if2 .left)) (c .if4 .taken)) ∙ turn .inv .0
 
 returns-5 : tie.Need-returns-5 Inv-loop μ-loop
 returns-5 c =
@@ -103,7 +104,7 @@ returns-5 c =
     let x = c .before .before .before .before .before .before .before .before .before .before .before .before .before .before .before .before .pre in
     let turn = c .before .before .before .before .before .before .before .before .loop in
     let read = c .before .before .before .residue-at in
-    sym (stops (a .letters .now) (a .c) (a .e) (a .moved) (a .protein .now) (a .plan) (a .new .now) x (turn .k) (read .result) (omega (arith, c .before .before .before .before .before .before .before .if1 .left)) (read-is (a .letters .now) (a .c) (a .e) (a .moved) (a .protein .now) (a .plan) (a .new .now) x (turn .k) (read .result) (read .ensures)) (omega (arith, c .before .before .before .before .before .before .if2 .left)) (c .before .if4 .left) (c .if5 .taken)) ∙ turn .inv .0
+    sym (stops (lettersBy (a .form) (a .letters .now)) (a .c) (a .e) (a .moved) (a .protein .now) (a .plan) (a .new .now) x (turn .k) (read .result) (omega (arith, c .before .before .before .before .before .before .before .if1 .left)) (read-is (lettersBy (a .form) (a .letters .now)) (a .c) (a .e) (a .moved) (a .protein .now) (a .plan) (a .new .now) x (turn .k) (read .result) (read .ensures)) (omega (arith, c .before .before .before .before .before .before .if2 .left)) (c .before .if4 .left) (c .if5 .taken)) ∙ turn .inv .0
 
 loop-less : tie.Need-loop-less Inv-loop μ-loop
 loop-less c = omega (arith, c .before .before .before .before .before .before .before .if1 .left)
@@ -114,7 +115,7 @@ loop-again c =
     let x = c .before .before .before .before .before .before .before .before .before .before .before .before .before .before .before .before .pre in
     let turn = c .before .before .before .before .before .before .before .before .loop in
     let read = c .before .before .before .residue-at in (
-      sym (goes-on (a .letters .now) (a .c) (a .e) (a .moved) (a .protein .now) (a .plan) (a .new .now) x (turn .k) (read .result) (omega (arith, c .before .before .before .before .before .before .before .if1 .left)) (read-is (a .letters .now) (a .c) (a .e) (a .moved) (a .protein .now) (a .plan) (a .new .now) x (turn .k) (read .result) (read .ensures)) (omega (arith, c .before .before .before .before .before .before .if2 .left)) (c .before .if4 .left) (c .if5 .left)) ∙ turn .inv .0,
+      sym (goes-on (lettersBy (a .form) (a .letters .now)) (a .c) (a .e) (a .moved) (a .protein .now) (a .plan) (a .new .now) x (turn .k) (read .result) (omega (arith, c .before .before .before .before .before .before .before .if1 .left)) (read-is (lettersBy (a .form) (a .letters .now)) (a .c) (a .e) (a .moved) (a .protein .now) (a .plan) (a .new .now) x (turn .k) (read .result) (read .ensures)) (omega (arith, c .before .before .before .before .before .before .if2 .left)) (c .before .if4 .left) (c .if5 .left)) ∙ turn .inv .0,
       omega (arith, c .before .before .before .before .before .before .before .if1 .left),
     )
 

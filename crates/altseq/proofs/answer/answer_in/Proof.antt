@@ -1,13 +1,15 @@
 -- `altseq::answer::answer_in` meets its contract. Assumes nothing.
-use mathlib.Core.Path.{sym}
+use mathlib.Core.Path.{sym, ap}
 use native.Mathlib.Omega.{arith}
 use borrow.Author.Needs.{needs}
 use lib.Seq.{length-take-le}
+use Rattle.rules.specs.declared.Form.{Form}
 use Rattle.rules.specs.Refusal.{limits}
 use Rattle.rules.specs.Views.{asked, referenceOf, roomOf}
-use Rattle.reference.proofs.Checking.{checked-refused, checked-accepted, protein-held, cds-known, residues-within, knows}
+use Rattle.reference.proofs.Checking.{checked-refused, checked-accepted, protein-held, cds-known, form-known, residues-within, knows}
 use Rattle.altseq.proofs.Answering.{reference-refused}
 use Rattle.altseq.proofs.Whole.{answers-cds}
+use Rattle.rules.specs.Packed.{lettersBy}
 use Rattle.altseq.proofs.answer.answer_in.Statement.{statement}
 use Rattle.altseq.proofs.answer.answer_in.Tie as tie
 
@@ -20,9 +22,9 @@ slice-reshare-prefix-answer-known c =
     let a = c .before .before .before .before .before .before .before .before .before .before .before .before .before .before .before .args in
     let x = c .before .before .before .before .before .check-reference in
     let k = c .before .known .given .0 .0 in
-    let ok = checked-accepted (limits .longest) (a .letters .now) (a .asks .cds) (a .asks .e) (x .result) (x .ensures .0) k (c .before .known .given .1) in
-    let held = protein-held (limits .longest) (a .letters .now) (a .asks .cds) (a .asks .e) _ _ (ok .0) (x .ensures .1) in
-    residues-within limits (a .letters .now) (a .asks .cds) (a .asks .e) k (ok .0) (ok .1) _ _ held
+    let ok = checked-accepted (limits .longest) (a .asks .form) (lettersBy (a .asks .form) (a .letters .now)) (a .asks .cds) (a .asks .e) (x .result) (x .ensures .0) k (c .before .known .given .1) in
+    let held = protein-held (limits .longest) (lettersBy (a .asks .form) (a .letters .now)) (a .asks .cds) (a .asks .e) _ _ (ok .0) (x .ensures .1) in
+    residues-within limits (a .asks .form) (lettersBy (a .asks .form) (a .letters .now)) (a .asks .cds) (a .asks .e) k (ok .0) (ok .1) _ _ held
 
 slice-aggregate-answer-known : tie.Need-slice-aggregate-answer-known
 slice-aggregate-answer-known c =
@@ -30,9 +32,9 @@ slice-aggregate-answer-known c =
     let a = d .before .before .before .before .before .before .before .before .before .before .before .before .before .before .before .args in
     let x = d .before .before .before .before .before .check-reference in
     let k = d .before .known .given .0 .0 in
-    let ok = checked-accepted (limits .longest) (a .letters .now) (a .asks .cds) (a .asks .e) (x .result) (x .ensures .0) k (d .before .known .given .1) in
-    let held = protein-held (limits .longest) (a .letters .now) (a .asks .cds) (a .asks .e) _ _ (ok .0) (x .ensures .1) in
-    sym (length-take-le (k .residues) _ (residues-within limits (a .letters .now) (a .asks .cds) (a .asks .e) k (ok .0) (ok .1) _ _ held))
+    let ok = checked-accepted (limits .longest) (a .asks .form) (lettersBy (a .asks .form) (a .letters .now)) (a .asks .cds) (a .asks .e) (x .result) (x .ensures .0) k (d .before .known .given .1) in
+    let held = protein-held (limits .longest) (lettersBy (a .asks .form) (a .letters .now)) (a .asks .cds) (a .asks .e) _ _ (ok .0) (x .ensures .1) in
+    sym (length-take-le (k .residues) _ (residues-within limits (a .asks .form) (lettersBy (a .asks .form) (a .letters .now)) (a .asks .cds) (a .asks .e) k (ok .0) (ok .1) _ _ held))
 
 answer-known-requires : tie.Need-answer-known-requires
 answer-known-requires c κs =
@@ -40,17 +42,18 @@ answer-known-requires c κs =
     let a = d .before .before .before .before .before .before .before .before .before .before .before .before .before .before .before .args in
     let x = d .before .before .before .before .before .check-reference in
     let k = d .before .known .given .0 .0 in
-    let ok = checked-accepted (limits .longest) (a .letters .now) (a .asks .cds) (a .asks .e) (x .result) (x .ensures .0) k (d .before .known .given .1) in
-    let held = protein-held (limits .longest) (a .letters .now) (a .asks .cds) (a .asks .e) _ _ (ok .0) (x .ensures .1) in
-    knows limits (a .letters .now) (a .asks .cds) (a .asks .e) k (ok .0) (ok .1) _ _ held (omega arith)
+    let ok = checked-accepted (limits .longest) (a .asks .form) (lettersBy (a .asks .form) (a .letters .now)) (a .asks .cds) (a .asks .e) (x .result) (x .ensures .0) k (d .before .known .given .1) in
+    let same = ap (λ (f : Form). lettersBy f (a .letters .now)) (form-known limits (a .asks .form) (lettersBy (a .asks .form) (a .letters .now)) (a .asks .cds) (a .asks .e) k (ok .0) (ok .1)) in
+    let held = protein-held (limits .longest) (lettersBy (a .asks .form) (a .letters .now)) (a .asks .cds) (a .asks .e) _ _ (ok .0) (x .ensures .1) in
+    rw same (knows limits (a .asks .form) (lettersBy (a .asks .form) (a .letters .now)) (a .asks .cds) (a .asks .e) k (ok .0) (ok .1) _ _ held (omega arith))
 
 returns : tie.Need-returns
 returns c =
     let a = c .before .before .before .before .before .before .before .before .before .before .before .before .before .before .before .args in
     let x = c .before .before .before .before .before .check-reference in
     let n = c .before .n .given .0 .0 in
-    let no = checked-refused (limits .longest) (a .letters .now) (a .asks .cds) (a .asks .e) (x .result) (x .ensures .0) n (c .before .n .given .1) in
-    reference-refused limits (referenceOf (a .letters .now) (a .asks .cds) (a .asks .e)) (asked (a .asks .edit) (a .new .now)) (a .transcript .now) (a .reference .now) (a .altered .now) n (no .0) (no .1)
+    let no = checked-refused (limits .longest) (a .asks .form) (lettersBy (a .asks .form) (a .letters .now)) (a .asks .cds) (a .asks .e) (x .result) (x .ensures .0) n (c .before .n .given .1) in
+    reference-refused limits (referenceOf (lettersBy (a .asks .form) (a .letters .now)) (a .asks .cds) (a .asks .e)) (asked (a .asks .edit) (a .new .now)) (a .transcript .now) (a .reference .now) (a .altered .now) n (no .0) (no .1)
 
 returns-2 : tie.Need-returns-2
 returns-2 c =
@@ -59,9 +62,10 @@ returns-2 c =
     let a = d .before .before .before .before .before .before .before .before .before .before .before .before .before .before .before .args in
     let x = d .before .before .before .before .before .check-reference in
     let k = d .before .known .given .0 .0 in
-    let ok = checked-accepted (limits .longest) (a .letters .now) (a .asks .cds) (a .asks .e) (x .result) (x .ensures .0) k (d .before .known .given .1) in
-    answers-cds (a .letters .now) (k .cds) (a .asks .cds) (a .asks .e) (asked (a .asks .edit) (a .new .now)) (roomOf (a .transcript .now) (a .reference .now) (a .altered .now)) _ (a .transcript .now) _ (a .reference .now) _ (a .altered .now) _
-    (cds-known limits (a .letters .now) (a .asks .cds) (a .asks .e) k (ok .0) (ok .1)) (e .answer-known .ensures)
+    let ok = checked-accepted (limits .longest) (a .asks .form) (lettersBy (a .asks .form) (a .letters .now)) (a .asks .cds) (a .asks .e) (x .result) (x .ensures .0) k (d .before .known .given .1) in
+    let same = ap (λ (f : Form). lettersBy f (a .letters .now)) (form-known limits (a .asks .form) (lettersBy (a .asks .form) (a .letters .now)) (a .asks .cds) (a .asks .e) k (ok .0) (ok .1)) in
+    answers-cds (lettersBy (a .asks .form) (a .letters .now)) (k .cds) (a .asks .cds) (a .asks .e) (asked (a .asks .edit) (a .new .now)) (roomOf (a .transcript .now) (a .reference .now) (a .altered .now)) _ (a .transcript .now) _ (a .reference .now) _ (a .altered .now) _
+    (cds-known limits (a .asks .form) (lettersBy (a .asks .form) (a .letters .now)) (a .asks .cds) (a .asks .e) k (ok .0) (ok .1)) (rw same at (e .answer-known .ensures))
 
 pub answer-in-spec : {M : Type 1} → statement M
 answer-in-spec =

@@ -1,6 +1,7 @@
 -- `altseq::answer::answer_known` meets its contract. Assumes nothing.
 use borrow.Author.Needs.{needs}
 use Rattle.altseq.proofs.Whole.{carries, copies, answers}
+use Rattle.rules.specs.Packed.{lettersBy}
 use Rattle.altseq.proofs.answer.answer_known.Statement.{statement}
 use Rattle.altseq.proofs.answer.answer_known.Tie as tie
 
@@ -14,7 +15,7 @@ answer-decided-requires c κs =
     let first = c .before .before .before .before .before .before .before .before .before .before .before .before in
     let a = first .args in
     let said = c .before .before .decide-in in
-    carries (a .letters .now) (a .ready .known) (a .ready .e) (a .protein .now) (first .pre) (a .ready .edit) (a .new .now) (a .transcript .now) (a .reference .now) (a .altered .now) (said .result) (said .ensures)
+    carries (lettersBy (a .ready .known .form) (a .letters .now)) (a .ready .known) (a .ready .e) (a .protein .now) (first .pre) (a .ready .edit) (a .new .now) (a .transcript .now) (a .reference .now) (a .altered .now) (said .result) (said .ensures)
 
 copy-reference-requires : tie.Need-copy-reference-requires
 copy-reference-requires c κs =
@@ -22,7 +23,7 @@ copy-reference-requires c κs =
     let a = first .args in
     let said = c .before .before .before .before .before .before .before .before .decide-in in
     let answered = c .before .before .before .before .before .answer-decided in
-    copies (a .letters .now) (a .ready .known) (a .ready .e) (a .protein .now) (first .pre) (a .ready .edit) (a .new .now) (a .transcript .now) (a .reference .now) (a .altered .now) (said .result) (said .ensures)
+    copies (lettersBy (a .ready .known .form) (a .letters .now)) (a .ready .known) (a .ready .e) (a .protein .now) (first .pre) (a .ready .edit) (a .new .now) (a .transcript .now) (a .reference .now) (a .altered .now) (said .result) (said .ensures)
     (answered .result) (answered .ensures .0)
 
 returns : tie.Need-returns
@@ -33,7 +34,7 @@ returns c =
     let a = first .args in
     let said = decided .decide-in in
     let told = answered .answer-decided in
-    answers (a .letters .now) (a .ready .known) (a .ready .e) (a .protein .now) (first .pre) (a .ready .edit) (a .new .now) (a .transcript .now) (a .reference .now) (a .altered .now) (said .result) (said .ensures)
+    answers (lettersBy (a .ready .known .form) (a .letters .now)) (a .ready .known) (a .ready .e) (a .protein .now) (first .pre) (a .ready .edit) (a .new .now) (a .transcript .now) (a .reference .now) (a .altered .now) (said .result) (said .ensures)
     (told .result) _ _ _ (told .ensures .0) (told .ensures .1 .0) (told .ensures .1 .1) (c .before .before .copy-reference .ensures)
 
 pub answer-known-spec : {M : Type 1} → statement M

@@ -1,6 +1,9 @@
--- `edits::plans::keep_length` meets its contract.
--- Assumes nothing.
+-- `edits::plans::keep_length` meets its contract. Assumes nothing.
+use mathlib.Core.Path.{_≡_}
+use Prim.Native.Nat.{_≤_}
+use native.Mathlib.Omega.{arith}
 use borrow.Author.Needs.{needs}
+use lib.ListN.{length}
 use Rattle.rules.specs.Reference.{size}
 use Rattle.rules.specs.Views.{bare}
 use Rattle.edits.proofs.Planning.{keeps-plan}
@@ -11,7 +14,9 @@ returns : tie.Need-returns
 unfolding size
 returns c =
     let a = c .args in
-    λ d e h k. keeps-plan (bare (a .letters .now) d) e (a .range) (a .source) h (search needs) (a .number) k
+    λ s d e long h k.
+    let fits : a .range .end ≤ length s = omega (arith, long, c .pre .1) in
+    rw (← long) (keeps-plan (bare s d) e (a .range) (a .source) h fits (a .number) k)
 
 pub keep-length-spec : {M : Type 1} → statement M
 keep-length-spec =

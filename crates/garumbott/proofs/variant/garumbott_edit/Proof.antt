@@ -5,6 +5,7 @@ use lib.ListN.{length}
 use Rattle.rules.specs.declared.Cds.{Cds}
 use Rattle.rules.specs.Refusal.{limits}
 use Rattle.rules.specs.Views.{cdsOf}
+use Rattle.rules.specs.Packed.{lettersBy, formAt}
 use Rattle.garumbott.specs.Host.{hostAsked, transcribedOf}
 use Rattle.garumbott.proofs.Excepted.{edited-given}
 use Rattle.garumbott.proofs.Given.{given-edit}
@@ -13,11 +14,14 @@ use Rattle.garumbott.proofs.variant.garumbott_edit.Tie as tie
 
 returns : tie.Need-returns
 returns c =
-    let a = c .before .before .before .before .before .before .before .before .before .before .before .before .args in
+    let given = c .before .before .before .before .before in
+    let start = given .before .before .before .before .before .before .before .before in
+    let a = start .args in
     let x = c .before .before .before .build-transcript .ensures in
-    let edit = given-edit (a .kind) (a .start-star) (a .start) (a .end-star) (a .end) (c .before .before .before .before .before .before .before .before .before .before .before .before .fits .start) (c .before .before .before .before .before .before .before .before .before .before .before .before .fits .end) (c .before .before .before .before .before .edit-at .result) (c .before .before .before .before .before .edit-at .ensures) in
-    let same = edited-given limits (a .letters .now) (cdsOf (a .cs) (a .ce) (a .table) (a .cds-end)) (hostAsked (a .kind) (a .start-star) (a .start) (a .end-star) (a .end) (a .bases .now)) (length (a .transcript .now)) (a .exceptions .now) in
-    rw (← same, ← edit, ← c .before .before .before .before .before .before .exceptions-in .ensures, ← c .before .before .before .before .before .before .before .cds-at .ensures, ← ap (λ (c : Cds). c .end) (c .before .before .before .before .before .before .before .cds-at .ensures)) (c .transcribed-of .ensures ∙ ap transcribedOf (x .0), x .1)
+    let cds = given .before .before .before .cds-at .ensures in
+    let edit = given-edit (a .kind) (a .start-star) (a .start) (a .end-star) (a .end) (start .fits .start) (start .fits .end) (given .before .edit-at .result) (given .before .edit-at .ensures) in
+    let same = edited-given limits (lettersBy (formAt (a .form) (a .size)) (a .letters .now)) (cdsOf (a .cs) (a .ce) (a .table) (a .cds-end)) (hostAsked (a .kind) (a .start-star) (a .start) (a .end-star) (a .end) (a .bases .now)) (length (a .transcript .now)) (a .exceptions .now) in
+    rw (← same, ← given .form-at .ensures, ← edit, ← given .before .before .exceptions-in .ensures, ← cds, ← ap (λ (c : Cds). c .end) cds) (c .transcribed-of .ensures ∙ ap transcribedOf (x .0), x .1)
 
 pub garumbott-edit-spec : {M : Type 1} → statement M
 garumbott-edit-spec =

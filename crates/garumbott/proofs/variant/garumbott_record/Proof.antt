@@ -4,6 +4,7 @@ use mathlib.Core.Path.{ap, _∙_}
 use Rattle.rules.specs.declared.Cds.{Cds}
 use Rattle.rules.specs.Refusal.{limits}
 use Rattle.rules.specs.Views.{cdsOf, roomOf}
+use Rattle.rules.specs.Packed.{lettersBy, formAt}
 use Rattle.garumbott.specs.Host.{hostAsked, answerOf}
 use Rattle.garumbott.proofs.Excepted.{outcome-given}
 use Rattle.garumbott.proofs.Given.{given-edit}
@@ -12,11 +13,14 @@ use Rattle.garumbott.proofs.variant.garumbott_record.Tie as tie
 
 returns : tie.Need-returns
 returns c =
-    let a = c .before .before .before .before .before .before .before .before .before .before .before .before .before .before .before .before .before .before .before .before .args in
+    let given = c .before .before .before .before .before .before .before .before .before .before .before in
+    let start = given .before .before .before .before .before .before .before .before .before .before in
+    let a = start .args in
     let x = c .before .before .before .before .before .before .before .build-altseq .ensures in
-    let edit = given-edit (a .kind) (a .start-star) (a .start) (a .end-star) (a .end) (c .before .before .before .before .before .before .before .before .before .before .before .before .before .before .before .before .before .before .before .before .fits .start) (c .before .before .before .before .before .before .before .before .before .before .before .before .before .before .before .before .before .before .before .before .fits .end) (c .before .before .before .before .before .before .before .before .before .before .before .edit-at .result) (c .before .before .before .before .before .before .before .before .before .before .before .edit-at .ensures) in
-    let same = outcome-given limits (a .letters .now) (cdsOf (a .cs) (a .ce) (a .table) (a .cds-end)) (hostAsked (a .kind) (a .start-star) (a .start) (a .end-star) (a .end) (a .bases .now)) (roomOf (a .transcript .now) (a .reference .now) (a .altered .now)) (a .exceptions .now) in
-    rw (← same, ← edit, ← c .before .before .before .before .before .before .before .before .before .before .before .before .exceptions-in .ensures, ← c .before .before .before .before .before .before .before .before .before .before .before .before .before .cds-at .ensures, ← ap (λ (c : Cds). c .end) (c .before .before .before .before .before .before .before .before .before .before .before .before .before .cds-at .ensures))
+    let cds = given .before .before .before .cds-at .ensures in
+    let edit = given-edit (a .kind) (a .start-star) (a .start) (a .end-star) (a .end) (start .fits .start) (start .fits .end) (given .before .edit-at .result) (given .before .edit-at .ensures) in
+    let same = outcome-given limits (lettersBy (formAt (a .form) (a .size)) (a .letters .now)) (cdsOf (a .cs) (a .ce) (a .table) (a .cds-end)) (hostAsked (a .kind) (a .start-star) (a .start) (a .end-star) (a .end) (a .bases .now)) (roomOf (a .transcript .now) (a .reference .now) (a .altered .now)) (a .exceptions .now) in
+    rw (← same, ← given .form-at .ensures, ← edit, ← given .before .before .exceptions-in .ensures, ← cds, ← ap (λ (c : Cds). c .end) cds)
     (record {
       says = c .answer-of .ensures ∙ ap answerOf (x .says);
       holds-transcript = x .holds-transcript;

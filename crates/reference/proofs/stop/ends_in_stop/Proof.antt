@@ -2,70 +2,62 @@
 use Prim.Native.Nat.{_+_, _-_}
 use native.Mathlib.Omega.{arith}
 use borrow.Author.Needs.{needs}
+use Rattle.rules.specs.Packed.{lettersBy}
 use Rattle.reference.proofs.Reading.{few-exceptions, codons-are}
-use Rattle.reference.proofs.Last.{some-set, within, last-residue}
+use Rattle.reference.proofs.Last.{within, last-residue}
 use Rattle.reference.proofs.stop.ends_in_stop.Statement.{statement}
 use Rattle.reference.proofs.stop.ends_in_stop.Tie as tie
 
 sub-at : tie.Need-sub-at
 sub-at c =
     let a = c .before .before .args in
-    omega (arith, within (a .letters .now) (a .c) (a .e) (c .before .before .pre .0) (c .before .before .pre .1))
+    omega (arith, within (lettersBy (a .form) (a .letters .now)) (a .c) (a .e) (c .before .before .pre .0) (c .before .before .pre .1))
 
-shared-slice-read-letter-set-2 : tie.Need-shared-slice-read-letter-set-2
-shared-slice-read-letter-set-2 c =
-    let a = c .before .before .before .before .before .args in
-    omega (arith, within (a .letters .now) (a .c) (a .e) (c .before .before .before .before .before .pre .0) (c .before .before .before .before .before .pre .1))
+set-at-requires : tie.Need-set-at-requires
+set-at-requires c κs =
+    let a = c .before .before .args in
+    (c .before .before .pre .0 .sound .letters, omega (arith, within (lettersBy (a .form) (a .letters .now)) (a .c) (a .e) (c .before .before .pre .0) (c .before .before .pre .1)))
 
-shared-slice-read-letter-set-3 : tie.Need-shared-slice-read-letter-set-3
-shared-slice-read-letter-set-3 c =
-    let a = c .before .before .before .before .before .before .before .args in
-    omega (arith, within (a .letters .now) (a .c) (a .e) (c .before .before .before .before .before .before .before .pre .0) (c .before .before .before .before .before .before .before .pre .1))
+set-at-requires-2 : tie.Need-set-at-requires-2
+set-at-requires-2 c κs =
+    let a = c .before .before .before .args in
+    (c .before .before .before .pre .0 .sound .letters, omega (arith, within (lettersBy (a .form) (a .letters .now)) (a .c) (a .e) (c .before .before .before .pre .0) (c .before .before .before .pre .1)))
+
+set-at-requires-3 : tie.Need-set-at-requires-3
+set-at-requires-3 c κs =
+    let a = c .before .before .before .before .args in
+    (c .before .before .before .before .pre .0 .sound .letters, omega (arith, within (lettersBy (a .form) (a .letters .now)) (a .c) (a .e) (c .before .before .before .before .pre .0) (c .before .before .before .before .pre .1)))
 
 read-codon-requires : tie.Need-read-codon-requires
 read-codon-requires c κs =
-    let a = c .before .before .before .before .before .before .before .before .args in
-    let within = within (a .letters .now) (a .c) (a .e) (c .before .before .before .before .before .before .before .before .pre .0) (c .before .before .before .before .before .before .before .before .pre .1) in
-    let some = some-set (a .letters .now) (a .c) (a .e) (c .before .before .before .before .before .before .before .before .pre .0) (c .before .before .before .before .before .before .before .before .pre .1) in (
-      c .before .before .before .before .before .before .before .before .pre .0 .sound .table,
-      (
-        some (a .c .ce - 3) (c .before .before .before .before .letter-set .result) (omega arith) (c .before .before .before .before .letter-set .ensures .0) (c .before .before .before .before .letter-set .ensures .1),
-        (
-          some (a .c .ce - 3 + 1) (c .before .before .letter-set2 .result) (omega arith) (c .before .before .letter-set2 .ensures .0) (c .before .before .letter-set2 .ensures .1),
-          some (a .c .ce - 3 + 2) (c .letter-set3 .result) (omega arith) (c .letter-set3 .ensures .0) (c .letter-set3 .ensures .1),
-        ),
-      ),
-    )
+    (c .before .before .before .before .before .pre .0 .sound .table, (c .before .before .set-at .ensures .1, (c .before .set-at2 .ensures .1, c .set-at3 .ensures .1)))
 
 excepted-at-requires : tie.Need-excepted-at-requires
 excepted-at-requires c κs =
-    let a = c .before .before .before .before .before .before .before .before .before .before .before .args in
-    few-exceptions (a .letters .now) (a .c) (a .e) (c .before .before .before .before .before .before .before .before .before .before .before .pre .0)
+    let a = c .before .before .before .before .before .before .before .before .args in
+    few-exceptions (lettersBy (a .form) (a .letters .now)) (a .c) (a .e) (c .before .before .before .before .before .before .before .before .pre .0)
 
 returns : tie.Need-returns
 returns c =
-    let a = c .before .before .before .before .before .before .before .before .before .before .before .before .args in
-    last-residue (a .letters .now) (a .c) (a .e) (c .before .before .before .before .before .before .before .before .before .before .before .before .pre .0) (c .before .before .before .before .before .before .before .before .before .before .before .before .pre .1) _ (c .before .before .before .read-codon .result) (c .excepted-at .result) (codons-are (a .letters .now) (a .c) (a .e) (c .before .before .before .before .before .before .before .before .before .before .before .before .pre .0))
-    (c .before .before .before .before .before .before .before .before .letter-set .result) (c .before .before .before .before .before .before .letter-set2 .result) (c .before .before .before .before .letter-set3 .result) (c .before .before .before .before .before .before .before .before .letter-set .ensures .0) (c .before .before .before .before .before .before .letter-set2 .ensures .0) (c .before .before .before .before .letter-set3 .ensures .0) (c .before .before .before .read-codon .ensures) (c .excepted-at .ensures)
-
-shared-slice-read-letter-set : tie.Need-shared-slice-read-letter-set
-shared-slice-read-letter-set c =
-    let a = c .before .before .before .args in
-    omega (arith, within (a .letters .now) (a .c) (a .e) (c .before .before .before .pre .0) (c .before .before .before .pre .1))
+    let a = c .before .before .before .before .before .before .before .before .before .args in
+    let pre = c .before .before .before .before .before .before .before .before .before .pre in
+    let first = c .before .before .before .before .before .before .set-at in
+    let second = c .before .before .before .before .before .set-at2 in
+    let third = c .before .before .before .before .set-at3 in
+    let read = c .before .before .before .read-codon in
+    last-residue (lettersBy (a .form) (a .letters .now)) (a .c) (a .e) (pre .0) (pre .1) _ (read .result) (c .excepted-at .result) (codons-are (lettersBy (a .form) (a .letters .now)) (a .c) (a .e) (pre .0))
+    (first .result) (second .result) (third .result) (first .ensures .0) (second .ensures .0) (third .ensures .0) (read .ensures) (c .excepted-at .ensures)
 
 pub ends-in-stop-spec : {M : Type 1} → statement M
 ends-in-stop-spec =
     tie.close
     (tie.spec
     sub-at
-    shared-slice-read-letter-set
-    (λ c κs. search needs)
+    set-at-requires
     (λ c. search needs)
-    shared-slice-read-letter-set-2
-    (λ c κs. search needs)
+    set-at-requires-2
     (λ c. search needs)
-    shared-slice-read-letter-set-3
-    (λ c κs. search needs)
+    set-at-requires-3
     read-codon-requires
     (λ c. search needs)
     (λ c. search needs)

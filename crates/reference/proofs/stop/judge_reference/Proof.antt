@@ -1,6 +1,7 @@
 -- `reference::stop::judge_reference` meets its contract. Assumes nothing.
 use mathlib.Core.Path.{sym, _∙_}
 use borrow.Author.Needs.{needs}
+use Rattle.rules.specs.Packed.{lettersBy}
 use Rattle.rules.specs.Bytes.{all}
 use Rattle.rules.specs.Views.{referenceOf}
 use Rattle.letters.specs.Sets.{isBase}
@@ -14,32 +15,32 @@ unfolding earlyOf
 end-refusal-requires c κs =
     let a = c .before .before .before .before .before .args in
     let early = c .before .before .before .early-refusal in
-    let clear = was-clear (earlyRefusal (a .longest) (referenceOf (a .letters .now) (a .c) (a .e))) (all isBase (a .letters .now)) (early .result) (early .ensures) (c .before .plain .given .0 .0) (c .before .plain .given .1) in
-    (readable (a .longest) (a .letters .now) (a .c) (a .e) (clear .0) (c .before .before .before .before .before .pre), clear .1)
+    let clear = was-clear (earlyRefusal (a .longest) (referenceOf (lettersBy (a .form) (a .letters .now)) (a .c) (a .e))) (all isBase (lettersBy (a .form) (a .letters .now))) (early .result) (early .ensures) (c .before .plain .given .0 .0) (c .before .plain .given .1) in
+    (readable (a .longest) (lettersBy (a .form) (a .letters .now)) (a .c) (a .e) (clear .0) (c .before .before .before .before .before .pre), clear .1)
 
 returns : tie.Need-returns
 unfolding earlyOf
 returns c =
     let a = c .before .before .before .before .before .before .before .args in
     let early = c .before .before .before .before .before .early-refusal in
-    let clear = was-clear (earlyRefusal (a .longest) (referenceOf (a .letters .now) (a .c) (a .e))) (all isBase (a .letters .now)) (early .result) (early .ensures) (c .before .before .before .plain .given .0 .0) (c .before .before .before .plain .given .1) in
-    judged-late (a .longest) (a .letters .now) (a .c) (a .e) (clear .0) (c .before .end-refusal .result) (c .before .end-refusal .ensures) (c .if1 .taken)
+    let clear = was-clear (earlyRefusal (a .longest) (referenceOf (lettersBy (a .form) (a .letters .now)) (a .c) (a .e))) (all isBase (lettersBy (a .form) (a .letters .now))) (early .result) (early .ensures) (c .before .before .before .plain .given .0 .0) (c .before .before .before .plain .given .1) in
+    judged-late (a .longest) (lettersBy (a .form) (a .letters .now)) (a .c) (a .e) (clear .0) (c .before .end-refusal .result) (c .before .end-refusal .ensures) (c .if1 .taken)
 
 returns-2 : tie.Need-returns-2
 unfolding earlyOf
 returns-2 c =
     let a = c .before .before .before .before .before .args in
     let early = c .before .before .before .early-refusal in
-    let refused = was-refused (earlyRefusal (a .longest) (referenceOf (a .letters .now) (a .c) (a .e))) (all isBase (a .letters .now)) (early .result) (early .ensures) (c .before .n .given .0 .0) (c .before .n .given .1) in
-    judged-early (a .longest) (a .letters .now) (a .c) (a .e) (c .before .n .given .0 .0) (refused .0) (refused .1)
+    let refused = was-refused (earlyRefusal (a .longest) (referenceOf (lettersBy (a .form) (a .letters .now)) (a .c) (a .e))) (all isBase (lettersBy (a .form) (a .letters .now))) (early .result) (early .ensures) (c .before .n .given .0 .0) (c .before .n .given .1) in
+    judged-early (a .longest) (lettersBy (a .form) (a .letters .now)) (a .c) (a .e) (c .before .n .given .0 .0) (refused .0) (refused .1)
 
 returns-3 : tie.Need-returns-3
 unfolding earlyOf
 returns-3 c =
     let a = c .before .before .before .before .before .before .before .args in
     let early = c .before .before .before .before .before .early-refusal in
-    let clear = was-clear (earlyRefusal (a .longest) (referenceOf (a .letters .now) (a .c) (a .e))) (all isBase (a .letters .now)) (early .result) (early .ensures) (c .before .before .before .plain .given .0 .0) (c .before .before .before .plain .given .1) in
-    judged-clear (a .longest) (a .letters .now) (a .c) (a .e) (clear .0) (c .before .end-refusal .result) (c .before .end-refusal .ensures) _ (clear .1) (c .if1 .left)
+    let clear = was-clear (earlyRefusal (a .longest) (referenceOf (lettersBy (a .form) (a .letters .now)) (a .c) (a .e))) (all isBase (lettersBy (a .form) (a .letters .now))) (early .result) (early .ensures) (c .before .before .before .plain .given .0 .0) (c .before .before .before .plain .given .1) in
+    judged-clear (a .longest) (lettersBy (a .form) (a .letters .now)) (a .c) (a .e) (clear .0) (c .before .end-refusal .result) (c .before .end-refusal .ensures) _ (clear .1) (c .if1 .left)
 
 pub judge-reference-spec : {M : Type 1} → statement M
 judge-reference-spec =

@@ -1,5 +1,8 @@
 -- `text_answers::edit::answer_asked` meets its contract. Assumes nothing.
+use mathlib.Core.Path.{ap}
 use native.Mathlib.Omega.{arith}
+use Rattle.rules.specs.declared.Form.{Form}
+use Rattle.rules.specs.Packed.{lettersBy}
 use Rattle.rules.specs.Run.{recordLine}
 use Rattle.rules.specs.Line.{textLimits}
 use Rattle.reference.proofs.Checking.{checks}
@@ -11,7 +14,10 @@ use Rattle.text_answers.proofs.edit.answer_asked.Statement.{statement}
 use Rattle.text_answers.proofs.edit.answer_asked.Tie as tie
 
 decide-requires : tie.Need-decide-requires
-decide-requires c κs = (checks textLimits _ _ noExceptions _ (c .before .before .before .before .before .pre .0), omega arith)
+decide-requires c κs =
+    let start = c .before .before .before .before .before in
+    let same = ap (λ (f : Form). lettersBy f (start .args .letters .now)) (start .pre .0 .form) in
+    (rw same (checks textLimits _ _ noExceptions _ (start .pre .0 .known)), omega arith)
 
 print-refused-requires : tie.Need-print-refused-requires
 print-refused-requires c κs =
@@ -24,21 +30,30 @@ print-record-requires c κs = omega (arith, c .before .before .before .before .b
 
 answer-plan-requires : tie.Need-answer-plan-requires
 answer-plan-requires c κs =
-    let pre = c .before .before .before .before .before .before .before .before .before .before .before .pre in
-    (asked-carries _ _ _ (pre .0) _ _ _ (c .before .before .before .before .before .decide .ensures) _ (c .before .before .before .plan .given .1) _ _ (pre .1), (pre .0, pre .1))
+    let start = c .before .before .before .before .before .before .before .before .before .before .before in
+    let same = ap (λ (f : Form). lettersBy f (start .args .letters .now)) (start .pre .0 .form) in
+    let pre = start .pre in
+    (asked-carries _ _ _ (pre .0 .known) _ _ _ (rw same at (c .before .before .before .before .before .decide .ensures)) _ (c .before .before .before .plan .given .1) _ _ (pre .1), (pre .0, pre .1))
 
 returns : tie.Need-returns
 returns c =
+    let start = c .before .before .before .before .before .before .before .before .before .before .before .before .before in
+    let same = ap (λ (f : Form). lettersBy f (start .args .letters .now)) (start .pre .0 .form) in
     let print-refused = c .before .before .print-refused in
-    line-of _ _ _ _ _ (asked-refused _ _ _ (c .before .before .before .before .before .before .before .before .before .before .before .before .before .pre .0) _ _ _ (c .before .before .before .before .before .before .before .decide .ensures) _ (c .before .before .before .before .before .n .given .1)) (print-refused .ensures .0) (print-refused .ensures .1)
+    line-of _ _ _ _ _ (asked-refused _ _ _ (start .pre .0 .known) _ _ _ (rw same at (c .before .before .before .before .before .before .before .decide .ensures)) _ (c .before .before .before .before .before .n .given .1)) (print-refused .ensures .0) (print-refused .ensures .1)
 
 returns-2 : tie.Need-returns-2
 returns-2 c =
+    let start = c .before .before .before .before .before .before .before .before .before .before .before .before .before in
+    let same = ap (λ (f : Form). lettersBy f (start .args .letters .now)) (start .pre .0 .form) in
     let print-record = c .before .before .print-record in
-    line-of _ _ _ _ _ (asked-unknown _ _ _ (c .before .before .before .before .before .before .before .before .before .before .before .before .before .pre .0) _ _ _ (c .before .before .before .before .before .before .before .decide .ensures) (c .before .before .before .before .before .enum-told .given .1)) (print-record .ensures .0) (print-record .ensures .1)
+    line-of _ _ _ _ _ (asked-unknown _ _ _ (start .pre .0 .known) _ _ _ (rw same at (c .before .before .before .before .before .before .before .decide .ensures)) (c .before .before .before .before .before .enum-told .given .1)) (print-record .ensures .0) (print-record .ensures .1)
 
 returns-3 : tie.Need-returns-3
-returns-3 c = line-as _ _ _ _ (asked-goes _ _ _ (c .before .before .before .before .before .before .before .before .before .before .before .before .before .before .before .before .pre .0) _ _ _ (c .before .before .before .before .before .before .before .before .before .before .decide .ensures) _ (c .before .before .before .before .before .before .before .before .plan .given .1)) (c .before .before .before .before .answer-plan .ensures)
+returns-3 c =
+    let start = c .before .before .before .before .before .before .before .before .before .before .before .before .before .before .before .before in
+    let same = ap (λ (f : Form). lettersBy f (start .args .letters .now)) (start .pre .0 .form) in
+    line-as _ _ _ _ (asked-goes _ _ _ (start .pre .0 .known) _ _ _ (rw same at (c .before .before .before .before .before .before .before .before .before .before .decide .ensures)) _ (c .before .before .before .before .before .before .before .before .plan .given .1)) (c .before .before .before .before .answer-plan .ensures)
 
 pub answer-asked-spec : {M : Type 1} → statement M
 answer-asked-spec =

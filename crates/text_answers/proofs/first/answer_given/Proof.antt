@@ -37,7 +37,7 @@ slice-aggregate-print-reference c =
     let no-exceptions = c .before .before .before .before .before .before .before .before .before .before .before .before .no-exceptions in
     let check-reference = c .before .before .before .before .before .before .before .before .before .before .check-reference in
     let known = c .before .before .before .before .before .before .known in
-    sym (length-take-le (known .given .0 .0 .residues) (check-reference .last .1 .1 .1 .1 .0) (protein-fits _ (no-exceptions .ensures) _ _ _ (check-reference .ensures .0) _ (known .given .1) _ _ (check-reference .ensures .1)))
+    sym (length-take-le (known .given .0 .0 .residues) (check-reference .last .1 .1 .1 .1 .1 .0) (protein-fits _ (no-exceptions .ensures) _ _ _ (check-reference .ensures .0) _ (known .given .1) _ _ (check-reference .ensures .1)))
 
 print-reference-requires : tie.Need-print-reference-requires
 print-reference-requires c κs =

@@ -1,0 +1,16 @@
+-- `garumbott::numbers::form_at` meets its contract. Assumes nothing.
+use borrow.Author.Needs.{needs}
+use Rattle.garumbott.proofs.Given.{form-other}
+use Rattle.garumbott.proofs.numbers.form_at.Statement.{statement}
+use Rattle.garumbott.proofs.numbers.form_at.Tie as tie
+
+returns-3 : tie.Need-returns-3
+returns-3 c = form-other (c .before .args .form) (c .before .args .size) (c .match .rest .0 .1) (c .match .rest .1)
+
+pub form-at-spec : {M : Type 1} → statement M
+form-at-spec =
+    tie.close
+    (tie.spec
+    (λ c. search needs)
+    (λ c. search needs)
+    returns-3)

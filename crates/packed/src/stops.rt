@@ -1,0 +1,55 @@
+// The first stop among packed codons.
+use crate::reading::even_codon;
+use crate::reading::odd_codon;
+use excepted::excepted_at;
+use rules::Exceptions;
+use tables::residues_of;
+ghost use mathlib.Core.Path.{_≡_};
+ghost use Prim.Native.Nat.{_+_, _*_, _≤_, _<_};
+ghost use lib.ListN.{length};
+ghost use Rattle.rules.specs.Altered.{part};
+ghost use Rattle.rules.specs.Codons.{codonRule};
+ghost use Rattle.rules.specs.Translation.{exceptionList, beforeStop, wholeCodons, foldedTranslated};
+ghost use Rattle.rules.specs.Packed.{setAt, lettersIn};
+ghost use Rattle.codons.specs.Tables.{HoldsCode};
+
+// The residue of the codon at a place.
+fn packed_codon(packed: &[u8], place: usize, table: usize, lut: &[u8; 4096]) -> u8
+    requires { ⌜ HoldsCode table (now lut) ⌝ }
+    requires { ⌜ place + 3 ≤ length (now packed) * 2 ⌝ }
+    ensures { λ r. ⌜ r ≡ codonRule table (setAt (now (packed .entry)) place) (setAt (now (packed .entry)) (place + 1)) (setAt (now (packed .entry)) (place + 2)) ⌝ }
+{
+    let j = place / 2;
+    if place % 2 == 0 {
+        return even_codon(packed, j, table, lut);
+    }
+    odd_codon(packed, j, table, lut)
+}
+
+// The index of the first codon of the letters first..end that reads `*`, exceptions applied, or the number of whole codons.
+pub(crate) fn packed_first_stop(
+    packed: &[u8],
+    first: usize,
+    end: usize,
+    table: usize,
+    e: Exceptions,
+) -> usize
+    requires { ⌜ (table < 3) × (e .count ≤ 16) ⌝ }
+    requires { ⌜ (first ≤ end) × (end ≤ length (now packed) * 2) ⌝ }
+    ensures { λ r. ⌜ r ≡ beforeStop (foldedTranslated table (exceptionList e) (wholeCodons (part first end (lettersIn (now (packed .entry)))))) ⌝ }
+{
+    let residues = residues_of(table);
+    let whole = (end - first) / 3;
+    let mut i = 0;
+    let stop = loop {
+        if whole <= i {
+            break whole;
+        }
+        let r = packed_codon(packed, first + i * 3, table, &residues);
+        if excepted_at(e, i + 1, r) == b'*' {
+            break i;
+        }
+        i += 1;
+    };
+    stop
+}

@@ -1,0 +1,125 @@
+/* Calls the library as standard input says, and writes every answer and all bytes of the lent buffers to standard output, for packed.py.
+ *
+ * Input: a byte that says what follows.
+ *   'p' letters, each string behind its length in eight bytes, high byte first as in every number: packs them.
+ *   'r' an edit of a reference: its bytes, form, size, cs, ce, table, exceptions and end, kind, start_star, start, end_star, end, new bases, the room in each of
+ *       the three buffers, and a proposal's number, deleted and inserted residues.
+ * Output: of 'p' what garumbott_pack answers into a buffer that has room, and one that is a byte too short, and the first buffer's bytes. Of 'r' what garumbott_record
+ * answers and the three buffers, what garumbott_edit answers and the transcript's buffer, and what garumbott_check answers. */
+#include "garumbott.h"
+#include <stdio.h>
+#include <stdlib.h>
+#include <string.h>
+
+enum { MOST = 1 << 18 };
+
+static uint8_t byte(void)
+{
+    int c = getchar();
+    if (c == EOF) exit(2);
+    return (uint8_t)c;
+}
+
+static uint64_t number(void)
+{
+    uint64_t n = 0;
+    for (int i = 0; i < 8; i++) n = n << 8 | byte();
+    return n;
+}
+
+static int64_t signed_number(void)
+{
+    uint64_t n = number();
+    int64_t s;
+    memcpy(&s, &n, sizeof s);
+    return s;
+}
+
+static const uint8_t *string(uint8_t *to, uint64_t *len)
+{
+    *len = number();
+    if (*len > MOST || fread(to, 1, *len, stdin) != *len) exit(2);
+    return to;
+}
+
+static void put(const void *numbers, size_t size)
+{
+    const uint64_t *n = numbers;
+    for (size_t i = 0; i < size / sizeof *n; i++) {
+        for (int shift = 56; shift >= 0; shift -= 8) putchar((int)(n[i] >> shift & 255));
+    }
+}
+
+/* What the buffers hold before a call: it differs from place to place. */
+static void fill(uint8_t *b, uint64_t room)
+{
+    if (room > MOST) exit(2);
+    for (uint64_t i = 0; i < room; i++) b[i] = (uint8_t)(97 + i % 26);
+}
+
+static uint8_t letters[MOST], exceptions[MOST], bases[MOST], deleted[MOST], inserted[MOST], transcript[MOST], reference[MOST], altered[MOST];
+
+static void pack(void)
+{
+    uint64_t n;
+    string(letters, &n);
+    fill(transcript, GARUMBOTT_PACKED_BYTES(n));
+    fill(reference, GARUMBOTT_PACKED_BYTES(n));
+    struct garumbott_length l = garumbott_pack(letters, n, transcript, GARUMBOTT_PACKED_BYTES(n));
+    struct garumbott_length s = garumbott_pack(letters, n, reference, n == 0 ? 0 : GARUMBOTT_PACKED_BYTES(n) - 1);
+    put(&l, sizeof l);
+    put(&s, sizeof s);
+    fwrite(transcript, 1, GARUMBOTT_PACKED_BYTES(n), stdout);
+    fwrite(reference, 1, GARUMBOTT_PACKED_BYTES(n), stdout);
+}
+
+static void call(void)
+{
+    struct garumbott_reference r = {0};
+    struct garumbott_coding_edit e = {0};
+    struct garumbott_buffers b = {transcript, 0, reference, 0, altered, 0};
+    uint64_t n, deleted_len, inserted_len;
+    r.letters = string(letters, &r.letters_len);
+    r.form = number();
+    r.size = number();
+    r.cs = number();
+    r.ce = number();
+    r.table = number();
+    r.exceptions = string(exceptions, &r.exceptions_len);
+    r.end = number();
+    e.kind = number();
+    e.start_star = number();
+    e.start = signed_number();
+    e.end_star = number();
+    e.end = signed_number();
+    e.bases = string(bases, &e.bases_len);
+    b.transcript_len = number();
+    b.reference_len = number();
+    b.altered_len = number();
+    n = number();
+    string(deleted, &deleted_len);
+    string(inserted, &inserted_len);
+    fill(transcript, b.transcript_len);
+    fill(reference, b.reference_len);
+    fill(altered, b.altered_len);
+    struct garumbott_answer a = garumbott_record_of(&r, &e, &b);
+    put(&a, sizeof a);
+    fwrite(transcript, 1, b.transcript_len, stdout);
+    fwrite(reference, 1, b.reference_len, stdout);
+    fwrite(altered, 1, b.altered_len, stdout);
+    fill(transcript, b.transcript_len);
+    a = garumbott_edit_of(&r, &e, &b);
+    put(&a, sizeof a);
+    fwrite(transcript, 1, b.transcript_len, stdout);
+    struct garumbott_checked c = garumbott_check_of(&r, &e, n, deleted, deleted_len, inserted, inserted_len, &b);
+    put(&c, sizeof c);
+}
+
+int main(void)
+{
+    for (int c = getchar(); c != EOF; c = getchar()) {
+        if (c == 'p') pack();
+        else call();
+    }
+    return ferror(stdin) || fflush(stdout) != 0 || ferror(stdout) ? 2 : 0;
+}
