@@ -1,5 +1,6 @@
 // The letters of codons that an edit touches.
 use edits::plans::Plan;
+use rules::Form;
 use transcript::write_put;
 ghost use mathlib.Core.Path.{_≡_};
 ghost use mathlib.Core.List.{_++_};
@@ -18,7 +19,7 @@ fn write_behind(letters: &[u8], plan: Plan, new: &[u8], more: usize, rest: &mut 
     ensures { λ r. ⌜ r ≡ plan .kept + more ⌝ }
     ensures { λ _. ⌜ now (rest .exit) ≡ over (goesIn plan (now (letters .entry)) (now (new .entry)) ++ part (plan .to) (plan .to + more) (now (letters .entry))) (now (rest .entry)) ⌝ }
 {
-    let kept = write_put(letters, plan, new, rest);
+    let kept = write_put(letters, Form::Bytes, plan, new, rest);
     let to = plan.to;
     let last = to + more;
     kept + bytes::copy(&letters[to..last], &mut rest[kept..])

@@ -27,7 +27,7 @@ returns c =
     let place : one .result ≡ length put = one .ensures .0 ∙ sym many in
     let few : to + args .more - to ≡ args .more = omega arith in
     let long : length tail ≡ args .more = length-part to (to + args .more) s (pre .1 .0) ∙ few in
-    let whole = one .last .1 .1 .1 .0 in
+    let whole = one .last .1 .1 .1 .1 .0 in
     let fits : length put ≤ length (args .rest .now) = omega (arith, many, pre .1 .1) in (
       ap₂ _+_ (one .ensures .0) (two .ensures .0 ∙ long),
       lent-on-by put tail (args .rest .now) whole (two .last .1 .0) (one .result) place fits (one .ensures .1)
