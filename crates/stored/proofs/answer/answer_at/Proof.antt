@@ -13,7 +13,7 @@ returns : tie.Need-returns
 returns c =
     let built = c .before .before .before .before .before .before in
     let letters = built .before .before .before .before in
-    let e = letters .before in
+    let e = letters .before .before in
     let first = e .before .before .before .before .before .before .before in
     let a = first .args in
     answers limits (a .s .now) (a .p) (asked (a .edit) (a .new .now)) (roomOf (a .transcript .now) (a .reference .now) (a .altered .now)) (first .pre .0)
