@@ -15,7 +15,7 @@ print-record-requires : tie.Need-print-record-requires
 print-record-requires c κs =
     let pre = c .before .before .before .before .before .before .before .before .before .before .before .before .before .before .before .pre in
     let record-of = c .before .before .before .before .before .before .record-of in
-    plan-room _ _ _ (pre .1 .0) _ _ (record-of .last .1 .1 .1 .1 .1 .1 .1 .0) (pre .1 .1) (record-of .kept .1 .1 .1 .1 .1 .1 .1 .0) _ _ (record-of .kept .1 .1 .1 .1 .1 .1 .0)
+    plan-room _ _ _ (pre .1 .0 .known) _ _ (record-of .last .1 .1 .1 .1 .1 .1 .1 .0) (pre .1 .1) (record-of .kept .1 .1 .1 .1 .1 .1 .1 .0) _ _ (record-of .kept .1 .1 .1 .1 .1 .1 .0)
 
 returns : tie.Need-returns
 returns c =
