@@ -4,8 +4,11 @@
  *   'p' letters, each string behind its length in eight bytes, high byte first as in every number: packs them.
  *   'r' an edit of a reference: its bytes, form, size, cs, ce, table, exceptions and end, kind, start_star, start, end_star, end, new bases, the room in each of
  *       the three buffers, and a proposal's number, deleted and inserted residues.
+ *   'o' two edits of a reference, the base that the first names, and a second reference, both as for 'r', and the room of the buffers: of a transcript, R, A, a
+ *       list of differences and a stored form.
  * Output: of 'p' what garumbott_pack answers into a buffer that has room, and one that is a byte too short, and the first buffer's bytes. Of 'r' what garumbott_record
- * answers and the three buffers, what garumbott_edit answers and the transcript's buffer, and what garumbott_check answers. */
+ * answers and the three buffers, what garumbott_edit answers and the transcript's buffer, and what garumbott_check answers. Of 'o' what garumbott_pair, garumbott_panel,
+ * garumbott_compare and garumbott_write_stored answer, each behind its buffers. */
 #include "garumbott.h"
 #include <stdio.h>
 #include <stdlib.h>
@@ -73,26 +76,36 @@ static void pack(void)
     fwrite(reference, 1, GARUMBOTT_PACKED_BYTES(n), stdout);
 }
 
+static void reference_of(struct garumbott_reference *r, uint8_t *l, uint8_t *x)
+{
+    r->letters = string(l, &r->letters_len);
+    r->form = number();
+    r->size = number();
+    r->cs = number();
+    r->ce = number();
+    r->table = number();
+    r->exceptions = string(x, &r->exceptions_len);
+    r->end = number();
+}
+
+static void edit_of(struct garumbott_coding_edit *e, uint8_t *new)
+{
+    e->kind = number();
+    e->start_star = number();
+    e->start = signed_number();
+    e->end_star = number();
+    e->end = signed_number();
+    e->bases = string(new, &e->bases_len);
+}
+
 static void call(void)
 {
     struct garumbott_reference r = {0};
     struct garumbott_coding_edit e = {0};
     struct garumbott_buffers b = {transcript, 0, reference, 0, altered, 0};
     uint64_t n, deleted_len, inserted_len;
-    r.letters = string(letters, &r.letters_len);
-    r.form = number();
-    r.size = number();
-    r.cs = number();
-    r.ce = number();
-    r.table = number();
-    r.exceptions = string(exceptions, &r.exceptions_len);
-    r.end = number();
-    e.kind = number();
-    e.start_star = number();
-    e.start = signed_number();
-    e.end_star = number();
-    e.end = signed_number();
-    e.bases = string(bases, &e.bases_len);
+    reference_of(&r, letters, exceptions);
+    edit_of(&e, bases);
     b.transcript_len = number();
     b.reference_len = number();
     b.altered_len = number();
@@ -115,10 +128,58 @@ static void call(void)
     put(&c, sizeof c);
 }
 
+/* A call's numbers, and all bytes of the three buffers. */
+static void put_all(const void *numbers, size_t size, const struct garumbott_buffers *b)
+{
+    put(numbers, size);
+    fwrite(transcript, 1, b->transcript_len, stdout);
+    fwrite(reference, 1, b->reference_len, stdout);
+    fwrite(altered, 1, b->altered_len, stdout);
+}
+
+static void fill_all(const struct garumbott_buffers *b)
+{
+    fill(transcript, b->transcript_len);
+    fill(reference, b->reference_len);
+    fill(altered, b->altered_len);
+}
+
+static void others(void)
+{
+    static uint8_t second_letters[MOST], second_exceptions[MOST], second_bases[MOST], list[MOST], form[MOST];
+    struct garumbott_reference r = {0}, s = {0};
+    struct garumbott_coding_edit e = {0}, f = {0};
+    struct garumbott_buffers b = {transcript, 0, reference, 0, altered, 0};
+    reference_of(&r, letters, exceptions);
+    edit_of(&e, bases);
+    edit_of(&f, second_bases);
+    uint64_t named = number();
+    reference_of(&s, second_letters, second_exceptions);
+    b.transcript_len = number();
+    b.reference_len = number();
+    b.altered_len = number();
+    uint64_t list_len = number(), form_len = number();
+    fill_all(&b);
+    struct garumbott_paired p = garumbott_pair_of(&r, &e, &f, &b);
+    put_all(&p, sizeof p, &b);
+    fill_all(&b);
+    struct garumbott_answer a = garumbott_panel_of(&r, &e, named, &b);
+    put_all(&a, sizeof a, &b);
+    fill(list, list_len);
+    struct garumbott_length l = garumbott_compare_of(&r, &s, list, list_len);
+    put(&l, sizeof l);
+    fwrite(list, 1, list_len, stdout);
+    fill(form, form_len);
+    l = garumbott_write_stored_of(&r, form, form_len);
+    put(&l, sizeof l);
+    fwrite(form, 1, form_len, stdout);
+}
+
 int main(void)
 {
     for (int c = getchar(); c != EOF; c = getchar()) {
         if (c == 'p') pack();
+        else if (c == 'o') others();
         else call();
     }
     return ferror(stdin) || fflush(stdout) != 0 || ferror(stdout) ? 2 : 0;

@@ -1,4 +1,5 @@
-"""Packed letters through C (calls.c) against the account of the documents (tests/account): every number of each answer and every byte of the buffers.
+"""Packed letters through C (calls.c), in every function that takes a reference, against the account of the documents (tests/account): every number of each answer
+and every byte of the buffers.
 
     python3 tests/packed/packed.py COMMAND..             every reference of up to 5 letters, every byte in each place, wrong sizes and forms, random ones
     python3 tests/packed/packed.py bam SAMTOOLS COMMAND.. letters packed by samtools, and letters packed by us read by samtools
@@ -41,13 +42,28 @@ def string(data):
     return number(len(data)) + data
 
 
-def told(c):
-    data, form, size, cs, ce, table, exceptions, end, edit, room, proposal = c
+def told_reference(c):
+    data, form, size, cs, ce, table, exceptions, end = c[:8]
+    x = b"".join(bytes([n // 256, n % 256]) + r.encode() for n, r in exceptions)
+    return string(data) + number(form) + number(size) + number(cs) + number(ce) + number(table) + string(x) + number(end)
+
+
+def told_edit(edit):
     kind = account.KINDS.index(edit.kind) + 1 if edit.kind in account.KINDS else 8
     places = b"".join(number(sign == "*") + number(-n if sign == "-" else n) for sign, n in (edit.start, edit.end))
-    x = b"".join(bytes([n // 256, n % 256]) + r.encode() for n, r in exceptions)
-    return (b"r" + string(data) + number(form) + number(size) + number(cs) + number(ce) + number(table) + string(x) + number(end) + number(kind) + places
-            + string(edit.bases.encode()) + b"".join(map(number, room)) + number(proposal[0]) + string(proposal[1].encode()) + string(proposal[2].encode()))
+    return number(kind) + places + string(edit.bases.encode())
+
+
+def told(c):
+    edit, room, proposal = c[8:]
+    return b"r" + told_reference(c) + told_edit(edit) + b"".join(map(number, room)) + number(proposal[0]) + string(proposal[1].encode()) + string(proposal[2].encode())
+
+
+# The other functions: a case as above, a second edit, the base that the first names, a second case for its reference, the room of a list and of a form
+
+def told_others(o):
+    c, second, named, other, rooms = o
+    return b"o" + told_reference(c) + told_edit(c[8]) + told_edit(second) + number(named) + told_reference(other) + b"".join(map(number, c[9] + rooms))
 
 
 def filled(room):
@@ -64,28 +80,77 @@ def checked_reference(c):
     return account.Reference(letters, cs, ce, table, exceptions, end).check()
 
 
+def told_answer(ref, record, altered, room):
+    """The numbers of an answer, and what it writes."""
+    n, texts = [0] * 14, ("", "", "")
+    n[0] = {"unknown": 1, "no-protein": 2, "silent": 3}.get(record.word, 4)
+    if altered is not None:
+        account.check_room(ref, altered, *room)
+        texts = altered.transcript, ref.protein, altered.protein
+        n[2:6] = [int(altered.flag)] + [len(t) for t in texts]
+        n[6] = CLASSES.index(record.word) + 1 if n[0] == 4 else 0
+        n[7:13] = record.number, *record.deleted, *record.inserted, record.first
+        n[13] = altered.looked_up(ref)
+    return n, texts
+
+
+def buffers(texts, room):
+    return b"".join(written(t, r) for t, r in zip(texts, room))
+
+
+def or_refused(answer, numbers, place=0):
+    """What a call tells and writes, or its refusal at its place among the numbers."""
+    try:
+        return answer()
+    except account.Refused as refused:
+        return [refused.number if i == place else 0 for i in range(numbers)], ("", "", "")
+
+
+def expected_others(o):
+    c, second, named, other, rooms = o
+    edit, room = c[8:10]
+
+    def pair():
+        transcript, protein = account.paired(checked_reference(c), edit, second, (room[0], room[2]))
+        return [0, len(transcript), len(protein)], (transcript, "", protein)
+
+    def panel():
+        ref = checked_reference(c)
+        return told_answer(ref, *account.answer(ref, edit, 0, named), room)
+
+    def compare():
+        one = checked_reference(c)
+        try:
+            two = checked_reference(other)
+        except account.Refused as refused:
+            raise account.Refused(100 + refused.number)
+        listed = account.difference_bytes(account.compared(one, two, rooms[0])).decode("latin-1")
+        return [0, len(listed)], (listed,)
+
+    def write():
+        form = account.written(checked_reference(c), rooms[1]).decode("latin-1")
+        return [0, len(form)], (form,)
+
+    out = b""
+    for answer, numbers, place, lent in ((pair, 3, 0, room), (panel, 14, 1, room), (compare, 2, 0, rooms[:1]), (write, 2, 0, rooms[1:])):
+        n, texts = or_refused(answer, numbers, place)
+        out += b"".join(map(number, n)) + b"".join(t.encode("latin-1") + filled(r)[len(t):] for t, r in zip(texts, lent))
+    return out
+
+
 def expected(c):
     edit, room, proposal = c[8:]
     out = []
     for alone in (False, True):
-        n, texts = [0] * 14, ("", "", "")
-        try:
+        def answer():
             ref = checked_reference(c)
             record, altered = account.answer(ref, edit)
-            n[0] = {"unknown": 1, "no-protein": 2, "silent": 3}.get(record.word, 4)
-            if altered is not None and alone:
-                account.refuse(11, room[0] < len(altered.transcript))
-                n[0], n[2], n[3], texts = 4, int(altered.flag), len(altered.transcript), (altered.transcript, "", "")
-            elif altered is not None:
-                account.check_room(ref, altered, *room)
-                texts = altered.transcript, ref.protein, altered.protein
-                n[2:6] = [int(altered.flag)] + [len(t) for t in texts]
-                n[6] = CLASSES.index(record.word) + 1 if n[0] == 4 else 0
-                n[7:13] = record.number, *record.deleted, *record.inserted, record.first
-                n[13] = altered.looked_up(ref)
-        except account.Refused as refused:
-            n, texts = [0, refused.number] + [0] * 12, ("", "", "")
-        out.append(b"".join(map(number, n)) + b"".join(written(t, r) for t, r in list(zip(texts, room))[:1 if alone else 3]))
+            if altered is None or not alone:
+                return told_answer(ref, record, altered, room)
+            account.refuse(11, room[0] < len(altered.transcript))
+            return [4, 0, int(altered.flag), len(altered.transcript)] + [0] * 10, (altered.transcript, "", "")
+        n, texts = or_refused(answer, 14, 1)
+        out.append(b"".join(map(number, n)) + buffers(texts, room[:1] if alone else room))
     try:
         ref = checked_reference(c)
         (first, second), altered = account.checked(ref, edit, *proposal, room)
@@ -102,7 +167,11 @@ def run(command, given):
     return done.stdout
 
 
-def compare(command, cases, what):
+def shown(c):
+    return " ".join(str(vars(x) if isinstance(x, account.Edit) else shown(x) if isinstance(x, tuple) else x) for x in c)
+
+
+def compare(command, cases, what, told=told, expected=expected):
     cases = list(cases)
     for i in range(0, len(cases), 20000):
         some = cases[i:i + 20000]
@@ -110,7 +179,7 @@ def compare(command, cases, what):
         for c in some:
             want = expected(c)
             if got[at:at + len(want)] != want:
-                sys.exit(f"packed: {what}: {c[:8]} {vars(c[8])} {c[9:]}: {got[at:at + len(want)]!r}, and the account says {want!r}")
+                sys.exit(f"packed: {what}: {shown(c)}: {got[at:at + len(want)]!r}, and the account says {want!r}")
             at += len(want)
         if at != len(got):
             sys.exit(f"packed: {what}: more was written than asked for")
@@ -181,8 +250,28 @@ def randomly(count, seed):
         start, stop = ("", first), (("", last) if last <= ce - cs + 1 else ("*", 1))
         edit = account.Edit(kind, start, stop, bases)
         room = (2 * len(letters) + 8, len(letters) // 3 + 2, len(letters) + 8)
+        table = chance.choice((0, 0, 0, 1, 2))
         for form, data in ((1, packed(letters)), (0, letters.encode())):
-            yield case(data, form, len(letters), cs, ce, edit, room, chance.randrange(3) if form == 9 else 0, exceptions, end)
+            yield case(data, form, len(letters), cs, ce, edit, room, table, exceptions, end)
+
+
+def others(count, seed):
+    """Random references in both forms, some of them damaged, for the functions that take two edits, a named base, two references, or write a stored form."""
+    chance = random.Random(seed)
+    cases = list(randomly(count, seed))
+    for i, c in enumerate(cases):
+        data, form, size, cs, ce = c[:5]
+        if form == 1 and chance.random() < 0.2:
+            place = chance.randrange(len(data))
+            data = chance.choice((data[:place] + bytes([chance.randrange(256)]) + data[place + 1:], data[:-1], data + b"\0", data[:-1] + bytes([data[-1] & 240])))
+            c = (data, form, size + chance.choice((0, 0, 0, 1, -1))) + c[3:]
+        behind = min(c[8].end[1] + 2, ce - cs + 1)
+        second = chance.choice((account.Edit("deletion", ("", behind), ("", behind)), account.Edit("identity", ("", 1), ("", 1)),
+                                account.Edit("duplication", ("", behind), ("", behind)), account.Edit("substitution", ("", 1), ("", 1), "C")))
+        other = chance.choice((c, cases[chance.randrange(len(cases))], cases[i ^ 1]))
+        named = chance.choice(b"ACGTACGTN") if c[8].kind == "substitution" else 0
+        listed = chance.choice((0, 4, 4096))
+        yield c, second, named, other, (listed, chance.choice((0, len(data), 4096)))
 
 
 def packing(command):
@@ -272,4 +361,5 @@ else:
     packing(sys.argv[1:])
     compare(sys.argv[1:], bytewise(), "every byte in each place, wrong sizes and forms")
     compare(sys.argv[1:], randomly(4000, 1), "random references in both forms")
+    compare(sys.argv[1:], others(3000, 2), "two edits, the profile, two editions, a stored form", told_others, expected_others)
     compare(sys.argv[1:], short(), "every reference of up to 5 letters")
