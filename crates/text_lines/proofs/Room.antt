@@ -75,7 +75,7 @@ unfolding answered answers editLineAnswer exceptionList
 line-size Opening l letters protein k = first-size (if fitsLine l then referenceLine l else none)
 line-size (Editing known size) l letters protein k =
     one-line (editLineAnswer (bare (take size letters) (known .cds)) l)
-    (answer-size (bare (take size letters) (known .cds)) (k .2 .accepted) (if fitsLine l then editLine l else none))
+    (answer-size (bare (take size letters) (known .cds)) (k .2 .known .accepted) (if fitsLine l then editLine l else none))
 line-size Ended l letters protein k = omega arith
 
 pub answered-size : (s : State) (line letters protein : List ℕ) → Keeps s letters protein → length (answered (stageOf s line letters)) ≤ answerRoom
