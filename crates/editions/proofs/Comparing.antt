@@ -11,6 +11,7 @@ use borrow.Author.Tests.{lt-ltb, le-ltb, leb-true}
 use Rattle.rules.specs.Bytes.{if_then_else_, all, each, Test, firstOf, given, refused, unless}
 use Rattle.rules.specs.Reference.{Reference, size, referenceTests}
 use Rattle.rules.specs.Refusal.{limits, referenceRefusal}
+use Rattle.rules.specs.Packed.{lettersBy}
 use Rattle.rules.specs.Editions.{codonCount, differencesFrom, differences, differenceBytes, listed, editionTests, compared}
 use Rattle.rules.proofs.Tests.{and-left, and-right}
 use Rattle.rules.proofs.Reference.{accepted}
@@ -82,16 +83,16 @@ pub fits-of : (s : List ℕ) (x : Edition) → referenceRefusal (limits .longest
 unfolding size
 fits-of s x none =
     record {
-      readable = readable (limits .longest) s (x .cds) (x .e) (accepted-early (limits .longest) s (x .cds) (x .e) none) (omega arith);
+      readable = readable (limits .longest) (lettersBy (x .form) s) (x .cds) (x .e) (accepted-early (limits .longest) (lettersBy (x .form) s) (x .cds) (x .e) none) (omega arith);
       short = omega (arith, accepted (limits .longest) (editionOf s x) none .fits);
     }
 
 -- what the judgement of an edition tells
-module _ (s : List ℕ) (x : Edition) (j : Judged) (is : j ≡ judgedOf (limits .longest) s (x .cds) (x .e)) where
+module _ (s : List ℕ) (x : Edition) (j : Judged) (is : j ≡ judgedOf (limits .longest) (lettersBy (x .form) s) (x .cds) (x .e)) where
   pub judged-refused : (n : ℕ) → j ≡ Refused n → (referenceRefusal (limits .longest) (editionOf s x) ≡ n) × (n ≡ 0 → ⊥)
   unfolding judgedOf
-  judged-refused = was-refused (referenceRefusal (limits .longest) (editionOf s x)) (all isBase s) j is
+  judged-refused = was-refused (referenceRefusal (limits .longest) (editionOf s x)) (all isBase (lettersBy (x .form) s)) j is
 
   pub judged-clear : (p : Bool) → j ≡ Clear p → referenceRefusal (limits .longest) (editionOf s x) ≡ 0
   unfolding judgedOf
-  judged-clear p h = was-clear (referenceRefusal (limits .longest) (editionOf s x)) (all isBase s) j is p h .0
+  judged-clear p h = was-clear (referenceRefusal (limits .longest) (editionOf s x)) (all isBase (lettersBy (x .form) s)) j is p h .0

@@ -13,11 +13,13 @@ use borrow.Author.Tests.{eq-eqb, ne-eqb, leb-true}
 use Rattle.rules.specs.declared.Cds.{Cds}
 use Rattle.rules.specs.declared.Exception.{Exception}
 use Rattle.rules.specs.declared.Exceptions.{Exceptions}
+use Rattle.rules.specs.declared.Form.the-variants.{Packed}
 use Rattle.rules.specs.Bytes.{same, all}
 use Rattle.rules.specs.Letters.{letterSet, isLetter}
 use Rattle.rules.specs.Codons.{residueX, codonRule, codon}
 use Rattle.rules.specs.Translation.{exceptionList, excepted, translated, residueCount, wholeCodons}
 use Rattle.rules.specs.Reference.{Reference, size, cdsSize, cds, fitExceptions, referenceProtein}
+use Rattle.rules.specs.Packed.{setAt, unpacked, lettersBy}
 use Rattle.rules.specs.Views.{bare, referenceOf}
 use Rattle.rules.specs.Editions.{codonCount, codonLetters, codonResidue, isEqualCodon}
 use Rattle.rules.proofs.Lists.{all-at}
@@ -25,6 +27,8 @@ use Rattle.rules.proofs.Tests.{and-left, all-take, all-drop}
 use Rattle.rules.proofs.Translation.{length-translated, length-exceptions}
 use Rattle.rules.proofs.Reading.{restOf, whole-and-rest, length-whole, residue-at}
 use Rattle.rules.proofs.Reference.{length-cds}
+use Rattle.packed.proofs.Halves.{high-at, low-at}
+use Rattle.packed.proofs.Readings.{packed-fits, packed-set}
 use Rattle.codons.specs.Tables.{HoldsCode}
 use Rattle.reference.specs.Known.{Readable}
 use Rattle.reference.proofs.Reading.{few-exceptions}
@@ -45,6 +49,70 @@ module _ (s : List ℕ) (c : Cds) (inside : Inside s c) (k : ℕ) where
       let n = c .ce + 1 - c .cs in
       sym (ap letterSet (List·getD-eq-default (take n (drop (c .cs - 1) s)) 0 {n = k} (rw length-take (omega (arith, inside .first, inside .rising)))) ∙ none-set)
 
+-- three halves as one number, from a high one on and from a low one on
+module _ (bs : List ℕ) (bytes : (k : ℕ) → getD bs k 0 < 256) (place : ℕ) where
+  pub even-halves : place % 2 ≡ 0 → (getD bs (place / 2) 0 * 256 + getD bs (place / 2 + 1) 0) / 16 ≡ setAt bs place * 256 + setAt bs (place + 1) * 16 + setAt bs (place + 2)
+  even-halves h =
+      let j : ℕ = place / 2 in
+      let first : j * 2 ≡ place = omega arith in
+      let second : j * 2 + 1 ≡ place + 1 = omega arith in
+      let third : (j + 1) * 2 ≡ place + 2 = omega arith in
+      let x = ap (setAt bs) (sym first) ∙ high-at bs j in
+      let y = ap (setAt bs) (sym second) ∙ low-at bs j in
+      let z = ap (setAt bs) (sym third) ∙ high-at bs (j + 1) in
+      rw (x, y, z) (omega (arith, bytes j, bytes (j + 1)))
+
+  pub odd-halves : (place % 2 ≡ 0 → ⊥) → (getD bs (place / 2) 0 * 256 + getD bs (place / 2 + 1) 0) % 4096 ≡ setAt bs place * 256 + setAt bs (place + 1) * 16 + setAt bs (place + 2)
+  odd-halves h =
+      let j : ℕ = place / 2 in
+      let first : j * 2 + 1 ≡ place = omega arith in
+      let second : (j + 1) * 2 ≡ place + 1 = omega arith in
+      let third : (j + 1) * 2 + 1 ≡ place + 2 = omega arith in
+      let x = ap (setAt bs) (sym first) ∙ low-at bs j in
+      let y = ap (setAt bs) (sym second) ∙ high-at bs (j + 1) in
+      let z = ap (setAt bs) (sym third) ∙ low-at bs (j + 1) in
+      rw (x, y, z) (omega (arith, bytes j, bytes (j + 1)))
+
+-- the same of packed letters: a whole codon by its halves, one that is cut by the sets of its letters, and one that isn't there
+module _ (size : ℕ) (bs : List ℕ) (c : Cds) (inside : Inside (unpacked size bs) c) (n : ℕ) where
+  pub halves-fit : (n - 1) * 3 + 2 < c .ce - (c .cs - 1) → c .cs - 1 + (n - 1) * 3 + 3 ≤ length bs * 2
+  halves-fit h = packed-fits (Packed size) size bs refl (c .cs - 1 + (n - 1) * 3 + 3) (omega (arith, inside .ends))
+
+  half-is : (k : ℕ) → k < c .ce - (c .cs - 1) → setAt bs (c .cs - 1 + k) ≡ baseAt (bare (unpacked size bs) c) k
+  half-is k h =
+      packed-set (Packed size) size bs refl (c .ce) (inside .ends) (inside .letters) (c .cs - 1 + k) (omega (arith, inside .first, inside .rising))
+      ∙ base-there (unpacked size bs) c inside k h
+
+  pub whole-entry : (n - 1) * 3 + 2 < c .ce - (c .cs - 1)
+      → setAt bs (c .cs - 1 + (n - 1) * 3) * 256 + setAt bs (c .cs - 1 + (n - 1) * 3 + 1) * 16 + setAt bs (c .cs - 1 + (n - 1) * 3 + 2) ≡ entryOf (bare (unpacked size bs) c) n
+  unfolding entryOf
+  whole-entry h =
+      let k : ℕ = (n - 1) * 3 in
+      let second : c .cs - 1 + k + 1 ≡ c .cs - 1 + (k + 1) = omega arith in
+      let third : c .cs - 1 + k + 2 ≡ c .cs - 1 + (k + 2) = omega arith in
+      rw (second, third, half-is k (omega arith), half-is (k + 1) (omega arith), half-is (k + 2) h)
+
+  pub no-entry : c .ce - (c .cs - 1) ≤ (n - 1) * 3 → 0 ≡ entryOf (bare (unpacked size bs) c) n
+  unfolding entryOf
+  no-entry h =
+      let behind : (k : ℕ) → c .ce - (c .cs - 1) ≤ k → 0 ≡ baseAt (bare (unpacked size bs) c) k = base-behind (unpacked size bs) c inside in
+      omega (arith, behind ((n - 1) * 3) h, behind ((n - 1) * 3 + 1) (omega arith), behind ((n - 1) * 3 + 2) (omega arith))
+
+  pub cut-entry : (n - 1) * 3 < c .ce - (c .cs - 1) → c .ce - (c .cs - 1) ≤ (n - 1) * 3 + 1
+      → letterSet (getD (unpacked size bs) (c .cs - 1 + (n - 1) * 3) 0) * 256 ≡ entryOf (bare (unpacked size bs) c) n
+  unfolding entryOf
+  cut-entry h k =
+      let behind : (k : ℕ) → c .ce - (c .cs - 1) ≤ k → 0 ≡ baseAt (bare (unpacked size bs) c) k = base-behind (unpacked size bs) c inside in
+      omega (arith, base-there (unpacked size bs) c inside ((n - 1) * 3) h, behind ((n - 1) * 3 + 1) k, behind ((n - 1) * 3 + 2) (omega arith))
+
+  pub cut-entry-of-two : (n - 1) * 3 + 1 < c .ce - (c .cs - 1) → c .ce - (c .cs - 1) ≤ (n - 1) * 3 + 2
+      → letterSet (getD (unpacked size bs) (c .cs - 1 + (n - 1) * 3) 0) * 256 + letterSet (getD (unpacked size bs) (c .cs - 1 + (n - 1) * 3 + 1) 0) * 16 ≡ entryOf (bare (unpacked size bs) c) n
+  unfolding entryOf
+  cut-entry-of-two h k =
+      let next : c .cs - 1 + (n - 1) * 3 + 1 ≡ c .cs - 1 + ((n - 1) * 3 + 1) = omega arith in
+      let there : (k : ℕ) → k < c .ce - (c .cs - 1) → letterSet (getD (unpacked size bs) (c .cs - 1 + k) 0) ≡ baseAt (bare (unpacked size bs) c) k = base-there (unpacked size bs) c inside in
+      rw next (omega (arith, there ((n - 1) * 3) (omega arith), there ((n - 1) * 3 + 1) h, base-behind (unpacked size bs) c inside ((n - 1) * 3 + 2) k))
+
 -- an edition that was judged
 module _ (s : List ℕ) (x : Edition) (fits : Fits s x) where
   bounds-of-cds : length (cds (editionOf s x)) ≡ x .cds .ce - (x .cds .cs - 1)
@@ -53,7 +121,7 @@ module _ (s : List ℕ) (x : Edition) (fits : Fits s x) where
       let b = fits .readable .sound .bounds in
       length-cds (editionOf s x) b ∙ omega (arith, b .first, b .rising)
 
-  pub inside-of : Inside s (x .cds)
+  pub inside-of : Inside (lettersBy (x .form) s) (x .cds)
   unfolding size
   inside-of =
       let b = fits .readable .sound .bounds in
@@ -72,13 +140,13 @@ module _ (s : List ℕ) (x : Edition) (fits : Fits s x) where
   pub letters-of-cds : all isLetter (cds (editionOf s x)) ≡ true
   unfolding cds
   letters-of-cds =
-      all-take isLetter (cdsSize (editionOf s x)) (drop (x .cds .cs - 1) s) (all-drop isLetter (x .cds .cs - 1) s (fits .readable .sound .letters))
+      all-take isLetter (cdsSize (editionOf s x)) (drop (x .cds .cs - 1) (lettersBy (x .form) s)) (all-drop isLetter (x .cds .cs - 1) (lettersBy (x .form) s) (fits .readable .sound .letters))
 
   pub few-of : x .e .count ≤ 16
-  few-of = few-exceptions s (x .cds) (x .e) (fits .readable)
+  few-of = few-exceptions (lettersBy (x .form) s) (x .cds) (x .e) (fits .readable)
 
   -- a codon's number looks at the letters of the CDS alone
-  pub entry-of : (n : ℕ) → entryOf (bare s (x .cds)) n ≡ entryOf (editionOf s x) n
+  pub entry-of : (n : ℕ) → entryOf (bare (lettersBy (x .form) s) (x .cds)) n ≡ entryOf (editionOf s x) n
   unfolding entryOf baseAt cds cdsSize
   entry-of n = refl
 
@@ -142,7 +210,7 @@ module _ (t : ℕ) (es : List Exception) (u : List ℕ) (residues : List ℕ) (c
       by (yes h) (no k) = read-cut h (omega arith)
 
 -- the residue of codon n of an edition
-pub residue-of : (s : List ℕ) (x : Edition) (residues : List ℕ) → Reads s x residues → (n entry : ℕ) → 1 ≤ n → entry ≡ entryOf (bare s (x .cds)) n
+pub residue-of : (s : List ℕ) (x : Edition) (residues : List ℕ) → Reads s x residues → (n entry : ℕ) → 1 ≤ n → entry ≡ entryOf (bare (lettersBy (x .form) s) (x .cds)) n
     → residueBy residues (exceptionList (x .e)) entry n ≡ codonResidue (editionOf s x) n
 unfolding codonResidue referenceProtein entryOf baseAt
 residue-of s x residues reads n entry one is =
@@ -152,7 +220,7 @@ residue-of s x residues reads n entry one is =
 
 -- whether a codon is equal in two editions
 module _ (first second : List ℕ) (r s : Edition) (a b : List ℕ) (x : Reads first r a) (y : Reads second s b) (n p q : ℕ) (one : 1 ≤ n)
-    (is : p ≡ entryOf (bare first (r .cds)) n) (are : q ≡ entryOf (bare second (s .cds)) n) where
+    (is : p ≡ entryOf (bare (lettersBy (r .form) first) (r .cds)) n) (are : q ≡ entryOf (bare (lettersBy (s .form) second) (s .cds)) n) where
   letters-by : same (codonLetters (editionOf first r) n) (codonLetters (editionOf second s) n) ≡ eqb p q
   letters-by =
       same-letters (editionOf first r) (editionOf second s) n (letters-of-cds first r (x .fits)) (letters-of-cds second s (y .fits)) one

@@ -12,14 +12,16 @@ use Rattle.rules.specs.Letters.{letterSet, isLetter}
 use Rattle.rules.specs.Codons.{residueX}
 use Rattle.rules.specs.Translation.{excepted}
 use Rattle.rules.specs.Reference.{Reference, cds}
+use Rattle.rules.specs.Packed.{lettersBy}
 use Rattle.rules.specs.Views.{referenceOf}
 use Rattle.rules.specs.Editions.{isEqualCodon, differencesFrom, listed}
 use Rattle.codons.specs.Tables.{HoldsCode}
 use Rattle.reference.specs.Known.{Readable}
 use Rattle.editions.specs.declared.Edition.{Edition}
 
+-- its letters are those of the bytes s, by their form
 abbrev pub editionOf : List ℕ → Edition → Reference
-editionOf s x = referenceOf s (x .cds) (x .e)
+editionOf s x = referenceOf (lettersBy (x .form) s) (x .cds) (x .e)
 
 -- the letter set of base k of a CDS, counted from 0; behind its last the empty one
 unfoldable pub baseAt : Reference → ℕ → ℕ
@@ -45,8 +47,8 @@ pub record Inside (s : List ℕ) (c : Cds) : Type 0 where
 
 -- a reference that was judged, so short that the number of each codon has two bytes
 pub record Fits (s : List ℕ) (x : Edition) : Type 0 where
-  pub readable : Readable s (x .cds) (x .e)
-  pub short : length s < 196606
+  pub readable : Readable (lettersBy (x .form) s) (x .cds) (x .e)
+  pub short : length (lettersBy (x .form) s) < 196606
 
 -- the same, with the residues of its table
 pub record Reads (s : List ℕ) (x : Edition) (residues : List ℕ) : Type 0 where

@@ -7,6 +7,7 @@ use reference::Judged;
 use reference::judge_reference;
 use rules::Cds;
 use rules::Exceptions;
+use rules::Form;
 use rules::LONGEST;
 use rules::Written;
 use tables::residues_of;
@@ -21,8 +22,9 @@ ghost use Rattle.rules.specs.Editions.{codonCount, compared};
 ghost use Rattle.rules.specs.Answer.{writtenOf, bytesOf};
 ghost use Rattle.editions.specs.Reading.{editionOf, Fits, listing};
 
-// The bounds, the table, the end and the exceptions of a reference. Its letters are lent beside them.
+// The form of a reference's letters, its bounds, table, end and exceptions. The letters are lent beside them.
 pub struct Edition {
+    pub form: Form,
     pub cds: Cds,
     pub e: Exceptions,
 }
@@ -67,9 +69,11 @@ pub fn compare(first: &[u8], r: Edition, second: &[u8], s: Edition, out: &mut [u
     ensures answer { λ w. ⌜ w ≡ writtenOf (compared (limits .longest) (editionOf (now (first .entry)) r) (editionOf (now (second .entry)) s) (length (now (out .entry)))) ⌝ }
     ensures written { λ _. ⌜ now (out .exit) ≡ over (bytesOf (compared (limits .longest) (editionOf (now (first .entry)) r) (editionOf (now (second .entry)) s) (length (now (out .entry))))) (now (out .entry)) ⌝ }
 {
-    match judge_reference(first, r.cds, r.e, LONGEST) {
+    let f = r.form;
+    let g = s.form;
+    match judge_reference(first, f, r.cds, r.e, LONGEST) {
         Judged::Refused(n) => Written::Refused(n),
-        Judged::Clear { plain: _ } => match judge_reference(second, s.cds, s.e, LONGEST) {
+        Judged::Clear { plain: _ } => match judge_reference(second, g, s.cds, s.e, LONGEST) {
             Judged::Refused(n) => Written::Refused(100 + n),
             Judged::Clear { plain: _ } => list_differences(first, r, second, s, out),
         },

@@ -24,8 +24,10 @@ fn is_equal(
     requires { ⌜ (1 ≤ n) × (n ≤ 65536) ⌝ }
     ensures { λ t. ⌜ t ≡ isEqualCodon (editionOf (now (first .entry)) r) (editionOf (now (second .entry)) s) n ⌝ }
 {
-    let p = entry_of(first, r.cds, n);
-    let q = entry_of(second, s.cds, n);
+    let f = r.form;
+    let g = s.form;
+    let p = entry_of(first, f, r.cds, n);
+    let q = entry_of(second, g, s.cds, n);
     if p != q {
         return false;
     }
@@ -101,8 +103,10 @@ fn put_difference(
     requires { ⌜ 4 ≤ length (now out) ⌝ }
     ensures { λ _. ⌜ now (out .exit) ≡ over (differenceBytes (differenceAt (editionOf (now (first .entry)) r) (editionOf (now (second .entry)) s) n)) (now (out .entry)) ⌝ }
 {
-    let p = entry_of(first, r.cds, n);
-    let q = entry_of(second, s.cds, n);
+    let f = r.form;
+    let g = s.form;
+    let p = entry_of(first, f, r.cds, n);
+    let q = entry_of(second, g, s.cds, n);
     out[0] = (n / 256) as u8;
     out[1] = (n % 256) as u8;
     out[2] = residue_by(a, r.e, p, n);

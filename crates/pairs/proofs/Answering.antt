@@ -4,6 +4,7 @@ use mathlib.Core.Path.{_≡_, refl, sym, ap, subst, _∙_}
 use mathlib.Core.List.{List, _++_}
 use Prim.Native.Nat.{ℕ, zero, suc, _<_, _≤_}
 use native.Mathlib.Omega.{arith}
+use Rattle.rules.specs.declared.Form.{Form}
 use Rattle.rules.specs.declared.Cds.{Cds}
 use Rattle.rules.specs.declared.Edit.{Edit}
 use Rattle.rules.specs.declared.Exceptions.{Exceptions}
@@ -21,7 +22,7 @@ use Rattle.reference.specs.declared.Known.{Known}
 use Rattle.reference.specs.declared.Checked.{Checked}
 use Rattle.reference.specs.declared.Checked.the-variants as checked
 use Rattle.reference.specs.Known.{knownOf, checkedOf, Knows}
-use Rattle.reference.proofs.Checking.{checked-refused, checked-accepted, cds-known, checks}
+use Rattle.reference.proofs.Checking.{checked-refused, checked-accepted, form-known, cds-known, checks}
 use Rattle.edits.specs.declared.plans.Plan.{Plan}
 use Rattle.edits.specs.Plans.{planOf}
 use Rattle.pairs.specs.declared.decision.Joint.{Joint}
@@ -90,7 +91,7 @@ module _ (m : PairLimits) (r : Reference) (a b : Asked) where
 
 -- two edits of a checked reference
 module _ (s : List ℕ) (k : Known) (first second : Edit) (most other : ℕ) (new bases : List ℕ) (x : AcceptsPair s k most other) (d : Joint) (longest : ℕ) (e : Exceptions)
-    (is : k ≡ knownOf s (k .cds) e) (good : referenceRefusal longest (referenceOf s (k .cds) e) ≡ 0)
+    (is : k ≡ knownOf (k .form) s (k .cds) e) (good : referenceRefusal longest (referenceOf s (k .cds) e) ≡ 0)
     (said : d ≡ jointOf most other (referenceOf s (k .cds) e) (asked first new) (asked second bases)) where
   abbrev m : PairLimits
   m = record { longest = longest; first = most; second = other }
@@ -126,27 +127,30 @@ module _ (s : List ℕ) (k : Known) (first second : Edit) (most other : ℕ) (ne
   carried-pair p q h r t t′ alt alt′ y = rw (← outcome-is s k p q new bases (goes-pair p q h) (pairRoomOf t alt)) y
 
 -- a reference, as it was checked
-module _ (s : List ℕ) (c : Cds) (e : Exceptions) (x : Checked) (is : x ≡ checkedOf (limits .longest) s c e) where
+module _ (f : Form) (s : List ℕ) (c : Cds) (e : Exceptions) (x : Checked) (is : x ≡ checkedOf (limits .longest) f s c e) where
   pub refused-reference : (a b : Asked) (n : ℕ) (t alt : List ℕ) → x ≡ checked.Refused n → Pairs (pairOutcome pairLimits (referenceOf s c e) a b (pairRoomOf t alt)) (paired.Refused n) t t alt alt
   refused-reference a b n t alt h =
-      let no = checked-refused (limits .longest) s c e x is n h in
+      let no = checked-refused (limits .longest) f s c e x is n h in
       pairs-nothing _ n t alt (reference-refused pairLimits (referenceOf s c e) a b (pairRoomOf t alt) n (no .0) (no .1))
 
   module _ (k : Known) (h : x ≡ checked.Known k) where
+    pub form-at : k .form ≡ f
+    form-at = let ok = checked-accepted (limits .longest) f s c e x is k h in form-known limits f s c e k (ok .0) (ok .1)
+
     pub cds-at : k .cds ≡ c
-    cds-at = let ok = checked-accepted (limits .longest) s c e x is k h in cds-known limits s c e k (ok .0) (ok .1)
+    cds-at = let ok = checked-accepted (limits .longest) f s c e x is k h in cds-known limits f s c e k (ok .0) (ok .1)
 
     known-at : Knows limits s k e (referenceProtein (referenceOf s (k .cds) e))
     known-at =
-        let ok = checked-accepted (limits .longest) s c e x is k h in
+        let ok = checked-accepted (limits .longest) f s c e x is k h in
         record {
           accepted = rw cds-at (ok .0);
-          is = ok .1 ∙ ap (λ (c : Cds). knownOf s c e) (sym cds-at);
+          is = ok .1 ∙ ap (λ (c : Cds). knownOf f s c e) (sym cds-at) ∙ ap (λ (f : Form). knownOf f s (k .cds) e) (sym form-at);
           read = refl;
           small = omega arith;
         }
 
-    pub is-known : k ≡ knownOf s (k .cds) e
+    pub is-known : k ≡ knownOf (k .form) s (k .cds) e
     is-known = known-at .is
 
     pub good : referenceRefusal (limits .longest) (referenceOf s (k .cds) e) ≡ 0

@@ -129,7 +129,7 @@ or-both : (several one two : Bool) → (several || (one || two)) ≡ ((several |
 or-both true one two = refl
 or-both false one two = refl
 
-module _ (s : List ℕ) (k : Known) (e : Exceptions) (is : k ≡ knownOf s (k .cds) e) (a b : Asked) where
+module _ (s : List ℕ) (k : Known) (e : Exceptions) (is : k ≡ knownOf (k .form) s (k .cds) e) (a b : Asked) where
   abbrev r : Reference
   r = referenceOf s (k .cds) e
 

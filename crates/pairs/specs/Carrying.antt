@@ -82,7 +82,7 @@ pub record Goes (s : List ℕ) (k : Known) (p q : Plan) (new other : List ℕ) :
   pub limits : PairLimits
   pub exceptions : Exceptions
   pub accepted : referenceRefusal (limits .longest) (referenceOf s (k .cds) exceptions) ≡ 0
-  pub is : k ≡ knownOf s (k .cds) exceptions
+  pub is : k ≡ knownOf (k .form) s (k .cds) exceptions
   pub sound : Sound (bare s (k .cds))
   pub small : (limits .first < 4294967296) × (limits .second < 4294967296)
   pub first : Edit

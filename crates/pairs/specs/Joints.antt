@@ -18,7 +18,7 @@ use Rattle.pairs.specs.declared.decision.Joint.the-variants.{Refused, Bo
 -- what is known of a checked reference, its exceptions not at hand
 pub record Knowing (s : List ℕ) (k : Known) : Type 0 where
   pub exceptions : Exceptions
-  pub is : k ≡ knownOf s (k .cds) exceptions
+  pub is : k ≡ knownOf (k .form) s (k .cds) exceptions
   pub checks : Checks s k
 
 -- the first's 7 to 10, then the second's, 51 and 52, for which nothing is worked out, and 0 where none applies; `most` and `other` are the most

@@ -3,6 +3,7 @@
 use crate::apart::are_apart;
 use edits::plans::Plan;
 use edits::plans::plan_of;
+use packed::size_of;
 use positions::refusals::edit_refusal;
 use positions::refusals::ends_after_transcript;
 use reference::Known;
@@ -10,6 +11,7 @@ use rules::Edit;
 ghost use mathlib.Core.Path.{_≡_};
 ghost use Prim.Native.Nat.{_<_};
 ghost use Rattle.rules.specs.declared.Exceptions.{Exceptions};
+ghost use Rattle.rules.specs.Packed.{lettersBy};
 ghost use Rattle.rules.specs.Views.{asked, referenceOf};
 ghost use Rattle.reference.specs.Known.{knownOf, Checks};
 ghost use Rattle.pairs.specs.Joints.{Knowing, earlyPair, jointOf};
@@ -29,13 +31,14 @@ pub enum Joint {
 
 // 7 to 10 of the first edit, then of the second, 51 and 52, or 0: all that is judged before it is worked out what an edit does.
 fn early_refusal(letters: &[u8], known: Known, edits: Edits, new: &[u8], other: &[u8]) -> usize
-    requires { ⌜ Checks (now letters) known ⌝ }
-    ensures { λ r. ⌜ ((e : Exceptions) → known ≡ knownOf (now (letters .entry)) (known .cds) e → r ≡ earlyPair (edits .most) (edits .other) (referenceOf (now (letters .entry)) (known .cds) e) (asked (edits .first) (now (new .entry))) (asked (edits .second) (now (other .entry)))) ⌝ }
+    requires { ⌜ Checks (lettersBy (known .form) (now letters)) known ⌝ }
+    ensures { λ r. ⌜ ((e : Exceptions) → known ≡ knownOf (known .form) (lettersBy (known .form) (now (letters .entry))) (known .cds) e → r ≡ earlyPair (edits .most) (edits .other) (referenceOf (lettersBy (known .form) (now (letters .entry))) (known .cds) e) (asked (edits .first) (now (new .entry))) (asked (edits .second) (now (other .entry)))) ⌝ }
 {
     let c = known.cds;
+    let form = known.form;
     let one = edits.first;
     let two = edits.second;
-    let len = letters.len();
+    let len = size_of(letters, form);
     let refused = edit_refusal(len, c, edits.most, one, new);
     if refused != 0 {
         return refused;
@@ -62,9 +65,9 @@ pub(crate) fn decide_pair(
     new: &[u8],
     other: &[u8],
 ) -> Joint
-    requires { ⌜ Knowing (now letters) known ⌝ }
+    requires { ⌜ Knowing (lettersBy (known .form) (now letters)) known ⌝ }
     requires { ⌜ (edits .most < 4294967296) × (edits .other < 4294967296) ⌝ }
-    ensures { λ r. ⌜ ((e : Exceptions) → known ≡ knownOf (now (letters .entry)) (known .cds) e → r ≡ jointOf (edits .most) (edits .other) (referenceOf (now (letters .entry)) (known .cds) e) (asked (edits .first) (now (new .entry))) (asked (edits .second) (now (other .entry)))) ⌝ }
+    ensures { λ r. ⌜ ((e : Exceptions) → known ≡ knownOf (known .form) (lettersBy (known .form) (now (letters .entry))) (known .cds) e → r ≡ jointOf (edits .most) (edits .other) (referenceOf (lettersBy (known .form) (now (letters .entry))) (known .cds) e) (asked (edits .first) (now (new .entry))) (asked (edits .second) (now (other .entry)))) ⌝ }
 {
     let refused = early_refusal(letters, known, edits, new, other);
     if refused != 0 {

@@ -14,6 +14,7 @@ use reference::know_reference;
 use rules::Cds;
 use rules::Edit;
 use rules::Exceptions;
+use rules::Form;
 use rules::LONGEST;
 use rules::MOST;
 use rules::Paired;
@@ -22,12 +23,14 @@ ghost use Prim.Native.Nat.{ℕ};
 ghost use Rattle.rules.specs.declared.Exceptions.{Exceptions};
 ghost use Rattle.rules.specs.Pair.{pairLimits, pairOutcome, Pairs};
 ghost use Rattle.rules.specs.Refusal.{referenceRefusal};
+ghost use Rattle.rules.specs.Packed.{lettersBy};
 ghost use Rattle.rules.specs.Views.{asked, referenceOf};
 ghost use Rattle.reference.specs.Known.{knownOf};
 ghost use Rattle.pairs.specs.Carrying.{pairRoomOf, AcceptsPair};
 
-// What is asked: the numbers of a reference and its exceptions, and two edits. The letters and the new bases are lent beside them.
+// What is asked of a reference: its letters' form, its numbers and its exceptions, and two edits. The letters and the new bases are lent beside them.
 pub struct Question {
+    pub form: Form,
     pub cds: Cds,
     pub e: Exceptions,
     pub first: Edit,
@@ -44,9 +47,9 @@ fn answer_pair(
     transcript: &mut [u8],
     altered: &mut [u8],
 ) -> Paired
-    requires { ⌜ AcceptsPair (now letters) known (edits .most) (edits .other) ⌝ }
-    ensures { λ r. ⌜ ((longest : ℕ) (e : Exceptions) → known ≡ knownOf (now (letters .entry)) (known .cds) e → referenceRefusal longest (referenceOf (now (letters .entry)) (known .cds) e) ≡ 0 → Pairs
-        (pairOutcome (record { longest = longest; first = edits .most; second = edits .other }) (referenceOf (now (letters .entry)) (known .cds) e) (asked (edits .first) (now (new .entry))) (asked (edits .second) (now (other .entry))) (pairRoomOf (now (transcript .entry)) (now (altered .entry))))
+    requires { ⌜ AcceptsPair (lettersBy (known .form) (now letters)) known (edits .most) (edits .other) ⌝ }
+    ensures { λ r. ⌜ ((longest : ℕ) (e : Exceptions) → known ≡ knownOf (known .form) (lettersBy (known .form) (now (letters .entry))) (known .cds) e → referenceRefusal longest (referenceOf (lettersBy (known .form) (now (letters .entry))) (known .cds) e) ≡ 0 → Pairs
+        (pairOutcome (record { longest = longest; first = edits .most; second = edits .other }) (referenceOf (lettersBy (known .form) (now (letters .entry))) (known .cds) e) (asked (edits .first) (now (new .entry))) (asked (edits .second) (now (other .entry))) (pairRoomOf (now (transcript .entry)) (now (altered .entry))))
         r (now (transcript .entry)) (now (transcript .exit)) (now (altered .entry)) (now (altered .exit))) ⌝ }
 {
     match decide_pair(letters, known, edits, new, other) {
@@ -75,14 +78,15 @@ pub fn pair_altseq(
     altered: &mut [u8],
 ) -> Paired
     ensures { λ r. ⌜ Pairs
-        (pairOutcome pairLimits (referenceOf (now (letters .entry)) (asks .cds) (asks .e)) (asked (asks .first) (now (new .entry))) (asked (asks .second) (now (other .entry))) (pairRoomOf (now (transcript .entry)) (now (altered .entry))))
+        (pairOutcome pairLimits (referenceOf (lettersBy (asks .form) (now (letters .entry))) (asks .cds) (asks .e)) (asked (asks .first) (now (new .entry))) (asked (asks .second) (now (other .entry))) (pairRoomOf (now (transcript .entry)) (now (altered .entry))))
         r (now (transcript .entry)) (now (transcript .exit)) (now (altered .entry)) (now (altered .exit)) ⌝ }
 {
+    let form = asks.form;
     let cds = asks.cds;
     let e = asks.e;
     let first = asks.first;
     let second = asks.second;
-    match know_reference(letters, cds, e, LONGEST) {
+    match know_reference(letters, form, cds, e, LONGEST) {
         Checked::Refused(n) => Paired::Refused(n),
         Checked::Known(known) => {
             let edits = Edits {

@@ -27,8 +27,8 @@ second-clear c =
     let j = c .before .before .judge-reference2 in
     judged-clear (a .second .now) (a .s) (j .result) (j .ensures) (c .enum-told2 .given .0 .0) (c .enum-told2 .given .1)
 
-add-t12 : tie.Need-add-t12
-add-t12 c =
+add-t14 : tie.Need-add-t14
+add-t14 c =
     let a = c .before .before .before .before .before .before .before .before .before .before .args in
     let j = c .before .before .before .judge-reference2 in
     omega (arith, judged-refused (a .second .now) (a .s) (j .result) (j .ensures) (c .before .n2 .given .0 .0) (c .before .n2 .given .1) .0, refusal-small (limits .longest) (editionOf (a .second .now) (a .s)))
@@ -75,7 +75,7 @@ compare-spec =
     (λ c. search needs)
     (λ c κs. search needs)
     (λ c. search needs)
-    add-t12
+    add-t14
     (λ c. search needs)
     list-differences-requires
     returns

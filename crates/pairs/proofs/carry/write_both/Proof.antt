@@ -6,6 +6,7 @@ use borrow.Author.Needs.{needs}
 use denote.Ref.{now}
 use lib.ListN.{length}
 use Rattle.rules.specs.Bytes.{over}
+use Rattle.rules.specs.Packed.{lettersBy}
 use Rattle.pairs.proofs.Rows.{both-ahead, both-behind}
 use Rattle.pairs.proofs.carry.write_both.Statement.{statement}
 use Rattle.pairs.proofs.carry.write_both.Tie as tie
@@ -17,7 +18,7 @@ returns : tie.Need-returns
 returns c =
     let a = c .before .before .before .before .before .before .before .before .before .before .before .args in
     let one = c .before .before .write-parts in
-    let is = both-ahead (a .first) (a .second) (now (a .letters)) (now (a .new)) (now (a .other)) 0 (c .before .before .before .before .if1 .taken) in
+    let is = both-ahead (a .first) (a .second) (lettersBy (a .form) (now (a .letters))) (now (a .new)) (now (a .other)) 0 (c .before .before .before .before .if1 .taken) in
     (one .ensures .0 ∙ sym (ap length is), one .ensures .1 ∙ sym (ap (λ (l : List ℕ). over l (now (a .transcript))) is))
 
 write-parts-requires-2 : tie.Need-write-parts-requires-2
@@ -27,7 +28,7 @@ returns-2 : tie.Need-returns-2
 returns-2 c =
     let a = c .before .before .before .before .before .before .before .before .before .before .before .args in
     let one = c .before .before .write-parts2 in
-    let is = both-behind (a .first) (a .second) (now (a .letters)) (now (a .new)) (now (a .other)) 0 (c .before .before .before .before .if1 .left) in
+    let is = both-behind (a .first) (a .second) (lettersBy (a .form) (now (a .letters))) (now (a .new)) (now (a .other)) 0 (c .before .before .before .before .if1 .left) in
     (one .ensures .0 ∙ sym (ap length is), one .ensures .1 ∙ sym (ap (λ (l : List ℕ). over l (now (a .transcript))) is))
 
 pub write-both-spec : {M : Type 1} → statement M

@@ -6,6 +6,7 @@ use native.Mathlib.Omega.{arith}
 use borrow.Author.Needs.{needs}
 use denote.Ref.{now}
 use lib.ListN.{length, drop}
+use Rattle.rules.specs.Packed.{lettersBy}
 use Rattle.rules.specs.Altered.{part}
 use Rattle.rules.proofs.Over.{lent-on-by}
 use Rattle.edits.specs.Plans.{goesIn}
@@ -31,16 +32,16 @@ returns : tie.Need-returns
 returns c =
     let a = c .before .before .before .before .before .before .before .before .before .before .before .before .args in
     let x = c .before .before .before .before .before .before .before .before .before .before .before .before .pre in
-    let s = now (a .letters) in
+    let s = lettersBy (a .form) (now (a .letters)) in
     let put = goesIn (a .ahead) s (now (a .new)) in
     let rest = part (a .ahead .to) (a .behind .from) s ++ (goesIn (a .behind) s (now (a .other)) ++ drop (a .behind .to) s) in
     let one = c .before .before .before .before .before .before .write-put in
     let two = c .before .before .write-behind in
     let many : length put ≡ a .ahead .kept = length-goes-in (a .ahead) s (now (a .new)) (x .source) in
     let place : one .result ≡ length put = one .ensures .0 ∙ sym many in
-    let whole = one .last .1 .1 .1 .0 in (
+    let whole = one .last .1 .1 .1 .1 .0 in (
       omega (arith, one .ensures .0, two .ensures .0),
-      lent-on-by put rest (now (a .rest)) whole (two .last .1 .1 .1 .1 .0) (one .result) place (omega (arith, many, x .written)) (one .ensures .1) (two .ensures .1),
+      lent-on-by put rest (now (a .rest)) whole (two .last .1 .1 .1 .1 .1 .0) (one .result) place (omega (arith, many, x .written)) (one .ensures .1) (two .ensures .1),
     )
 
 pub write-from-spec : {M : Type 1} → statement M
