@@ -51,9 +51,9 @@ module _ (s : List ℕ) (c : Cds) (e : Exceptions) where
         by zero h some = absurd (some refl)
         by (suc n) h some = writing.refuses (limits .longest) r (length old) n h
 
-  module _ (clear : Clear s c e) (m : ℕ) (is : m ≡ formLength (length s) (e .count) (c .end)) (old : List ℕ) where
+  module _ (clear : Clear s c e) (n m : ℕ) (sized : n ≡ length s) (is : m ≡ formLength n (e .count) (c .end)) (old : List ℕ) where
     same : m ≡ length (storedForm r)
-    same = is ∙ sym (coded-length clear)
+    same = is ∙ ap (λ (n : ℕ). formLength n (e .count) (c .end)) sized ∙ sym (coded-length clear)
 
     -- 24
     pub answers-short : length old < m

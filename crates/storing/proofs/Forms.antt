@@ -13,7 +13,10 @@ use borrow.Author.Tests.{lt-ltb, le-ltb, eq-eqb, ne-eqb, eqb-true, ltb-true, ltb
 use Rattle.rules.specs.declared.Cds.{Cds}
 use Rattle.rules.specs.declared.Exception.{Exception}
 use Rattle.rules.specs.declared.Exceptions.{Exceptions}
-use Rattle.rules.specs.Bytes.{if_then_else_, isNone, each, over}
+use borrow.Rule.Slice.PartMut.{putMid}
+use Rattle.rules.specs.Bytes.{if_then_else_, isNone, all, each, over}
+use Rattle.rules.specs.Letters.{isLetter}
+use Rattle.rules.specs.Altered.{part}
 use Rattle.rules.specs.Translation.{noException, exceptionList}
 use Rattle.rules.specs.Reference as rules
 use Rattle.rules.specs.Reference.{Reference, atStop, isShortEnd, isCutShort}
@@ -22,6 +25,7 @@ use Rattle.rules.specs.Stored.{Tagged}
 use Rattle.rules.specs.Storing.{inTwo, inFour, fieldBytes, fieldsBytes, exceptionBytes, isLong, tagged, heldBy, filled, referenceFields, storedForm}
 use Rattle.rules.specs.Views.{referenceOf}
 use Rattle.rules.proofs.Tests.{and-left}
+use Rattle.rules.proofs.Over.{front-fits, room-behind, written-behind}
 use Rattle.rules.proofs.Reference.{accepted, rising-at}
 use Rattle.rules.proofs.Translation.{length-exceptions}
 use Rattle.storing.specs.Forming.{oneField, heldAt, narrowBounds, wideBounds, endField, formLength, Clear}
@@ -84,9 +88,6 @@ module _ (n from : ℕ) (s : List ℕ) where
   pub some-letters : 1 ≤ n → from < length s → 1 ≤ length (take n (drop from s))
   some-letters k h = omega (arith, length-take n (drop from s), length-drop from s)
 
-  pub few-letters : length (take n (drop from s)) < n + 1
-  few-letters = omega (arith, length-take n (drop from s))
-
   pub taken-part : (m : ℕ) → m ≡ min n (length s - from) → take (from + m - from) (drop from s) ≡ take n (drop from s)
   taken-part m e = rw same (by (decLt (length (drop from s)) n))
     where
@@ -96,6 +97,46 @@ module _ (n from : ℕ) (s : List ℕ) where
       by : Dec (length (drop from s) < n) → take m (drop from s) ≡ take n (drop from s)
       by (yes h) = take-all m (drop from s) (omega (arith, length-drop from s)) ∙ sym (take-all n (drop from s) (omega arith))
       by (no h) = let is : m ≡ n = omega (arith, length-drop from s) in ap (λ (k : ℕ). take k (drop from s)) is
+
+-- as many of them, written behind their head
+module _ (tag from size n : ℕ) (s old : List ℕ) (sized : size ≡ length s) (there : from < size) (is : n ≡ min 65535 (size - from)) (room : length (oneField (tagged tag (take 65535 (drop from s)))) ≤ length old) where
+  abbrev content : List ℕ
+  content = take 65535 (drop from s)
+
+  many : length content ≡ n
+  many = omega (arith, length-take 65535 (drop from s), length-drop from s)
+
+  the-bytes : oneField (tagged tag content) ≡ (tag ∷ inTwo n) ++ content
+  unfolding fieldBytes
+  the-bytes = field-some tag content (some-letters 65535 from s (omega arith) (omega arith)) ∙ ap (λ (m : ℕ). (tag ∷ inTwo m) ++ content) many
+
+  all-fit : length ((tag ∷ inTwo n) ++ content) ≤ length old
+  all-fit = omega (arith, ap length the-bytes)
+
+  pub head-room : (n < 65536) × (3 ≤ length old)
+  unfolding inTwo
+  head-room = (omega arith, omega (arith, all-fit))
+
+  pub within : from + n ≤ length s
+  within = omega arith
+
+  module _ (head : ℕ) (out : List ℕ) (three : head ≡ 3) (written : out ≡ over (tag ∷ inTwo n) old) where
+    behind : head ≡ length (tag ∷ inTwo n)
+    unfolding inTwo
+    behind = three
+
+    pub head-fits : head ≤ length out
+    head-fits = front-fits (tag ∷ inTwo n) content old out head behind all-fit written
+
+    pub letters-room : from + n - from ≤ length (take (length out - head) (drop head out))
+    letters-room = omega (arith, many, room-behind (tag ∷ inTwo n) content old out head behind all-fit written)
+
+    pub letters-done : (l : List ℕ) → l ≡ over (part from (from + n) s) (take (length out - head) (drop head out))
+        → (head + n ≡ length (oneField (tagged tag content))) × (putMid head (length out - head) out l ≡ over (oneField (tagged tag content)) old)
+    unfolding part
+    letters-done l e =
+        rw the-bytes
+        (written-behind (tag ∷ inTwo n) content old out head behind all-fit written l n (sym many) (e ∙ ap (λ (q : List ℕ). over q (take (length out - head) (drop head out))) (taken-part 65535 from s n (is ∙ ap (λ (k : ℕ). min 65535 (k - from)) sized))))
 
 -- a choice that gives nothing
 pub chosen-none : {A : Type 0} (b : Bool) (x : List A) → b ≡ true → length (if b then [] else x) ≡ 0
@@ -129,9 +170,9 @@ module _ (r : Reference) where
   unfolding heldBy
   held-1 = refl
 
-  pub held-2 : heldAt 2 r ≡ tagged 2 (if isLong r then [] else (inTwo (r .cs) ++ inTwo (r .ce)))
-  unfolding heldBy
-  held-2 = refl
+  pub held-2 : (n : ℕ) → n ≡ length (r .letters) → heldAt 2 r ≡ tagged 2 (if ltb 16384 n then [] else (inTwo (r .cs) ++ inTwo (r .ce)))
+  unfolding heldBy isLong rules.size
+  held-2 n e = rw e
 
   pub held-3 : heldAt 3 r ≡ tagged 3 (r .table ∷ [])
   unfolding heldBy
@@ -152,9 +193,9 @@ module _ (r : Reference) where
       last-letters : (n from : ℕ) (s : List ℕ) → length s ≤ from + n → take n (drop from s) ≡ drop from s
       last-letters n from s h = take-all n (drop from s) (omega (arith, length-drop from s))
 
-  pub held-7 : heldAt 7 r ≡ tagged 7 (if isLong r then (inFour (r .cs) ++ inFour (r .ce)) else [])
-  unfolding heldBy
-  held-7 = refl
+  pub held-7 : (n : ℕ) → n ≡ length (r .letters) → heldAt 7 r ≡ tagged 7 (if ltb 16384 n then (inFour (r .cs) ++ inFour (r .ce)) else [])
+  unfolding heldBy isLong rules.size
+  held-7 n e = rw e
 
   pub held-8 : heldAt 8 r ≡ endField (r .end)
   unfolding heldBy
@@ -168,7 +209,8 @@ eight-held r = refl
 pub record Numbers (s : List ℕ) (c : Cds) (e : Exceptions) : Type 0 where
   pub some : 1 ≤ length s
   pub size : length s ≤ 131072
-  pub narrow : ltb 16384 (length s) ≡ false → (c .cs < 65536) × (c .ce < 65536)
+  pub letters : all isLetter s ≡ true
+  pub narrow : (n : ℕ) → n ≡ length s → ltb 16384 n ≡ false → (c .cs < 65536) × (c .ce < 65536)
   pub wide : (c .cs < 4294967296) × (c .ce < 4294967296)
   pub table : c .table < 256
   pub count : e .count ≤ 16
@@ -192,7 +234,8 @@ numbers s c e clear =
     record {
       some = a .some;
       size = a .fits;
-      narrow = λ h. let short : length s ≤ 16384 = ltb-false 16384 (length s) h in (omega (arith, a .bounds .inside, a .bounds .rising), omega (arith, a .bounds .inside));
+      letters = a .letters;
+      narrow = λ n is h. let short : n ≤ 16384 = ltb-false 16384 n h in (omega (arith, a .bounds .inside, a .bounds .rising), omega (arith, a .bounds .inside));
       wide = (omega (arith, a .bounds .inside, a .bounds .rising, a .fits), omega (arith, a .bounds .inside, a .fits));
       table = omega (arith, a .table);
       count = omega (arith, a .few, many);

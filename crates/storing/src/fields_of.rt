@@ -3,14 +3,20 @@ use crate::numbers_of::write_excepted;
 use crate::numbers_of::write_narrow;
 use crate::numbers_of::write_one;
 use crate::numbers_of::write_wide;
-use fields::write_field;
+use fields::write_head;
 use numbers::least;
+use packed::copy_letters;
+use packed::size_of;
 use rules::Cds;
 use rules::Exceptions;
+use rules::Form;
 ghost use mathlib.Core.Path.{_≡_};
+ghost use mathlib.Core.Bool.{true};
 ghost use Prim.Native.Nat.{_≤_, _<_};
 ghost use lib.ListN.{length, take, drop};
-ghost use Rattle.rules.specs.Bytes.{over};
+ghost use Rattle.rules.specs.Bytes.{all, over};
+ghost use Rattle.rules.specs.Letters.{isLetter};
+ghost use Rattle.rules.specs.Packed.{lettersBy};
 ghost use Rattle.rules.specs.Storing.{tagged};
 ghost use Rattle.rules.specs.Views.{referenceOf};
 ghost use Rattle.storing.specs.Forming.{oneField, endField, heldAt, Clear};
@@ -21,17 +27,21 @@ const FULL: usize = 65535;
 // The longest transcript whose bounds take two bytes each.
 const NARROW: usize = 16384;
 
-// The letters from a place on, as many as one field holds; none where the transcript has ended.
-fn write_letters(tag: u8, letters: &[u8], from: usize, out: &mut [u8]) -> usize
-    requires { ⌜ length (oneField (tagged tag (take 65535 (drop from (now letters))))) ≤ length (now out) ⌝ }
-    ensures { λ r. ⌜ r ≡ length (oneField (tagged tag (take 65535 (drop from (now (letters .entry)))))) ⌝ }
-    ensures { λ _. ⌜ now (out .exit) ≡ over (oneField (tagged tag (take 65535 (drop from (now (letters .entry)))))) (now (out .entry)) ⌝ }
+// The letters from a place on, a byte each, as many as one field holds; none where the transcript has ended.
+fn write_letters(tag: u8, letters: &[u8], form: Form, from: usize, out: &mut [u8]) -> usize
+    requires { ⌜ all isLetter (lettersBy form (now letters)) ≡ true ⌝ }
+    requires { ⌜ length (oneField (tagged tag (take 65535 (drop from (lettersBy form (now letters)))))) ≤ length (now out) ⌝ }
+    ensures { λ r. ⌜ r ≡ length (oneField (tagged tag (take 65535 (drop from (lettersBy form (now (letters .entry))))))) ⌝ }
+    ensures { λ _. ⌜ now (out .exit) ≡ over (oneField (tagged tag (take 65535 (drop from (lettersBy form (now (letters .entry))))))) (now (out .entry)) ⌝ }
 {
-    if letters.len() <= from {
+    let size = size_of(letters, form);
+    if size <= from {
         return 0;
     }
-    let end = from + least(FULL, letters.len() - from);
-    write_field(tag, &letters[from..end], out)
+    let len = least(FULL, size - from);
+    let head = write_head(tag, len, out);
+    copy_letters(letters, form, from, from + len, &mut out[head..]);
+    head + len
 }
 
 // Tag 8; none where the CDS ends at a stop.
@@ -48,21 +58,28 @@ fn write_end(c: Cds, out: &mut [u8]) -> usize
 }
 
 // The field of a tag, 1 to 8.
-pub(crate) fn write_tag(tag: u8, letters: &[u8], c: Cds, e: Exceptions, out: &mut [u8]) -> usize
-    requires { ⌜ Clear (now letters) c e ⌝ }
+pub(crate) fn write_tag(
+    tag: u8,
+    letters: &[u8],
+    form: Form,
+    c: Cds,
+    e: Exceptions,
+    out: &mut [u8],
+) -> usize
+    requires { ⌜ Clear (lettersBy form (now letters)) c e ⌝ }
     requires { ⌜ (1 ≤ tag) × (tag ≤ 8) ⌝ }
-    requires { ⌜ length (oneField (heldAt tag (referenceOf (now letters) c e))) ≤ length (now out) ⌝ }
-    ensures { λ r. ⌜ r ≡ length (oneField (heldAt tag (referenceOf (now (letters .entry)) c e))) ⌝ }
-    ensures { λ _. ⌜ now (out .exit) ≡ over (oneField (heldAt tag (referenceOf (now (letters .entry)) c e))) (now (out .entry)) ⌝ }
+    requires { ⌜ length (oneField (heldAt tag (referenceOf (lettersBy form (now letters)) c e))) ≤ length (now out) ⌝ }
+    ensures { λ r. ⌜ r ≡ length (oneField (heldAt tag (referenceOf (lettersBy form (now (letters .entry))) c e))) ⌝ }
+    ensures { λ _. ⌜ now (out .exit) ≡ over (oneField (heldAt tag (referenceOf (lettersBy form (now (letters .entry))) c e))) (now (out .entry)) ⌝ }
 {
-    let long = NARROW < letters.len();
+    let long = NARROW < size_of(letters, form);
     match tag {
-        1 => write_letters(1, letters, 0, out),
+        1 => write_letters(1, letters, form, 0, out),
         2 => write_narrow(long, c, out),
         3 => write_one(3, c.table, out),
         4 => write_excepted(e, out),
-        5 => write_letters(5, letters, FULL, out),
-        6 => write_letters(6, letters, 2 * FULL, out),
+        5 => write_letters(5, letters, form, FULL, out),
+        6 => write_letters(6, letters, form, 2 * FULL, out),
         7 => write_wide(long, c, out),
         _ => write_end(c, out),
     }

@@ -1,16 +1,22 @@
--- `storing::fields_of::write_letters` meets its contract. Assumes nothing.
+-- `storing::fields_of::write_letters` meets its contract: the letters go into the part of the buffer that is lent on behind their head.
+-- Assumes nothing.
 use Prim.Native.Nat.{_<_}
 use native.Mathlib.Omega.{arith}
-use lib.ListN.{length, take, drop}
-use Rattle.storing.proofs.Forms.{nothing, a-field, room-for, no-letters, some-letters, few-letters, taken-part}
+use lib.ListN.{take, drop}
+use Rattle.rules.specs.Packed.{lettersBy}
+use Rattle.storing.proofs.Forms.{nothing, no-letters, head-room, within, head-fits, letters-room, letters-done}
 use borrow.Author.Needs.{needs}
 use Rattle.storing.proofs.fields_of.write_letters.Statement.{statement}
 use Rattle.storing.proofs.fields_of.write_letters.Tie as tie
 
+size-of-requires : tie.Need-size-of-requires
+size-of-requires c κs = search needs
+
 returns : tie.Need-returns
 returns c =
-    let a = c .before .before .before .args in
-    nothing (a .tag) (take 65535 (drop (a .from) (a .letters .now))) (a .out .now) (no-letters 65535 (a .from) (a .letters .now) (omega arith))
+    let a = c .before .before .before .before .args in
+    let s = lettersBy (a .form) (a .letters .now) in
+    nothing (a .tag) (take 65535 (drop (a .from) s)) (a .out .now) (no-letters 65535 (a .from) s (omega (arith, c .before .size-of .ensures)))
 
 sub-least : tie.Need-sub-least
 sub-least c = search needs
@@ -18,49 +24,87 @@ sub-least c = search needs
 least-requires : tie.Need-least-requires
 least-requires c κs = search needs
 
-add-end : tie.Need-add-end
-add-end c = search needs
+write-head-requires : tie.Need-write-head-requires
+write-head-requires c κs =
+    let start = c .before .before .before .before .before .before in
+    let a = start .args in
+    let s = lettersBy (a .form) (a .letters .now) in
+    let size = c .before .before .before .size-of in
+    let least = c .before .least in
+    let there : a .from < size .result = omega arith in
+    head-room (a .tag) (a .from) (size .result) (least .result) s (a .out .now) (size .ensures) there (least .ensures) (start .pre .1)
 
-sub-write-field : tie.Need-sub-write-field
-sub-write-field c = search needs
+add-copy-letters : tie.Need-add-copy-letters
+add-copy-letters c = search needs
 
-part-write-field-start : tie.Need-part-write-field-start
-part-write-field-start c = search needs
+sub-copy-letters : tie.Need-sub-copy-letters
+sub-copy-letters c =
+    let start = c .before .before .before .before .before .before .before .before .before in
+    let a = start .args in
+    let s = lettersBy (a .form) (a .letters .now) in
+    let size = c .before .before .before .before .before .before .size-of in
+    let least = c .before .before .before .before .least in
+    let there : a .from < size .result = omega arith in
+    let head = c .before .before .write-head in
+    head-fits (a .tag) (a .from) (size .result) (least .result) s (a .out .now) (size .ensures) there (least .ensures) (start .pre .1) (head .result) (head .last .1 .1 .0) (head .ensures .0) (head .ensures .1)
 
-part-write-field-end : tie.Need-part-write-field-end
-part-write-field-end c = search needs
+part-copy-letters-start : tie.Need-part-copy-letters-start
+part-copy-letters-start c =
+    let start = c .before .before .before .before .before .before .before .before .before in
+    let a = start .args in
+    let s = lettersBy (a .form) (a .letters .now) in
+    let size = c .before .before .before .before .before .before .size-of in
+    let least = c .before .before .before .before .least in
+    let there : a .from < size .result = omega arith in
+    let head = c .before .before .write-head in
+    head-fits (a .tag) (a .from) (size .result) (least .result) s (a .out .now) (size .ensures) there (least .ensures) (start .pre .1) (head .result) (head .last .1 .1 .0) (head .ensures .0) (head .ensures .1)
 
-write-field-requires : tie.Need-write-field-requires
-write-field-requires c κs =
-    let s = c .before .before .before .before .before .before in
-    let a = s .args in
-    let there : a .from < length (a .letters .now) = omega arith in
-    room-for (a .tag) (take 65535 (drop (a .from) (a .letters .now))) _ (length (a .out .now)) (taken-part 65535 (a .from) (a .letters .now) (c .before .before .least .result) (c .before .before .least .ensures))
-    (some-letters 65535 (a .from) (a .letters .now) (omega arith) there) (few-letters 65535 (a .from) (a .letters .now)) (s .pre)
+part-copy-letters-end : tie.Need-part-copy-letters-end
+part-copy-letters-end c = search needs
+
+copy-letters-requires : tie.Need-copy-letters-requires
+copy-letters-requires c κs =
+    let start = c .before .before .before .before .before .before .before .before .before .before in
+    let a = start .args in
+    let s = lettersBy (a .form) (a .letters .now) in
+    let size = c .before .before .before .before .before .before .before .size-of in
+    let least = c .before .before .before .before .before .least in
+    let there : a .from < size .result = omega arith in
+    let head = c .before .before .before .write-head in
+    (record { letters = start .pre .0; rising = omega arith; ends = within (a .tag) (a .from) (size .result) (least .result) s (a .out .now) (size .ensures) there (least .ensures) (start .pre .1) }, letters-room (a .tag) (a .from) (size .result) (least .result) s (a .out .now) (size .ensures) there (least .ensures) (start .pre .1) (head .result) (head .last .1 .1 .0) (head .ensures .0) (head .ensures .1))
+
+add-result : tie.Need-add-result
+add-result c = search needs
 
 same-length : tie.Need-same-length
 same-length c = search needs
 
 returns-2 : tie.Need-returns-2
 returns-2 c =
-    let a = c .before .before .before .before .before .before .before .before .before .args in
-    let w = c .before .before .write-field in
-    let l = c .before .before .before .before .before .least in
-    let there : a .from < length (a .letters .now) = omega arith in
-    a-field (a .tag) (take 65535 (drop (a .from) (a .letters .now))) _ (a .out .now) (w .last .1 .1 .0) (w .result) (taken-part 65535 (a .from) (a .letters .now) (l .result) (l .ensures))
-    (some-letters 65535 (a .from) (a .letters .now) (omega arith) there) (w .ensures .0) (w .ensures .1)
+    let start = c .before .before .before .before .before .before .before .before .before .before .before .before .before in
+    let a = start .args in
+    let s = lettersBy (a .form) (a .letters .now) in
+    let size = c .before .before .before .before .before .before .before .before .before .before .size-of in
+    let least = c .before .before .before .before .before .before .before .before .least in
+    let there : a .from < size .result = omega arith in
+    let head = c .before .before .before .before .before .before .write-head in
+    let copied = c .before .before .copy-letters in
+    letters-done (a .tag) (a .from) (size .result) (least .result) s (a .out .now) (size .ensures) there (least .ensures) (start .pre .1) (head .result) (head .last .1 .1 .0) (head .ensures .0) (head .ensures .1) (copied .last .1 .1 .1 .1 .0) (copied .ensures)
 
 pub write-letters-spec : {M : Type 1} → statement M
 write-letters-spec =
     tie.close
     (tie.spec
+    size-of-requires
     returns
     sub-least
     least-requires
-    add-end
-    sub-write-field
-    part-write-field-start
-    part-write-field-end
-    write-field-requires
+    write-head-requires
+    add-copy-letters
+    sub-copy-letters
+    part-copy-letters-start
+    part-copy-letters-end
+    copy-letters-requires
+    add-result
     same-length
     returns-2)
