@@ -4,12 +4,12 @@ use crate::numbers::cds_at;
 use crate::numbers::checked_of;
 use crate::numbers::edit_at;
 use checks::Proposed;
-use checks::check_altseq;
 use rules::Question;
 use stored_fields::exceptions_in;
+use within::Claim;
+use within::check_within;
 ghost use mathlib.Core.Path.{_≡_};
-ghost use Rattle.rules.specs.Refusal.{limits};
-ghost use Rattle.rules.specs.Check.{checkOutcome};
+ghost use Rattle.rules.specs.Longest.{checkWithin};
 ghost use Rattle.rules.specs.Views.{roomOf};
 ghost use Rattle.proposals.specs.Proposed.{proposed};
 ghost use Rattle.garumbott.specs.Host.{hostReference, hostAsked, Judges};
@@ -28,6 +28,7 @@ pub extern "C" fn garumbott_check(
     end_star: u64,
     end: i64,
     bases: &[u8],
+    longest: u64,
     number: u64,
     deleted: &[u8],
     inserted: &[u8],
@@ -36,7 +37,7 @@ pub extern "C" fn garumbott_check(
     altered: &mut [u8],
 ) -> GarumbottChecked
     ensures { λ r. ⌜ Judges
-        (checkOutcome limits (hostReference (now (letters .entry)) cs ce table (now (exceptions .entry)) «cds_end») (hostAsked kind «start_star» start «end_star» end (now (bases .entry))) (proposed number (now (deleted .entry)) (now (inserted .entry))) (roomOf (now (transcript .entry)) (now (reference .entry)) (now (altered .entry))))
+        (checkWithin longest (hostReference (now (letters .entry)) cs ce table (now (exceptions .entry)) «cds_end») (hostAsked kind «start_star» start «end_star» end (now (bases .entry))) (proposed number (now (deleted .entry)) (now (inserted .entry))) (roomOf (now (transcript .entry)) (now (reference .entry)) (now (altered .entry))))
         r (now (transcript .entry)) (now (transcript .exit)) (now (reference .entry)) (now (reference .exit)) (now (altered .entry)) (now (altered .exit)) ⌝ }
 {
     let cds = cds_at(cs, ce, table, cds_end);
@@ -47,9 +48,13 @@ pub extern "C" fn garumbott_check(
         asks,
         number: number as usize,
     };
-    checked_of(check_altseq(
-        letters,
+    let claim = Claim {
         proposed,
+        longest: longest as usize,
+    };
+    checked_of(check_within(
+        letters,
+        claim,
         bases,
         deleted,
         inserted,

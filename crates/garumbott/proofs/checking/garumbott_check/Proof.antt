@@ -2,12 +2,11 @@
 use mathlib.Core.Path.{ap, _∙_}
 use borrow.Author.Needs.{needs}
 use Rattle.rules.specs.declared.Cds.{Cds}
-use Rattle.rules.specs.Refusal.{limits}
 use Rattle.rules.specs.Views.{cdsOf, roomOf}
 use Rattle.proposals.specs.Proposed.{proposed}
 use Rattle.garumbott.specs.Host.{hostAsked, checkedOf}
-use Rattle.garumbott.proofs.Excepted.{check-given}
 use Rattle.garumbott.proofs.Given.{given-edit}
+use Rattle.garumbott.proofs.Within.{check-host}
 use Rattle.garumbott.proofs.checking.garumbott_check.Statement.{statement}
 use Rattle.garumbott.proofs.checking.garumbott_check.Tie as tie
 
@@ -16,10 +15,10 @@ returns c =
     let given = c .before .before .before .before .before .before .before .before .before .before .before in
     let start = given .before .before .before .before .before .before .before .before .before .before .before in
     let a = start .args in
-    let x = c .before .before .before .before .before .before .before .check-altseq .ensures in
+    let x = c .before .before .before .before .before .before .before .check-within .ensures in
     let cds = given .before .before .cds-at .ensures in
     let edit = given-edit (a .kind) (a .start-star) (a .start) (a .end-star) (a .end) (start .fits .start) (start .fits .end) (given .edit-at .result) (given .edit-at .ensures) in
-    let same = check-given limits (a .letters .now) (cdsOf (a .cs) (a .ce) (a .table) (a .cds-end)) (hostAsked (a .kind) (a .start-star) (a .start) (a .end-star) (a .end) (a .bases .now)) (proposed (a .number) (a .deleted .now) (a .inserted .now)) (roomOf (a .transcript .now) (a .reference .now) (a .altered .now)) (a .exceptions .now) in
+    let same = check-host (a .longest) (a .letters .now) (cdsOf (a .cs) (a .ce) (a .table) (a .cds-end)) (a .exceptions .now) (hostAsked (a .kind) (a .start-star) (a .start) (a .end-star) (a .end) (a .bases .now)) (proposed (a .number) (a .deleted .now) (a .inserted .now)) (roomOf (a .transcript .now) (a .reference .now) (a .altered .now)) in
     rw (← same, ← edit, ← given .before .exceptions-in .ensures, ← cds, ← ap (λ (c : Cds). c .end) cds)
     (record {
       says = c .checked-of .ensures ∙ ap checkedOf (x .says);

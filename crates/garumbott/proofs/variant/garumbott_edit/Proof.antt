@@ -3,20 +3,19 @@ use mathlib.Core.Path.{ap, _∙_}
 use borrow.Author.Needs.{needs}
 use lib.ListN.{length}
 use Rattle.rules.specs.declared.Cds.{Cds}
-use Rattle.rules.specs.Refusal.{limits}
 use Rattle.rules.specs.Views.{cdsOf}
 use Rattle.garumbott.specs.Host.{hostAsked, transcribedOf}
-use Rattle.garumbott.proofs.Excepted.{edited-given}
 use Rattle.garumbott.proofs.Given.{given-edit}
+use Rattle.garumbott.proofs.Within.{edited-host}
 use Rattle.garumbott.proofs.variant.garumbott_edit.Statement.{statement}
 use Rattle.garumbott.proofs.variant.garumbott_edit.Tie as tie
 
 returns : tie.Need-returns
 returns c =
     let a = c .before .before .before .before .before .before .before .before .before .before .before .before .args in
-    let x = c .before .before .before .build-transcript .ensures in
+    let x = c .before .before .before .transcript-within .ensures in
     let edit = given-edit (a .kind) (a .start-star) (a .start) (a .end-star) (a .end) (c .before .before .before .before .before .before .before .before .before .before .before .before .fits .start) (c .before .before .before .before .before .before .before .before .before .before .before .before .fits .end) (c .before .before .before .before .before .edit-at .result) (c .before .before .before .before .before .edit-at .ensures) in
-    let same = edited-given limits (a .letters .now) (cdsOf (a .cs) (a .ce) (a .table) (a .cds-end)) (hostAsked (a .kind) (a .start-star) (a .start) (a .end-star) (a .end) (a .bases .now)) (length (a .transcript .now)) (a .exceptions .now) in
+    let same = edited-host (a .longest) (a .letters .now) (cdsOf (a .cs) (a .ce) (a .table) (a .cds-end)) (a .exceptions .now) (hostAsked (a .kind) (a .start-star) (a .start) (a .end-star) (a .end) (a .bases .now)) (length (a .transcript .now)) in
     rw (← same, ← edit, ← c .before .before .before .before .before .before .exceptions-in .ensures, ← c .before .before .before .before .before .before .before .cds-at .ensures, ← ap (λ (c : Cds). c .end) (c .before .before .before .before .before .before .before .cds-at .ensures)) (c .transcribed-of .ensures ∙ ap transcribedOf (x .0), x .1)
 
 pub garumbott-edit-spec : {M : Type 1} → statement M
