@@ -8,6 +8,7 @@ use native.Mathlib.Omega.{arith}
 use lib.Dec.{leb}
 use lib.ListN.{length}
 use borrow.Author.Tests.{le-leb}
+use Rattle.rules.specs.declared.Form.{Form}
 use Rattle.rules.specs.declared.Cds.{Cds}
 use Rattle.rules.specs.declared.Exception.{Exception}
 use Rattle.rules.specs.declared.Exceptions.{Exceptions}
@@ -15,6 +16,7 @@ use Rattle.rules.specs.Bytes.{firstOf}
 use Rattle.rules.specs.Translation.{exceptionList}
 use Rattle.rules.specs.Reference.{Reference, size, cdsSize, areBounds, codons, areRising, fitExceptions, isCutShort, referenceTests}
 use Rattle.rules.specs.Refusal.{referenceRefusal}
+use Rattle.rules.specs.Packed.{lettersBy, formAt}
 use Rattle.rules.specs.Editions.{compared}
 use Rattle.rules.specs.Views.{cdsOf, referenceOf}
 use Rattle.rules.proofs.Tests.{and-both}
@@ -57,11 +59,11 @@ module _ (longest : ℕ) (s : List ℕ) (c : Cds) where
       alike : (es fs : List Exception) → Unfit es → Unfit fs → compared longest r (with es) room ≡ compared longest r (with fs) room
       alike es fs u v = by es fs u v (referenceRefusal longest r) refl
 
--- what is compared of a host's numbers, c, d, e and f being what they were made
-pub both-given : (longest : ℕ) (s u : List ℕ) (c d : Cds) (e f : Exceptions) (cs ce table end cs′ ce′ table′ end′ : ℕ) (x y : List ℕ) (room : ℕ)
-    → c ≡ cdsOf cs ce table end → e ≡ exceptionsOf x → d ≡ cdsOf cs′ ce′ table′ end′ → f ≡ exceptionsOf y
-    → compared longest (referenceOf s c e) (referenceOf u d f) room ≡ compared longest (hostReference s cs ce table x end) (hostReference u cs′ ce′ table′ y end′) room
-both-given longest s u c d e f cs ce table end cs′ ce′ table′ end′ x y room p q p′ q′ =
-    rw (p, q, p′, q′)
-    (first-given longest s (cdsOf cs ce table end) (referenceOf u (cdsOf cs′ ce′ table′ end′) (exceptionsOf y)) room x
-    ∙ second-given longest u (cdsOf cs′ ce′ table′ end′) (hostReference s cs ce table x end) room y)
+-- what is compared of a host's numbers, c, d, e, f, g and h being what they were made
+pub both-given : (longest : ℕ) (s u : List ℕ) (c d : Cds) (e f : Exceptions) (g h : Form) (cs ce table end form size cs′ ce′ table′ end′ form′ size′ : ℕ) (x y : List ℕ) (room : ℕ)
+    → c ≡ cdsOf cs ce table end → e ≡ exceptionsOf x → g ≡ formAt form size → d ≡ cdsOf cs′ ce′ table′ end′ → f ≡ exceptionsOf y → h ≡ formAt form′ size′
+    → compared longest (referenceOf (lettersBy g s) c e) (referenceOf (lettersBy h u) d f) room ≡ compared longest (hostReference s cs ce table x end form size) (hostReference u cs′ ce′ table′ y end′ form′ size′) room
+both-given longest s u c d e f g h cs ce table end form size cs′ ce′ table′ end′ form′ size′ x y room p q k p′ q′ k′ =
+    rw (p, q, k, p′, q′, k′)
+    (first-given longest (lettersBy (formAt form size) s) (cdsOf cs ce table end) (referenceOf (lettersBy (formAt form′ size′) u) (cdsOf cs′ ce′ table′ end′) (exceptionsOf y)) room x
+    ∙ second-given longest (lettersBy (formAt form′ size′) u) (cdsOf cs′ ce′ table′ end′) (hostReference s cs ce table x end form size) room y)

@@ -22,11 +22,13 @@ use Rattle.rules.specs.Refusal.{Room, referenceRefusal, refusal}
 use Rattle.rules.specs.Check.{Proposal, checksNothing, checkBy, checkOutcome}
 use Rattle.rules.specs.Answer.{outcome}
 use Rattle.rules.specs.Pair.{PairRoom, pairOutcome}
+use Rattle.rules.specs.Panel.{panelOutcome}
 use Rattle.rules.specs.Stored.{exceptionsIn}
 use Rattle.rules.specs.Storing.{writtenReference}
 use Rattle.rules.proofs.Answers.{refused-by}
 use Rattle.rules.proofs.Writing.{refuses}
 use Rattle.rules.proofs.PairAnswers.{reference-refused}
+use Rattle.rules.proofs.Panels.{refused-as}
 use Rattle.stored_fields.specs.Held.{exceptionsOf}
 use Rattle.stored_fields.proofs.Held.{list-few, list-length, list-uneven}
 use Rattle.rules.specs.declared.Cds.{Cds}
@@ -113,15 +115,29 @@ module _ (m : Limits) (s : List ℕ) (c : Cds) where
   unfolding lowest refusal referenceTests firstOf areBounds size cdsSize fitExceptions
   refusal-unfit es a u = rw (u .rising (codons (with es)))
 
-  pub outcome-given : (a : Asked) (room : Room) (x : List ℕ) → outcome m (with (exceptionList (exceptionsOf x))) a room ≡ outcome m (with (exceptionsAt x)) a room
-  outcome-given a room x = as-given (λ es. outcome m (with es) a room) alike x
+  outcome-alike : (a : Asked) (room : Room) (es fs : List Exception) → Unfit es → Unfit fs → outcome m (with es) a room ≡ outcome m (with fs) a room
+  outcome-alike a room es fs u v = by lowest (refusal-unfit es a u) (refusal-unfit fs a v) lowest-some
     where
-      by : (es fs : List Exception) (n : ℕ) → refusal m (with es) a ≡ n → refusal m (with fs) a ≡ n → (n ≡ 0 → ⊥) → outcome m (with es) a room ≡ outcome m (with fs) a room
-      by es fs zero h k some = absurd (some refl)
-      by es fs (suc n) h k some = refused-by m (with es) a room n h ∙ sym (refused-by m (with fs) a room n k)
+      by : (n : ℕ) → refusal m (with es) a ≡ n → refusal m (with fs) a ≡ n → (n ≡ 0 → ⊥) → outcome m (with es) a room ≡ outcome m (with fs) a room
+      by zero h k some = absurd (some refl)
+      by (suc n) h k some = refused-by m (with es) a room n h ∙ sym (refused-by m (with fs) a room n k)
 
-      alike : (es fs : List Exception) → Unfit es → Unfit fs → outcome m (with es) a room ≡ outcome m (with fs) a room
-      alike es fs u v = by es fs lowest (refusal-unfit es a u) (refusal-unfit fs a v) lowest-some
+  pub outcome-given : (a : Asked) (room : Room) (x : List ℕ) → outcome m (with (exceptionList (exceptionsOf x))) a room ≡ outcome m (with (exceptionsAt x)) a room
+  outcome-given a room x = as-given (λ es. outcome m (with es) a room) (outcome-alike a room) x
+
+  -- the profile refuses them as the full module does
+  panel-unfit : (es : List Exception) (a : Asked) (named : ℕ) (room : Room) → Unfit es → panelOutcome m (with es) a named room ≡ outcome m (with es) a room
+  panel-unfit es a named room u = by lowest (refusal-unfit es a u) lowest-some
+    where
+      by : (n : ℕ) → refusal m (with es) a ≡ n → (n ≡ 0 → ⊥) → panelOutcome m (with es) a named room ≡ outcome m (with es) a room
+      by zero h some = absurd (some refl)
+      by (suc n) h some = refused-as m (with es) a named room n h
+
+  pub panel-given : (a : Asked) (named : ℕ) (room : Room) (x : List ℕ)
+      → panelOutcome m (with (exceptionList (exceptionsOf x))) a named room ≡ panelOutcome m (with (exceptionsAt x)) a named room
+  panel-given a named room x =
+      as-given (λ es. panelOutcome m (with es) a named room)
+      (λ es fs u v. panel-unfit es a named room u ∙ (outcome-alike a room es fs u v ∙ sym (panel-unfit fs a named room v))) x
 
   pub edited-given : (a : Asked) (room : ℕ) (x : List ℕ) → edited m (with (exceptionList (exceptionsOf x))) a room ≡ edited m (with (exceptionsAt x)) a room
   edited-given a room x = as-given (λ es. edited m (with es) a room) alike x

@@ -2,6 +2,7 @@
 pub mod Signed
 pub mod Given
 pub mod Excepted
+pub mod Within
 pub mod Compared
 pub mod Keeping
 pub mod Promised

@@ -4,7 +4,7 @@
 use mathlib.Core.Path.{_≡_, refl, sym, ap, subst, _∙_}
 use mathlib.Core.Bool.{Bool, true, false}
 use mathlib.Core.List.{List}
-use Prim.Native.Nat.{ℕ}
+use Prim.Native.Nat.{ℕ, zero, suc}
 use native.Mathlib.Omega.{arith}
 use lib.ListN.{length, take}
 use Rattle.rules.specs.declared.Class.the-variants.{Delins}
@@ -14,13 +14,16 @@ use Rattle.rules.specs.declared.Record.{Record}
 use Rattle.rules.specs.declared.Record.the-variants.{Unknown, NoProtein, Silent, Changed}
 use Rattle.rules.specs.declared.Answer.{Answer}
 use Rattle.rules.specs.declared.Answer.the-variants.{Refused, Reported}
-use Rattle.rules.specs.Bytes.{over}
+use Rattle.rules.specs.Bytes.{if_then_else_, firstOf, over}
 use Rattle.rules.specs.Reference.{Reference}
 use Rattle.rules.specs.Edit.{Asked}
-use Rattle.rules.specs.Refusal.{Room}
-use Rattle.rules.specs.Answer.{Outcome, outcome}
+use Rattle.rules.specs.Refusal.{refusal, Room}
+use Rattle.rules.specs.Answer.{Outcome, writesNothing, outcome}
+use Rattle.rules.specs.Longest.{isGivenLongest, limitsWith, withLongest, outcomeWithin}
+use Rattle.rules.specs.Panel.{profileTests, panelOutcome, panelWithin}
 use Rattle.rules.specs.Values.{flagNumber, toldBy, valuesOf}
 use Rattle.rules.proofs.Demand.{Demand}
+use Rattle.rules.proofs.Panels.{profiled, panel-is}
 use Rattle.altseq.proofs.Promised as promised
 use Rattle.garumbott.specs.declared.numbers.GarumbottAnswer.{GarumbottAnswer}
 use Rattle.garumbott.specs.Host.{isSet, answerOf, Tells}
@@ -86,6 +89,29 @@ module _ (m : Limits) (r : Reference) (e : Asked) (room : Room) (t t′ q q′ s
       by : (a : Answer) → outcome m r e room .answer ≡ a → Demanded x q′ s′
       by (Refused n) h = absurd (omega (arith, ap (λ (x : GarumbottAnswer). x .answer) (y .says ∙ ap answerOf h)))
       by (Reported p) h = by-record (p .found) (p .frameshift) (p .transcript) (p .reference) (p .altered) (p .codons) x (y .says ∙ ap answerOf h) h y four
+
+-- with the longest edit of a call: 62 is no change
+pub demanded-within : (n : ℕ) (r : Reference) (e : Asked) (room : Room) (t t′ q q′ s s′ : List ℕ) (x : GarumbottAnswer) → Tells (outcomeWithin n r e room) x t t′ q q′ s s′ → x .answer ≡ 4 → Demanded x q′ s′
+unfolding outcomeWithin withLongest writesNothing valuesOf
+demanded-within n r e room t t′ q q′ s s′ x y four = by (isGivenLongest n) y
+  where
+    by : (b : Bool) → Tells (if b then outcome (limitsWith n) r e room else writesNothing (Refused 62)) x t t′ q q′ s s′ → Demanded x q′ s′
+    by true y = demanded (limitsWith n) r e room t t′ q q′ s s′ x y four
+    by false y = absurd (omega (arith, ap (λ (x : GarumbottAnswer). x .answer) (y .says)))
+
+-- and under the panel profile, whose own refusals are none either
+pub demanded-panel : (n : ℕ) (r : Reference) (e : Asked) (named : ℕ) (room : Room) (t t′ q q′ s s′ : List ℕ) (x : GarumbottAnswer) → Tells (panelWithin n r e named room) x t t′ q q′ s s′ → x .answer ≡ 4 → Demanded x q′ s′
+unfolding panelWithin withLongest writesNothing valuesOf
+demanded-panel n r e named room t t′ q q′ s s′ x y four = by (isGivenLongest n) y
+  where
+    told : (m : Limits) (k p : ℕ) → Tells (profiled k p (outcome m r e room)) x t t′ q q′ s s′ → Demanded x q′ s′
+    told m (suc k) p y = demanded m r e room t t′ q q′ s s′ x y four
+    told m zero zero y = demanded m r e room t t′ q q′ s s′ x y four
+    told m zero (suc p) y = absurd (omega (arith, ap (λ (x : GarumbottAnswer). x .answer) (y .says)))
+
+    by : (b : Bool) → Tells (if b then panelOutcome (limitsWith n) r e named room else writesNothing (Refused 62)) x t t′ q q′ s s′ → Demanded x q′ s′
+    by true y = told (limitsWith n) (refusal (limitsWith n) r e) (firstOf (profileTests r e named)) (rw (panel-is (limitsWith n) r e named room) at y)
+    by false y = absurd (omega (arith, ap (λ (x : GarumbottAnswer). x .answer) (y .says)))
 
 -- two answers to one call, with the same buffers lent, are the same, and so is every byte that they leave
 pub record Alike (x₁ x₂ : GarumbottAnswer) (transcript₁ transcript₂ reference₁ reference₂ altered₁ altered₂ : List ℕ) : Type 0 where

@@ -1,3 +1,4 @@
 -- What only this crate's contracts want said.
 pub mod Host
 pub mod Keeping
+pub mod Kept

@@ -5,12 +5,12 @@ use crate::numbers::checked_of;
 use crate::numbers::edit_at;
 use crate::numbers::form_at;
 use checks::Proposed;
-use checks::check_altseq;
 use rules::Question;
 use stored_fields::exceptions_in;
+use within::Claim;
+use within::check_within;
 ghost use mathlib.Core.Path.{_≡_};
-ghost use Rattle.rules.specs.Refusal.{limits};
-ghost use Rattle.rules.specs.Check.{checkOutcome};
+ghost use Rattle.rules.specs.Longest.{checkWithin};
 ghost use Rattle.rules.specs.Views.{roomOf};
 ghost use Rattle.proposals.specs.Proposed.{proposed};
 ghost use Rattle.garumbott.specs.Host.{hostReference, hostAsked, Judges};
@@ -31,6 +31,7 @@ pub extern "C" fn garumbott_check(
     end_star: u64,
     end: i64,
     bases: &[u8],
+    longest: u64,
     number: u64,
     deleted: &[u8],
     inserted: &[u8],
@@ -39,7 +40,7 @@ pub extern "C" fn garumbott_check(
     altered: &mut [u8],
 ) -> GarumbottChecked
     ensures { λ r. ⌜ Judges
-        (checkOutcome limits (hostReference (now (letters .entry)) cs ce table (now (exceptions .entry)) «cds_end» form size) (hostAsked kind «start_star» start «end_star» end (now (bases .entry))) (proposed number (now (deleted .entry)) (now (inserted .entry))) (roomOf (now (transcript .entry)) (now (reference .entry)) (now (altered .entry))))
+        (checkWithin longest (hostReference (now (letters .entry)) cs ce table (now (exceptions .entry)) «cds_end» form size) (hostAsked kind «start_star» start «end_star» end (now (bases .entry))) (proposed number (now (deleted .entry)) (now (inserted .entry))) (roomOf (now (transcript .entry)) (now (reference .entry)) (now (altered .entry))))
         r (now (transcript .entry)) (now (transcript .exit)) (now (reference .entry)) (now (reference .exit)) (now (altered .entry)) (now (altered .exit)) ⌝ }
 {
     let cds = cds_at(cs, ce, table, cds_end);
@@ -55,9 +56,13 @@ pub extern "C" fn garumbott_check(
         asks,
         number: number as usize,
     };
-    checked_of(check_altseq(
-        letters,
+    let claim = Claim {
         proposed,
+        longest: longest as usize,
+    };
+    checked_of(check_within(
+        letters,
+        claim,
         bases,
         deleted,
         inserted,

@@ -5,17 +5,16 @@ use crate::numbers::cds_at;
 use crate::numbers::edit_at;
 use crate::numbers::form_at;
 use crate::numbers::transcribed_of;
-use altseq::build_altseq;
-use altseq::build_transcript;
 use rules::Question;
 use stored_fields::exceptions_in;
+use within::record_within;
+use within::transcript_within;
 ghost use mathlib.Core.Path.{_≡_};
 ghost use lib.ListN.{length};
 ghost use Rattle.rules.specs.Bytes.{over};
-ghost use Rattle.rules.specs.Refusal.{limits};
-ghost use Rattle.rules.specs.Answer.{outcome};
+ghost use Rattle.rules.specs.Longest.{outcomeWithin};
 ghost use Rattle.rules.specs.Views.{roomOf};
-ghost use Rattle.altseq.specs.Transcribing.{edited};
+ghost use Rattle.within.specs.Edited.{editedWithin};
 ghost use Rattle.garumbott.specs.Host.{hostReference, hostAsked, transcribedOf, Tells};
 
 #[no_mangle]
@@ -34,10 +33,11 @@ pub extern "C" fn garumbott_edit(
     end_star: u64,
     end: i64,
     bases: &[u8],
+    longest: u64,
     transcript: &mut [u8],
 ) -> GarumbottAnswer
-    ensures { λ r. ⌜ r ≡ transcribedOf (edited limits (hostReference (now (letters .entry)) cs ce table (now (exceptions .entry)) «cds_end» form size) (hostAsked kind «start_star» start «end_star» end (now (bases .entry))) (length (now (transcript .entry))) .answer) ⌝ }
-    ensures { λ _. ⌜ now (transcript .exit) ≡ over (edited limits (hostReference (now (letters .entry)) cs ce table (now (exceptions .entry)) «cds_end» form size) (hostAsked kind «start_star» start «end_star» end (now (bases .entry))) (length (now (transcript .entry))) .transcript) (now (transcript .entry)) ⌝ }
+    ensures { λ r. ⌜ r ≡ transcribedOf (editedWithin longest (hostReference (now (letters .entry)) cs ce table (now (exceptions .entry)) «cds_end» form size) (hostAsked kind «start_star» start «end_star» end (now (bases .entry))) (length (now (transcript .entry))) .answer) ⌝ }
+    ensures { λ _. ⌜ now (transcript .exit) ≡ over (editedWithin longest (hostReference (now (letters .entry)) cs ce table (now (exceptions .entry)) «cds_end» form size) (hostAsked kind «start_star» start «end_star» end (now (bases .entry))) (length (now (transcript .entry))) .transcript) (now (transcript .entry)) ⌝ }
 {
     let cds = cds_at(cs, ce, table, cds_end);
     let e = exceptions_in(exceptions);
@@ -48,7 +48,7 @@ pub extern "C" fn garumbott_edit(
         e,
         edit,
     };
-    transcribed_of(build_transcript(letters, asks, bases, transcript))
+    transcribed_of(transcript_within(letters, asks, longest as usize, bases, transcript))
 }
 
 #[no_mangle]
@@ -67,12 +67,13 @@ pub extern "C" fn garumbott_record(
     end_star: u64,
     end: i64,
     bases: &[u8],
+    longest: u64,
     transcript: &mut [u8],
     reference: &mut [u8],
     altered: &mut [u8],
 ) -> GarumbottAnswer
     ensures { λ r. ⌜ Tells
-        (outcome limits (hostReference (now (letters .entry)) cs ce table (now (exceptions .entry)) «cds_end» form size) (hostAsked kind «start_star» start «end_star» end (now (bases .entry))) (roomOf (now (transcript .entry)) (now (reference .entry)) (now (altered .entry))))
+        (outcomeWithin longest (hostReference (now (letters .entry)) cs ce table (now (exceptions .entry)) «cds_end» form size) (hostAsked kind «start_star» start «end_star» end (now (bases .entry))) (roomOf (now (transcript .entry)) (now (reference .entry)) (now (altered .entry))))
         r (now (transcript .entry)) (now (transcript .exit)) (now (reference .entry)) (now (reference .exit)) (now (altered .entry)) (now (altered .exit)) ⌝ }
 {
     let cds = cds_at(cs, ce, table, cds_end);
@@ -84,5 +85,13 @@ pub extern "C" fn garumbott_record(
         e,
         edit,
     };
-    answer_of(build_altseq(letters, asks, bases, transcript, reference, altered))
+    answer_of(record_within(
+        letters,
+        asks,
+        longest as usize,
+        bases,
+        transcript,
+        reference,
+        altered,
+    ))
 }

@@ -1,6 +1,7 @@
 // A reference written in the stored form.
 use crate::numbers::GarumbottLength;
 use crate::numbers::cds_at;
+use crate::numbers::form_at;
 use crate::numbers::length_of;
 use stored_fields::exceptions_in;
 use storing::write_stored;
@@ -20,12 +21,14 @@ pub extern "C" fn garumbott_write_stored(
     table: u64,
     exceptions: &[u8],
     cds_end: u64,
+    form: u64,
+    size: u64,
     out: &mut [u8],
 ) -> GarumbottLength
-    ensures { λ r. ⌜ r ≡ lengthOf (writtenOf (writtenReference (limits .longest) (hostReference (now (letters .entry)) cs ce table (now (exceptions .entry)) «cds_end») (length (now (out .entry))))) ⌝ }
-    ensures { λ _. ⌜ now (out .exit) ≡ over (bytesOf (writtenReference (limits .longest) (hostReference (now (letters .entry)) cs ce table (now (exceptions .entry)) «cds_end») (length (now (out .entry))))) (now (out .entry)) ⌝ }
+    ensures { λ r. ⌜ r ≡ lengthOf (writtenOf (writtenReference (limits .longest) (hostReference (now (letters .entry)) cs ce table (now (exceptions .entry)) «cds_end» form size) (length (now (out .entry))))) ⌝ }
+    ensures { λ _. ⌜ now (out .exit) ≡ over (bytesOf (writtenReference (limits .longest) (hostReference (now (letters .entry)) cs ce table (now (exceptions .entry)) «cds_end» form size) (length (now (out .entry))))) (now (out .entry)) ⌝ }
 {
     let cds = cds_at(cs, ce, table, cds_end);
     let e = exceptions_in(exceptions);
-    length_of(write_stored(letters, cds, e, out))
+    length_of(write_stored(letters, form_at(form, size), cds, e, out))
 }

@@ -2,12 +2,11 @@
 use borrow.Author.Needs.{needs}
 use mathlib.Core.Path.{ap, _∙_}
 use Rattle.rules.specs.declared.Cds.{Cds}
-use Rattle.rules.specs.Refusal.{limits}
-use Rattle.rules.specs.Views.{cdsOf, roomOf}
 use Rattle.rules.specs.Packed.{lettersBy, formAt}
+use Rattle.rules.specs.Views.{cdsOf, roomOf}
 use Rattle.garumbott.specs.Host.{hostAsked, answerOf}
-use Rattle.garumbott.proofs.Excepted.{outcome-given}
 use Rattle.garumbott.proofs.Given.{given-edit}
+use Rattle.garumbott.proofs.Within.{outcome-host}
 use Rattle.garumbott.proofs.variant.garumbott_record.Statement.{statement}
 use Rattle.garumbott.proofs.variant.garumbott_record.Tie as tie
 
@@ -16,10 +15,10 @@ returns c =
     let given = c .before .before .before .before .before .before .before .before .before .before .before in
     let start = given .before .before .before .before .before .before .before .before .before .before in
     let a = start .args in
-    let x = c .before .before .before .before .before .before .before .build-altseq .ensures in
+    let x = c .before .before .before .before .before .before .before .record-within .ensures in
     let cds = given .before .before .before .cds-at .ensures in
     let edit = given-edit (a .kind) (a .start-star) (a .start) (a .end-star) (a .end) (start .fits .start) (start .fits .end) (given .before .edit-at .result) (given .before .edit-at .ensures) in
-    let same = outcome-given limits (lettersBy (formAt (a .form) (a .size)) (a .letters .now)) (cdsOf (a .cs) (a .ce) (a .table) (a .cds-end)) (hostAsked (a .kind) (a .start-star) (a .start) (a .end-star) (a .end) (a .bases .now)) (roomOf (a .transcript .now) (a .reference .now) (a .altered .now)) (a .exceptions .now) in
+    let same = outcome-host (a .longest) (lettersBy (formAt (a .form) (a .size)) (a .letters .now)) (cdsOf (a .cs) (a .ce) (a .table) (a .cds-end)) (a .exceptions .now) (hostAsked (a .kind) (a .start-star) (a .start) (a .end-star) (a .end) (a .bases .now)) (roomOf (a .transcript .now) (a .reference .now) (a .altered .now)) in
     rw (← same, ← given .form-at .ensures, ← edit, ← given .before .before .exceptions-in .ensures, ← cds, ← ap (λ (c : Cds). c .end) cds)
     (record {
       says = c .answer-of .ensures ∙ ap answerOf (x .says);
@@ -32,6 +31,7 @@ pub garumbott-record-spec : {M : Type 1} → statement M
 garumbott-record-spec =
     tie.close
     (tie.spec
+    (λ c κs. search needs)
     (λ c κs. search needs)
     (λ c κs. search needs)
     (λ c κs. search needs)

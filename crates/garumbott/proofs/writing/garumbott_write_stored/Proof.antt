@@ -3,6 +3,7 @@ use mathlib.Core.Path.{ap, _∙_}
 use lib.ListN.{length}
 use Rattle.rules.specs.declared.Cds.{Cds}
 use Rattle.rules.specs.Refusal.{limits}
+use Rattle.rules.specs.Packed.{lettersBy, formAt}
 use Rattle.rules.specs.Views.{cdsOf}
 use Rattle.garumbott.specs.Host.{lengthOf}
 use Rattle.garumbott.proofs.Excepted.{written-given}
@@ -16,6 +17,9 @@ cds-at-requires c κs = search needs
 exceptions-in-requires : tie.Need-exceptions-in-requires
 exceptions-in-requires c κs = search needs
 
+form-at-requires : tie.Need-form-at-requires
+form-at-requires c κs = search needs
+
 write-stored-requires : tie.Need-write-stored-requires
 write-stored-requires c κs = search needs
 
@@ -27,10 +31,12 @@ same-length c = search needs
 
 returns : tie.Need-returns
 returns c =
-    let a = c .before .before .before .before .before .before .before .before .before .before .args in
+    let given = c .before .before .before .before .before in
+    let a = given .before .before .before .before .before .before .before .args in
     let w = c .before .before .before .write-stored .ensures in
-    let same = written-given limits (a .letters .now) (cdsOf (a .cs) (a .ce) (a .table) (a .cds-end)) (length (a .out .now)) (a .exceptions .now) in
-    rw (← same, ← c .before .before .before .before .before .exceptions-in .ensures, ← c .before .before .before .before .before .before .cds-at .ensures, ← ap (λ (c : Cds). c .end) (c .before .before .before .before .before .before .cds-at .ensures)) (c .length-of .ensures ∙ ap lengthOf (w .0), w .1)
+    let cds = given .before .before .cds-at .ensures in
+    let same = written-given limits (lettersBy (formAt (a .form) (a .size)) (a .letters .now)) (cdsOf (a .cs) (a .ce) (a .table) (a .cds-end)) (length (a .out .now)) (a .exceptions .now) in
+    rw (← same, ← given .form-at .ensures, ← given .before .exceptions-in .ensures, ← cds, ← ap (λ (c : Cds). c .end) cds) (c .length-of .ensures ∙ ap lengthOf (w .0), w .1)
 
 pub garumbott-write-stored-spec : {M : Type 1} → statement M
 garumbott-write-stored-spec =
@@ -38,6 +44,7 @@ garumbott-write-stored-spec =
     (tie.spec
     cds-at-requires
     exceptions-in-requires
+    form-at-requires
     write-stored-requires
     length-of-requires
     same-length

@@ -1,0 +1,59 @@
+// One edit of a reference under the panel profile.
+use crate::numbers::GarumbottAnswer;
+use crate::numbers::answer_of;
+use crate::numbers::cds_at;
+use crate::numbers::edit_at;
+use crate::numbers::form_at;
+use rules::Question;
+use stored_fields::exceptions_in;
+use within::panel_within;
+ghost use Rattle.rules.specs.Panel.{panelWithin};
+ghost use Rattle.rules.specs.Views.{roomOf};
+ghost use Rattle.garumbott.specs.Host.{hostReference, hostAsked, Tells};
+
+#[no_mangle]
+pub extern "C" fn garumbott_panel(
+    letters: &[u8],
+    cs: u64,
+    ce: u64,
+    table: u64,
+    exceptions: &[u8],
+    cds_end: u64,
+    form: u64,
+    size: u64,
+    kind: u64,
+    start_star: u64,
+    start: i64,
+    end_star: u64,
+    end: i64,
+    bases: &[u8],
+    longest: u64,
+    named: u64,
+    transcript: &mut [u8],
+    reference: &mut [u8],
+    altered: &mut [u8],
+) -> GarumbottAnswer
+    ensures { λ r. ⌜ Tells
+        (panelWithin longest (hostReference (now (letters .entry)) cs ce table (now (exceptions .entry)) «cds_end» form size) (hostAsked kind «start_star» start «end_star» end (now (bases .entry))) named (roomOf (now (transcript .entry)) (now (reference .entry)) (now (altered .entry))))
+        r (now (transcript .entry)) (now (transcript .exit)) (now (reference .entry)) (now (reference .exit)) (now (altered .entry)) (now (altered .exit)) ⌝ }
+{
+    let cds = cds_at(cs, ce, table, cds_end);
+    let e = exceptions_in(exceptions);
+    let edit = edit_at(kind, start_star, start, end_star, end);
+    let asks = Question {
+        form: form_at(form, size),
+        cds,
+        e,
+        edit,
+    };
+    answer_of(panel_within(
+        letters,
+        asks,
+        named as usize,
+        longest as usize,
+        bases,
+        transcript,
+        reference,
+        altered,
+    ))
+}
