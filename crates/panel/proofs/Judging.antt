@@ -45,6 +45,10 @@ eqb-swap a b = by (eqb a b) refl
     by true h = sym (eq-eqb b a (sym (eqb-true a b h)))
     by false h = sym (ne-eqb b a (λ e. eqb-false a b h (sym e)))
 
+-- an index by the number of letters
+pub index-by : (r : Reference) (p : Position) (n m : ℕ) → n ≡ size r → m ≡ index (r .cs) (r .ce) n p → m ≡ index (r .cs) (r .ce) (size r) p
+index-by r p n m sized is = is ∙ ap (λ (n : ℕ). index (r .cs) (r .ce) n p) sized
+
 -- the net change, kind by kind
 uneven-by : (most : ℕ) (k : Kind) (s : List ℕ) (start end : ℕ) (new : List ℕ) → isPanelKind k ≡ true → fitBases most k new ≡ true → (is Substitution k ≡ true → end - start ≡ 1) → start ≤ end → end ≤ length s
     → not (eqb (length (swapBy k s start end new .put) % 3) ((swapBy k s start end new .to - swapBy k s start end new .from) % 3)) ≡ unevenBy k (end - start) (length new)

@@ -2,6 +2,7 @@
 use crate::profile::profile_refusal;
 use altseq::Ready;
 use altseq::answer_known;
+use packed::size_of;
 use positions::refusals::edit_refusal;
 use reference::Checked;
 use reference::check_reference;
@@ -15,6 +16,7 @@ use rules::SHORT_PROTEIN;
 ghost use lib.ListN.{length};
 ghost use Rattle.rules.specs.Refusal.{limits};
 ghost use Rattle.rules.specs.Answer.{Answers};
+ghost use Rattle.rules.specs.Packed.{lettersBy};
 ghost use Rattle.rules.specs.Panel.{panelOutcome};
 ghost use Rattle.rules.specs.Views.{asked, referenceOf, roomOf};
 ghost use Rattle.reference.specs.Known.{HasRoom, Knows};
@@ -30,14 +32,15 @@ fn answer_profiled(
     reference: &mut [u8],
     altered: &mut [u8],
 ) -> Answer
-    requires { ⌜ Knows limits (now letters) (ready .known) (ready .e) (now protein) ⌝ }
+    requires { ⌜ Knows limits (lettersBy (ready .known .form) (now letters)) (ready .known) (ready .e) (now protein) ⌝ }
     ensures { λ r. ⌜ Answers
-        (panelOutcome limits (referenceOf (now (letters .entry)) (ready .known .cds) (ready .e)) (asked (ready .edit) (now (new .entry))) named (roomOf (now (transcript .entry)) (now (reference .entry)) (now (altered .entry))))
+        (panelOutcome limits (referenceOf (lettersBy (ready .known .form) (now (letters .entry))) (ready .known .cds) (ready .e)) (asked (ready .edit) (now (new .entry))) named (roomOf (now (transcript .entry)) (now (reference .entry)) (now (altered .entry))))
         r (now (transcript .entry)) (now (transcript .exit)) (now (reference .entry)) (now (reference .exit)) (now (altered .entry)) (now (altered .exit)) ⌝ }
 {
     let known = ready.known;
     let edit = ready.edit;
-    let refused = edit_refusal(letters.len(), known.cds, MOST, edit, new);
+    let form = known.form;
+    let refused = edit_refusal(size_of(letters, form), known.cds, MOST, edit, new);
     if refused != 0 {
         return Answer::Refused(refused);
     }
@@ -59,14 +62,15 @@ fn answer_in(
     reference: &mut [u8],
     altered: &mut [u8],
 ) -> Answer
-    requires { ⌜ HasRoom (limits .longest) (now letters) (length (now protein)) ⌝ }
+    requires { ⌜ HasRoom (limits .longest) (lettersBy (asks .form) (now letters)) (length (now protein)) ⌝ }
     ensures { λ r. ⌜ Answers
-        (panelOutcome limits (referenceOf (now (letters .entry)) (asks .cds) (asks .e)) (asked (asks .edit) (now (new .entry))) named (roomOf (now (transcript .entry)) (now (reference .entry)) (now (altered .entry))))
+        (panelOutcome limits (referenceOf (lettersBy (asks .form) (now (letters .entry))) (asks .cds) (asks .e)) (asked (asks .edit) (now (new .entry))) named (roomOf (now (transcript .entry)) (now (reference .entry)) (now (altered .entry))))
         r (now (transcript .entry)) (now (transcript .exit)) (now (reference .entry)) (now (reference .exit)) (now (altered .entry)) (now (altered .exit)) ⌝ }
 {
     let e = asks.e;
     let edit = asks.edit;
-    match check_reference(letters, asks.cds, e, LONGEST, protein) {
+    let form = asks.form;
+    match check_reference(letters, form, asks.cds, e, LONGEST, protein) {
         Checked::Refused(n) => Answer::Refused(n),
         Checked::Known(known) => {
             let residues = known.residues;
@@ -96,7 +100,7 @@ fn answer_long(
     altered: &mut [u8],
 ) -> Answer
     ensures { λ r. ⌜ Answers
-        (panelOutcome limits (referenceOf (now (letters .entry)) (asks .cds) (asks .e)) (asked (asks .edit) (now (new .entry))) named (roomOf (now (transcript .entry)) (now (reference .entry)) (now (altered .entry))))
+        (panelOutcome limits (referenceOf (lettersBy (asks .form) (now (letters .entry))) (asks .cds) (asks .e)) (asked (asks .edit) (now (new .entry))) named (roomOf (now (transcript .entry)) (now (reference .entry)) (now (altered .entry))))
         r (now (transcript .entry)) (now (transcript .exit)) (now (reference .entry)) (now (reference .exit)) (now (altered .entry)) (now (altered .exit)) ⌝ }
 {
     let mut protein = [0u8; LONGEST_PROTEIN];
@@ -124,10 +128,11 @@ pub fn build_panel(
     altered: &mut [u8],
 ) -> Answer
     ensures { λ r. ⌜ Answers
-        (panelOutcome limits (referenceOf (now (letters .entry)) (asks .cds) (asks .e)) (asked (asks .edit) (now (new .entry))) named (roomOf (now (transcript .entry)) (now (reference .entry)) (now (altered .entry))))
+        (panelOutcome limits (referenceOf (lettersBy (asks .form) (now (letters .entry))) (asks .cds) (asks .e)) (asked (asks .edit) (now (new .entry))) named (roomOf (now (transcript .entry)) (now (reference .entry)) (now (altered .entry))))
         r (now (transcript .entry)) (now (transcript .exit)) (now (reference .entry)) (now (reference .exit)) (now (altered .entry)) (now (altered .exit)) ⌝ }
 {
-    if SHORT < letters.len() {
+    let form = asks.form;
+    if SHORT < size_of(letters, form) {
         return answer_long(letters, asks, named, new, transcript, reference, altered);
     }
     let mut protein = [0u8; SHORT_PROTEIN];

@@ -1,6 +1,8 @@
 // Refusals 40 to 43, of an edit that 1 to 10 leave. Of the transcript one letter is looked at; that each is one base was seen when the
 // reference was checked.
 use numbers::wide;
+use packed::letter_at;
+use packed::size_of;
 use positions::places::index_of;
 use reference::Known;
 use rules::Edit;
@@ -13,6 +15,7 @@ ghost use Prim.Native.Nat.{ℕ};
 ghost use Rattle.rules.specs.Bytes.{firstOf};
 ghost use Rattle.rules.specs.Edit.{is};
 ghost use Rattle.rules.specs.declared.Kind.the-variants.{Substitution};
+ghost use Rattle.rules.specs.Packed.{lettersBy};
 ghost use Rattle.rules.specs.Views.{bare, asked};
 ghost use Rattle.rules.specs.Panel.{isPanelKind, isInside, isOfPanel, profileTests};
 ghost use Rattle.panel.specs.Numbers.{unevenBy, testsBy, Editable};
@@ -113,17 +116,19 @@ pub(crate) fn profile_refusal(
     new: &[u8],
     named: usize,
 ) -> usize
-    requires { ⌜ Editable (now letters) known (asked edit (now new)) ⌝ }
-    ensures { λ r. ⌜ r ≡ firstOf (profileTests (bare (now (letters .entry)) (known .cds)) (asked edit (now (new .entry))) named) ⌝ }
+    requires { ⌜ Editable (lettersBy (known .form) (now letters)) known (asked edit (now new)) ⌝ }
+    ensures { λ r. ⌜ r ≡ firstOf (profileTests (bare (lettersBy (known .form) (now (letters .entry))) (known .cds)) (asked edit (now (new .entry))) named) ⌝ }
 {
+    let form = known.form;
     let c = known.cds;
     let kind = edit.kind;
     let start = edit.start;
     let end = edit.end;
     let bases = known.plain & all_bases(new);
-    let first = index_of(start, c, letters.len());
-    let last = index_of(end, c, letters.len());
+    let size = size_of(letters, form);
+    let first = index_of(start, c, size);
+    let last = index_of(end, c, size);
     let uneven = is_uneven(kind, last + 1 - first, new.len());
-    let names = !is_naming(kind) | (named == wide(letters[first]));
+    let names = !is_naming(kind) | (named == wide(letter_at(letters, form, first)));
     first_refusal(bases, is_of_panel(edit), uneven, names)
 }

@@ -1,11 +1,13 @@
 -- `panel::answer::answer_in` meets its contract. Assumes nothing.
-use mathlib.Core.Path.{sym}
+use mathlib.Core.Path.{sym, ap}
 use native.Mathlib.Omega.{arith}
 use borrow.Author.Needs.{needs}
 use lib.Seq.{length-take-le}
+use Rattle.rules.specs.declared.Form.{Form}
+use Rattle.rules.specs.Packed.{lettersBy}
 use Rattle.rules.specs.Refusal.{limits}
 use Rattle.rules.specs.Views.{asked, referenceOf, roomOf}
-use Rattle.reference.proofs.Checking.{checked-refused, checked-accepted, protein-held, cds-known, residues-within, knows}
+use Rattle.reference.proofs.Checking.{checked-refused, checked-accepted, protein-held, cds-known, form-known, residues-within, knows}
 use Rattle.panel.proofs.Answering.{reference-refused, answers-cds}
 use Rattle.panel.proofs.answer.answer_in.Statement.{statement}
 use Rattle.panel.proofs.answer.answer_in.Tie as tie
@@ -19,9 +21,9 @@ slice-reshare-prefix-answer-profiled c =
     let a = c .before .before .before .before .before .before .before .before .before .before .before .before .before .before .before .args in
     let x = c .before .before .before .before .before .check-reference in
     let k = c .before .known .given .0 .0 in
-    let ok = checked-accepted (limits .longest) (a .letters .now) (a .asks .cds) (a .asks .e) (x .result) (x .ensures .0) k (c .before .known .given .1) in
-    let held = protein-held (limits .longest) (a .letters .now) (a .asks .cds) (a .asks .e) _ _ (ok .0) (x .ensures .1) in
-    residues-within limits (a .letters .now) (a .asks .cds) (a .asks .e) k (ok .0) (ok .1) _ _ held
+    let ok = checked-accepted (limits .longest) (a .asks .form) (lettersBy (a .asks .form) (a .letters .now)) (a .asks .cds) (a .asks .e) (x .result) (x .ensures .0) k (c .before .known .given .1) in
+    let held = protein-held (limits .longest) (lettersBy (a .asks .form) (a .letters .now)) (a .asks .cds) (a .asks .e) _ _ (ok .0) (x .ensures .1) in
+    residues-within limits (a .asks .form) (lettersBy (a .asks .form) (a .letters .now)) (a .asks .cds) (a .asks .e) k (ok .0) (ok .1) _ _ held
 
 slice-aggregate-answer-profiled : tie.Need-slice-aggregate-answer-profiled
 slice-aggregate-answer-profiled c =
@@ -29,9 +31,9 @@ slice-aggregate-answer-profiled c =
     let a = d .before .before .before .before .before .before .before .before .before .before .before .before .before .before .before .args in
     let x = d .before .before .before .before .before .check-reference in
     let k = d .before .known .given .0 .0 in
-    let ok = checked-accepted (limits .longest) (a .letters .now) (a .asks .cds) (a .asks .e) (x .result) (x .ensures .0) k (d .before .known .given .1) in
-    let held = protein-held (limits .longest) (a .letters .now) (a .asks .cds) (a .asks .e) _ _ (ok .0) (x .ensures .1) in
-    sym (length-take-le (k .residues) _ (residues-within limits (a .letters .now) (a .asks .cds) (a .asks .e) k (ok .0) (ok .1) _ _ held))
+    let ok = checked-accepted (limits .longest) (a .asks .form) (lettersBy (a .asks .form) (a .letters .now)) (a .asks .cds) (a .asks .e) (x .result) (x .ensures .0) k (d .before .known .given .1) in
+    let held = protein-held (limits .longest) (lettersBy (a .asks .form) (a .letters .now)) (a .asks .cds) (a .asks .e) _ _ (ok .0) (x .ensures .1) in
+    sym (length-take-le (k .residues) _ (residues-within limits (a .asks .form) (lettersBy (a .asks .form) (a .letters .now)) (a .asks .cds) (a .asks .e) k (ok .0) (ok .1) _ _ held))
 
 answer-profiled-requires : tie.Need-answer-profiled-requires
 answer-profiled-requires c κs =
@@ -39,17 +41,18 @@ answer-profiled-requires c κs =
     let a = d .before .before .before .before .before .before .before .before .before .before .before .before .before .before .before .args in
     let x = d .before .before .before .before .before .check-reference in
     let k = d .before .known .given .0 .0 in
-    let ok = checked-accepted (limits .longest) (a .letters .now) (a .asks .cds) (a .asks .e) (x .result) (x .ensures .0) k (d .before .known .given .1) in
-    let held = protein-held (limits .longest) (a .letters .now) (a .asks .cds) (a .asks .e) _ _ (ok .0) (x .ensures .1) in
-    knows limits (a .letters .now) (a .asks .cds) (a .asks .e) k (ok .0) (ok .1) _ _ held (omega arith)
+    let ok = checked-accepted (limits .longest) (a .asks .form) (lettersBy (a .asks .form) (a .letters .now)) (a .asks .cds) (a .asks .e) (x .result) (x .ensures .0) k (d .before .known .given .1) in
+    let held = protein-held (limits .longest) (lettersBy (a .asks .form) (a .letters .now)) (a .asks .cds) (a .asks .e) _ _ (ok .0) (x .ensures .1) in
+    let same = ap (λ (f : Form). lettersBy f (a .letters .now)) (form-known limits (a .asks .form) (lettersBy (a .asks .form) (a .letters .now)) (a .asks .cds) (a .asks .e) k (ok .0) (ok .1)) in
+    rw same (knows limits (a .asks .form) (lettersBy (a .asks .form) (a .letters .now)) (a .asks .cds) (a .asks .e) k (ok .0) (ok .1) _ _ held (omega arith))
 
 returns : tie.Need-returns
 returns c =
     let a = c .before .before .before .before .before .before .before .before .before .before .before .before .before .before .before .args in
     let x = c .before .before .before .before .before .check-reference in
     let n = c .before .n .given .0 .0 in
-    let no = checked-refused (limits .longest) (a .letters .now) (a .asks .cds) (a .asks .e) (x .result) (x .ensures .0) n (c .before .n .given .1) in
-    reference-refused limits (referenceOf (a .letters .now) (a .asks .cds) (a .asks .e)) (asked (a .asks .edit) (a .new .now)) (a .named) (a .transcript .now) (a .reference .now) (a .altered .now) n (no .0) (no .1)
+    let no = checked-refused (limits .longest) (a .asks .form) (lettersBy (a .asks .form) (a .letters .now)) (a .asks .cds) (a .asks .e) (x .result) (x .ensures .0) n (c .before .n .given .1) in
+    reference-refused limits (referenceOf (lettersBy (a .asks .form) (a .letters .now)) (a .asks .cds) (a .asks .e)) (asked (a .asks .edit) (a .new .now)) (a .named) (a .transcript .now) (a .reference .now) (a .altered .now) n (no .0) (no .1)
 
 returns-2 : tie.Need-returns-2
 returns-2 c =
@@ -58,9 +61,10 @@ returns-2 c =
     let a = d .before .before .before .before .before .before .before .before .before .before .before .before .before .before .before .args in
     let x = d .before .before .before .before .before .check-reference in
     let k = d .before .known .given .0 .0 in
-    let ok = checked-accepted (limits .longest) (a .letters .now) (a .asks .cds) (a .asks .e) (x .result) (x .ensures .0) k (d .before .known .given .1) in
-    answers-cds (a .letters .now) (k .cds) (a .asks .cds) (a .asks .e) (asked (a .asks .edit) (a .new .now)) (a .named) (roomOf (a .transcript .now) (a .reference .now) (a .altered .now)) _ (a .transcript .now) _ (a .reference .now) _ (a .altered .now) _
-    (cds-known limits (a .letters .now) (a .asks .cds) (a .asks .e) k (ok .0) (ok .1)) (e .answer-profiled .ensures)
+    let ok = checked-accepted (limits .longest) (a .asks .form) (lettersBy (a .asks .form) (a .letters .now)) (a .asks .cds) (a .asks .e) (x .result) (x .ensures .0) k (d .before .known .given .1) in
+    let same = ap (λ (f : Form). lettersBy f (a .letters .now)) (form-known limits (a .asks .form) (lettersBy (a .asks .form) (a .letters .now)) (a .asks .cds) (a .asks .e) k (ok .0) (ok .1)) in
+    answers-cds (lettersBy (a .asks .form) (a .letters .now)) (k .cds) (a .asks .cds) (a .asks .e) (asked (a .asks .edit) (a .new .now)) (a .named) (roomOf (a .transcript .now) (a .reference .now) (a .altered .now)) _ (a .transcript .now) _ (a .reference .now) _ (a .altered .now) _
+    (cds-known limits (a .asks .form) (lettersBy (a .asks .form) (a .letters .now)) (a .asks .cds) (a .asks .e) k (ok .0) (ok .1)) (rw same at (e .answer-profiled .ensures))
 
 pub answer-in-spec : {M : Type 1} → statement M
 answer-in-spec =

@@ -7,12 +7,13 @@ use Rattle.panel.proofs.answer.build_panel.Tie as tie
 
 answer-in-requires : tie.Need-answer-in-requires
 unfolding residueCount
-answer-in-requires c κs = search needs
+answer-in-requires c κs = λ h. omega (arith, h, c .before .before .before .before .before .size-of .ensures, c .before .before .before .before .if1 .left)
 
 pub build-panel-spec : {M : Type 1} → statement M
 build-panel-spec =
     tie.close
     (tie.spec
+    (λ c κs. search needs)
     (λ c κs. search needs)
     (λ c. search needs)
     (λ c. search needs)
