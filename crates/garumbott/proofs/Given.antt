@@ -57,6 +57,10 @@ pub given-edit : (kind startStar : ℕ) (start : ℤ) (endStar : ℕ) (end : ℤ
     → e ≡ editAt kind startStar (toZ w64 (ofZ w64 start)) endStar (toZ w64 (ofZ w64 end)) → e ≡ editAt kind startStar start endStar end
 given-edit kind startStar start endStar end f g e h = h ∙ rw (toZ-ofZ w64 start f, toZ-ofZ w64 end g)
 
+-- 1 is packed
+pub form-packed : (form size : ℕ) → form ≡ 1 → Packed size ≡ formAt form size
+form-packed form size is = rw is
+
 -- a number that is no form's
 pub form-other : (form size : ℕ) → (form ≡ 0 → ⊥) → (form ≡ 1 → ⊥) → Packed 0 ≡ formAt form size
 form-other zero size h g = absurd (h refl)

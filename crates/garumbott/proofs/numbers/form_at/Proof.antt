@@ -1,8 +1,11 @@
 -- `garumbott::numbers::form_at` meets its contract. Assumes nothing.
 use borrow.Author.Needs.{needs}
-use Rattle.garumbott.proofs.Given.{form-other}
+use Rattle.garumbott.proofs.Given.{form-packed, form-other}
 use Rattle.garumbott.proofs.numbers.form_at.Statement.{statement}
 use Rattle.garumbott.proofs.numbers.form_at.Tie as tie
+
+returns-2 : tie.Need-returns-2
+returns-2 c = form-packed (c .before .args .form) (c .before .args .size) (c .match .keys2)
 
 returns-3 : tie.Need-returns-3
 returns-3 c = form-other (c .before .args .form) (c .before .args .size) (c .match .rest .0 .1) (c .match .rest .1)
@@ -12,5 +15,5 @@ form-at-spec =
     tie.close
     (tie.spec
     (λ c. search needs)
-    (λ c. search needs)
+    returns-2
     returns-3)

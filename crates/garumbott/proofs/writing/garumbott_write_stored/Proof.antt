@@ -32,7 +32,7 @@ same-length c = search needs
 returns : tie.Need-returns
 returns c =
     let given = c .before .before .before .before .before in
-    let a = given .before .before .before .before .before .before .before .args in
+    let a = given .before .before .before .before .before .before .args in
     let w = c .before .before .before .write-stored .ensures in
     let cds = given .before .before .cds-at .ensures in
     let same = written-given limits (lettersBy (formAt (a .form) (a .size)) (a .letters .now)) (cdsOf (a .cs) (a .ce) (a .table) (a .cds-end)) (length (a .out .now)) (a .exceptions .now) in
