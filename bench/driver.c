@@ -114,11 +114,11 @@ static void ours_prefix(void)
 /* The object of bench/native follows x86-64's convention on every processor: a struct above sixteen bytes is written through a first argument. */
 void record_through(struct garumbott_answer *answer, const uint8_t *letters, uint64_t letters_len, uint64_t cs, uint64_t ce, uint64_t table,
                     const uint8_t *exceptions, uint64_t exceptions_len, uint64_t cds_end, uint64_t form, uint64_t size, uint64_t kind, uint64_t start_star, int64_t start, uint64_t end_star,
-                    int64_t end, const uint8_t *bases, uint64_t bases_len, uint8_t *transcript, uint64_t transcript_len, uint8_t *reference,
+                    int64_t end, const uint8_t *bases, uint64_t bases_len, uint64_t longest, uint8_t *transcript, uint64_t transcript_len, uint8_t *reference,
                     uint64_t reference_len, uint8_t *altered, uint64_t altered_len) __asm__("garumbott_record");
 void check_through(struct garumbott_checked *checked, const uint8_t *letters, uint64_t letters_len, uint64_t cs, uint64_t ce, uint64_t table,
                    const uint8_t *exceptions, uint64_t exceptions_len, uint64_t cds_end, uint64_t form, uint64_t size, uint64_t kind, uint64_t start_star, int64_t start, uint64_t end_star,
-                   int64_t end, const uint8_t *bases, uint64_t bases_len, uint64_t number, const uint8_t *deleted, uint64_t deleted_len,
+                   int64_t end, const uint8_t *bases, uint64_t bases_len, uint64_t longest, uint64_t number, const uint8_t *deleted, uint64_t deleted_len,
                    const uint8_t *inserted, uint64_t inserted_len, uint8_t *transcript, uint64_t transcript_len, uint8_t *reference,
                    uint64_t reference_len, uint8_t *altered, uint64_t altered_len) __asm__("garumbott_check");
 #endif
@@ -145,11 +145,11 @@ static void lend_packed(void)
 static struct garumbott_answer ours_record(uint64_t table, int64_t start)
 {
 #ifdef __x86_64__
-    return garumbott_record(lent, lent_len, ref.cs, ref.ce, table, excepted, excepted_len, 0, form, ref.len, edit.kind, 0, start, 0, edit.end, edit.bases, edit.bases_len, tx, sizeof tx, rp,
+    return garumbott_record(lent, lent_len, ref.cs, ref.ce, table, excepted, excepted_len, 0, form, ref.len, edit.kind, 0, start, 0, edit.end, edit.bases, edit.bases_len, 0, tx, sizeof tx, rp,
                             sizeof rp, ap, sizeof ap);
 #else
     struct garumbott_answer answer;
-    record_through(&answer, lent, lent_len, ref.cs, ref.ce, table, excepted, excepted_len, 0, form, ref.len, edit.kind, 0, start, 0, edit.end, edit.bases, edit.bases_len, tx, sizeof tx, rp,
+    record_through(&answer, lent, lent_len, ref.cs, ref.ce, table, excepted, excepted_len, 0, form, ref.len, edit.kind, 0, start, 0, edit.end, edit.bases, edit.bases_len, 0, tx, sizeof tx, rp,
                    sizeof rp, ap, sizeof ap);
     return answer;
 #endif
@@ -175,11 +175,11 @@ static struct garumbott_answer own;
 static struct garumbott_checked ours_judged(void)
 {
 #ifdef __x86_64__
-    return garumbott_check(lent, lent_len, ref.cs, ref.ce, 0, excepted, excepted_len, 0, form, ref.len, edit.kind, 0, edit.start, 0, edit.end, edit.bases, edit.bases_len, own.number, own_deleted,
+    return garumbott_check(lent, lent_len, ref.cs, ref.ce, 0, excepted, excepted_len, 0, form, ref.len, edit.kind, 0, edit.start, 0, edit.end, edit.bases, edit.bases_len, 0, own.number, own_deleted,
                            own.deleted_len, own_inserted, own.inserted_len, tx, sizeof tx, rp, sizeof rp, ap, sizeof ap);
 #else
     struct garumbott_checked checked;
-    check_through(&checked, lent, lent_len, ref.cs, ref.ce, 0, excepted, excepted_len, 0, form, ref.len, edit.kind, 0, edit.start, 0, edit.end, edit.bases, edit.bases_len, own.number, own_deleted,
+    check_through(&checked, lent, lent_len, ref.cs, ref.ce, 0, excepted, excepted_len, 0, form, ref.len, edit.kind, 0, edit.start, 0, edit.end, edit.bases, edit.bases_len, 0, own.number, own_deleted,
                   own.deleted_len, own_inserted, own.inserted_len, tx, sizeof tx, rp, sizeof rp, ap, sizeof ap);
     return checked;
 #endif

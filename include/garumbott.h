@@ -3,7 +3,7 @@
  * Given a reference transcript and one coding edit, the module builds the altered transcript, reads the altered protein from it and answers
  * one protein record, or the one numbered refusal that its rules give. It also says whether a record that another program made fits its edit,
  * and which codons differ between two editions of a transcript.
- * References can be read from a stored form and written in it. Translation, residue names, the reverse complement and two trims can be called by themselves.
+ * References can be read from a stored form and written in it, and so can the settings of a bench. Translation, residue names, the reverse complement and two trims can be called by themselves.
  *
  * In ten minutes. Put this into first.c, and
  *     cc -std=c11 first.c $(pkg-config --cflags --libs garumbott) -o first && ./first
@@ -49,7 +49,7 @@
  *   Versions. Later versions add members at the ends of the structs; 0 in a new member means what is done today. The functions over slices and numbers
  *     gain parameters; those over structs keep theirs. New in 2.0.0: the end of a CDS (cds_end in garumbott_record and garumbott_edit, behind
  *     exceptions_len; end in struct garumbott_reference and struct garumbott_stored; tag 8 of stored references; refusal 28), with R's room rounded
- *     up for a cut codon; garumbott_write_stored, with refusal 24; garumbott_check, with refusals 26 and 27; garumbott_pair, with refusals 51 to 53; garumbott_compare, with refusals 50, 101 to 106 and 128; codons in struct garumbott_answer; packed letters (form and size, behind cds_end, and at the end of struct garumbott_reference), with garumbott_pack; transcripts up to 131,072 bases (rooms and GARUMBOTT_STACK have grown; a buffer for joined letters in garumbott_read_stored and garumbott_reference_at; joined in struct garumbott_stored; tags 5, 6 and 7 of stored references; refusals 25 and 29). Other answers than in 1: a copy of the first
+ *     up for a cut codon; garumbott_write_stored, with refusal 24; garumbott_check, with refusals 26 and 27; garumbott_pair, with refusals 51 to 53; garumbott_compare, with refusals 50, 101 to 106 and 128; codons in struct garumbott_answer; packed letters (form and size, behind cds_end, and at the end of struct garumbott_reference), with garumbott_pack; longest in struct garumbott_coding_edit, and behind bases_len in the functions over slices and numbers that take an edit, with refusal 62; garumbott_read_settings and garumbott_write_settings, with refusals 60 to 63; garumbott_panel, with refusals 40 to 43; transcripts up to 131,072 bases (rooms and GARUMBOTT_STACK have grown; a buffer for joined letters in garumbott_read_stored and garumbott_reference_at; joined in struct garumbott_stored; tags 5, 6 and 7 of stored references; refusals 25 and 29). Other answers than in 1: a copy of the first
  *     residues is a duplication, and a codon whose plain codons give exactly D and N, or exactly E and Q, is 'B' or 'Z' in R and A, where it was
  *     'X': a record kept with that 'X' no longer replays. The archive can't tell which header its caller was compiled with: compile all of a host
  *     with the header that came with the archive, and anew whenever they change.
@@ -85,7 +85,7 @@ extern "C" {
 #define GARUMBOTT_MOST_EXCEPTIONS 16
 #define GARUMBOTT_EXCEPTION_BYTES 3
 
-/* Buffers of these sizes are never too short for garumbott_edit, garumbott_record and garumbott_check. garumbott_transcript_room and the two
+/* Buffers of these sizes are never too short for garumbott_edit, garumbott_record, garumbott_panel and garumbott_check. garumbott_transcript_room and the two
  * functions behind it compute smaller ones. */
 #define GARUMBOTT_TRANSCRIPT_ROOM 262144
 #define GARUMBOTT_REFERENCE_ROOM 43691
@@ -166,16 +166,14 @@ extern "C" {
 #define GARUMBOTT_REFUSAL_END 28             /* the end is unknown; or it isn't at a stop, and then ce isn't the last base, or R has a '*' */
 #define GARUMBOTT_REFUSAL_JOINED_ROOM 29     /* stored: the joined letters don't fit their buffer */
 #define GARUMBOTT_REFUSAL_LINE 30            /* a text line isn't in the form */
-#define GARUMBOTT_REFUSAL_LIST 50            /* the list of differences doesn't fit its buffer */
-#define GARUMBOTT_REFUSAL_TOUCHING 51        /* two edits: what they touch meets, or has no base between */
-#define GARUMBOTT_REFUSAL_PAIR_UNKNOWN 52    /* two edits: one of them is Unknown */
-#define GARUMBOTT_REFUSAL_PAIR_STOP 53       /* two edits: the stop cut of one of them finds a stop */
-
-/* The numbers of the panel profile and of settings. No function answers them yet. */
 #define GARUMBOTT_REFUSAL_PROFILE_LETTER 40  /* profile: a reference letter or a new base isn't A, C, G or T */
 #define GARUMBOTT_REFUSAL_PROFILE_EDIT 41    /* profile: a delins, an inversion or an identity, or a position that isn't in the CDS */
 #define GARUMBOTT_REFUSAL_PROFILE_FRAME 42   /* profile: the change of length isn't divisible by three */
 #define GARUMBOTT_REFUSAL_NAMED_BASE 43      /* profile: the base that a substitution names isn't the one there */
+#define GARUMBOTT_REFUSAL_LIST 50            /* the list of differences doesn't fit its buffer */
+#define GARUMBOTT_REFUSAL_TOUCHING 51        /* two edits: what they touch meets, or has no base between */
+#define GARUMBOTT_REFUSAL_PAIR_UNKNOWN 52    /* two edits: one of them is Unknown */
+#define GARUMBOTT_REFUSAL_PAIR_STOP 53       /* two edits: the stop cut of one of them finds a stop */
 #define GARUMBOTT_REFUSAL_VERSION 60         /* settings: no version that is known; with `newer` beside it, a newer one */
 #define GARUMBOTT_REFUSAL_SETTINGS_FIELD 61  /* settings: a field is missing, cut off, extra, out of order or of wrong length */
 #define GARUMBOTT_REFUSAL_SETTING 62         /* settings: a content is out of range; an edit: its longest edit is above 4,096 */
@@ -192,7 +190,7 @@ struct garumbott_length {
     uint64_t len;
 };
 
-/* What garumbott_edit and garumbott_record answer. R is the reference protein, A the altered one. Places count from 0, residue numbers from 1.
+/* What garumbott_edit, garumbott_record and garumbott_panel answer. R is the reference protein, A the altered one. Places count from 0, residue numbers from 1.
  *
  *                   refused  unknown  no protein  silent    changed
  *   answer          0        1        2           3         4
@@ -293,8 +291,10 @@ struct garumbott_stored {
  *                                They aren't both before the CDS, nor both behind it, and an insertion's first isn't before it (9)
  *   bases, bases_len             the new bases, upper-case letters: one for a substitution, 1 to 4,096 for delins and insertion, none for
  *                                the other kinds (10)
+ *   longest                      the longest edit in bases, 1 to 4,096, or 0 for 4,096: more new bases of a delins or an insertion are too many (10).
+ *                                Deleted, copied and inverted bases aren't counted. Any other number is refused before all else (62)
  *   The base that a substitution names isn't part of a call: "8T>G" is answered as "8A>G" is, whatever the transcript has there. A host that
- *   minds compares it with letters[cs + start - 2] once the edit isn't refused. A stricter call that looks at it is to come.
+ *   minds calls garumbott_panel, or compares it with letters[cs + start - 2] once the edit isn't refused.
  * The buffers, each with its length:
  *   transcript                   gets the altered transcript (11)
  *   reference                    gets R (12)
@@ -320,20 +320,20 @@ struct garumbott_stored {
  *     codons is looked up. "4=" has 0, "4_6dup" 1, "10_12del" 0, "5del" 5 (behind a frameshift all are), "13T>C" 3 (A goes on behind the
  *     CDS).
  *
- * Refusals 1 to 12, the lowest that applies, 28 in 6's place where the CDS doesn't end at a stop; but Unknown is decided before 11, so that
+ * Refusal 62, then 1 to 12, the lowest that applies, 28 in 6's place where the CDS doesn't end at a stop; but Unknown is decided before 11, so that
  * it needs no room. Refused and Unknown write nothing; every other answer writes all three buffers. */
 struct garumbott_answer garumbott_record(const uint8_t *letters, uint64_t letters_len, uint64_t cs, uint64_t ce, uint64_t table,
-                                         const uint8_t *exceptions, uint64_t exceptions_len, uint64_t cds_end, uint64_t form,
-                                         uint64_t size, uint64_t kind, uint64_t start_star, int64_t start, uint64_t end_star, int64_t end, const uint8_t *bases,
-                                         uint64_t bases_len, uint8_t *transcript, uint64_t transcript_len, uint8_t *reference,
-                                         uint64_t reference_len, uint8_t *altered, uint64_t altered_len);
+                                         const uint8_t *exceptions, uint64_t exceptions_len, uint64_t cds_end, uint64_t form, uint64_t size, uint64_t kind,
+                                         uint64_t start_star, int64_t start, uint64_t end_star, int64_t end, const uint8_t *bases,
+                                         uint64_t bases_len, uint64_t longest, uint8_t *transcript, uint64_t transcript_len,
+                                         uint8_t *reference, uint64_t reference_len, uint8_t *altered, uint64_t altered_len);
 
-/* The altered transcript alone. Parameters, refusals 1 to 11, 28 in 6's place, and Unknown are those of garumbott_record. Where it writes, the answer is
+/* The altered transcript alone. Parameters, refusals 62, 1 to 11, 28 in 6's place, and Unknown are those of garumbott_record. Where it writes, the answer is
  * GARUMBOTT_CHANGED, with transcript_len and frameshift, and every other number is 0: no protein was compared. */
 struct garumbott_answer garumbott_edit(const uint8_t *letters, uint64_t letters_len, uint64_t cs, uint64_t ce, uint64_t table,
-                                       const uint8_t *exceptions, uint64_t exceptions_len, uint64_t cds_end, uint64_t form,
-                                       uint64_t size, uint64_t kind, uint64_t start_star, int64_t start, uint64_t end_star, int64_t end, const uint8_t *bases,
-                                       uint64_t bases_len, uint8_t *transcript, uint64_t transcript_len);
+                                       const uint8_t *exceptions, uint64_t exceptions_len, uint64_t cds_end, uint64_t form, uint64_t size, uint64_t kind,
+                                       uint64_t start_star, int64_t start, uint64_t end_star, int64_t end, const uint8_t *bases,
+                                       uint64_t bases_len, uint64_t longest, uint8_t *transcript, uint64_t transcript_len);
 
 /* Checks a protein record that somebody else made of an edit: a proposal. The reference, the edit and the buffers are those of garumbott_record, and R and A
  * are what it writes. The proposal:
@@ -358,18 +358,38 @@ struct garumbott_answer garumbott_edit(const uint8_t *letters, uint64_t letters_
  * all that is left of both proteins, and gets a second no where these end alike: "10delinsTAG" is answered "stop-gained 4 W* *", which gets yes, no;
  * "4 W -" gets yes, yes.
  *
- * Refusals, the first that applies: 1 to 5; 6 or 28; 7 to 10; 26 where garumbott_record answers Unknown; 11; 12; 26 where it answers no protein or
+ * Refusals, the first that applies: 62; 1 to 5; 6 or 28; 7 to 10; 26 where garumbott_record answers Unknown; 11; 12; 26 where it answers no protein or
  * silent; 27. So an Unknown needs no room, and a proposal is looked at only where there is a change to hold it to. A refusal leaves every byte of the
  * three buffers as it was, 26 and 27 too. A yes and a no have written all three as garumbott_record does. */
 struct garumbott_checked garumbott_check(const uint8_t *letters, uint64_t letters_len, uint64_t cs, uint64_t ce, uint64_t table,
-                                         const uint8_t *exceptions, uint64_t exceptions_len, uint64_t cds_end, uint64_t form,
-                                         uint64_t size, uint64_t kind, uint64_t start_star, int64_t start, uint64_t end_star, int64_t end, const uint8_t *bases,
-                                         uint64_t bases_len, uint64_t number, const uint8_t *deleted, uint64_t deleted_len,
-                                         const uint8_t *inserted, uint64_t inserted_len, uint8_t *transcript, uint64_t transcript_len,
-                                         uint8_t *reference, uint64_t reference_len, uint8_t *altered, uint64_t altered_len);
+                                         const uint8_t *exceptions, uint64_t exceptions_len, uint64_t cds_end, uint64_t form, uint64_t size, uint64_t kind,
+                                         uint64_t start_star, int64_t start, uint64_t end_star, int64_t end, const uint8_t *bases,
+                                         uint64_t bases_len, uint64_t longest, uint64_t number, const uint8_t *deleted,
+                                         uint64_t deleted_len, const uint8_t *inserted, uint64_t inserted_len, uint8_t *transcript,
+                                         uint64_t transcript_len, uint8_t *reference, uint64_t reference_len, uint8_t *altered,
+                                         uint64_t altered_len);
+
+/* The answer of garumbott_record under the panel profile, a stricter mode: letters A, C, G and T only, in the whole transcript and in the new bases; substitutions,
+ * and deletions, duplications and insertions that change the length by a multiple of three, with both ends in the CDS; and the base that a substitution names must be
+ * the one there. Whatever the profile accepts gets garumbott_record's answer, to the letter, in the buffers too, and it refuses nothing else than what is
+ * listed. The parameters are garumbott_record's, and
+ *   named                        the base that a substitution names, as a byte, 'A'; any number but that of the letter there differs (43). Not looked at in
+ *                                other kinds
+ * Refusals: 62; 1 to 5; 6 or 28; 7 to 10; then the lowest of
+ *   40   a letter of the transcript, in its untranslated parts too, or a new base is outside the four
+ *   41   a delins, an inversion or an identity, or a position that is negative or a star, an insertion's right one too
+ *   42   the change of length, before new bases are cut at a stop, isn't divisible by three
+ *   43   the named base differs
+ * then Unknown, 11 and 12. In the reference of the example above "5_7del" is answered "delins 2 AK E", "5del" 42, "4_6inv" 41, and "8C>G" 43, since there is an A. */
+struct garumbott_answer garumbott_panel(const uint8_t *letters, uint64_t letters_len, uint64_t cs, uint64_t ce, uint64_t table,
+                                        const uint8_t *exceptions, uint64_t exceptions_len, uint64_t cds_end, uint64_t form, uint64_t size, uint64_t kind,
+                                        uint64_t start_star, int64_t start, uint64_t end_star, int64_t end, const uint8_t *bases,
+                                        uint64_t bases_len, uint64_t longest, uint64_t named, uint8_t *transcript,
+                                        uint64_t transcript_len, uint8_t *reference, uint64_t reference_len, uint8_t *altered,
+                                        uint64_t altered_len);
 
 /* Two edits on one transcript, as a haplotype has them: the transcript that carries both, and its protein. The reference is that of garumbott_record; the
- * first edit's numbers are kind to bases_len, the second's other_kind to other_bases_len, with the same meanings.
+ * first edit's numbers are kind to longest, the second's other_kind to other_longest, with the same meanings.
  *
  * Each edit must be accepted by itself and not be Unknown, its stop cut must find no stop, and at least one base that neither touches must lie between
  * the two. An edit touches its start to its end: a duplication the bases that it copies, an identity the bases that it leaves as they are; an insertion
@@ -382,16 +402,17 @@ struct garumbott_checked garumbott_check(const uint8_t *letters, uint64_t letter
  * In the reference of the example above "4G>C" and "6C>G" make GGATGCCGAAATGGTAACCTGAC, MPKW*; "4G>C" and "5C>G" are refused with 51. Both orders of two
  * accepted edits are answered the same.
  *
- * Refusals, the first that applies: 1 to 5; 6 or 28; the first edit's 7 to 10; the second's; 51; 52; 53; 11, a transcript buffer shorter than the pair's
+ * Refusals, the first that applies: 62, of either longest; 1 to 5; 6 or 28; the first edit's 7 to 10; the second's; 51; 52; 53; 11, a transcript buffer shorter than the pair's
  * length, which is letters_len plus both edits' length changes; 12, a protein buffer shorter than (pair's length - cs + 1) / 3, rounded up. Room that is
  * enough: garumbott_transcript_room of both edits, added, less letters_len, and garumbott_altered_room of that. GARUMBOTT_TRANSCRIPT_ROOM may be too
  * short by up to GARUMBOTT_MOST_BASES, where nearly all of the longest transcript is copied and bases are inserted too. */
 struct garumbott_paired garumbott_pair(const uint8_t *letters, uint64_t letters_len, uint64_t cs, uint64_t ce, uint64_t table,
-                                       const uint8_t *exceptions, uint64_t exceptions_len, uint64_t cds_end, uint64_t kind,
+                                       const uint8_t *exceptions, uint64_t exceptions_len, uint64_t cds_end, uint64_t form, uint64_t size, uint64_t kind,
                                        uint64_t start_star, int64_t start, uint64_t end_star, int64_t end, const uint8_t *bases,
-                                       uint64_t bases_len, uint64_t other_kind, uint64_t other_start_star, int64_t other_start,
-                                       uint64_t other_end_star, int64_t other_end, const uint8_t *other_bases, uint64_t other_bases_len,
-                                       uint8_t *transcript, uint64_t transcript_len, uint8_t *altered, uint64_t altered_len);
+                                       uint64_t bases_len, uint64_t longest, uint64_t other_kind, uint64_t other_start_star,
+                                       int64_t other_start, uint64_t other_end_star, int64_t other_end, const uint8_t *other_bases,
+                                       uint64_t other_bases_len, uint64_t other_longest, uint8_t *transcript, uint64_t transcript_len,
+                                       uint8_t *altered, uint64_t altered_len);
 
 /* ---- Editions ----------------------------------------------------------------------------------------------------------------------- */
 
@@ -411,10 +432,10 @@ struct garumbott_paired garumbott_pair(const uint8_t *letters, uint64_t letters_
  * Refusals, the first that applies: 1 to 5, then 6 or 28, of the first reference; the same of the second with GARUMBOTT_OF_SECOND added, 101 to 106 and 128; 50.
  * Several stops in a CDS are no fault. No memory of the size of a protein is needed. */
 struct garumbott_length garumbott_compare(const uint8_t *letters, uint64_t letters_len, uint64_t cs, uint64_t ce, uint64_t table,
-                                          const uint8_t *exceptions, uint64_t exceptions_len, uint64_t cds_end,
+                                          const uint8_t *exceptions, uint64_t exceptions_len, uint64_t cds_end, uint64_t form, uint64_t size,
                                           const uint8_t *second_letters, uint64_t second_letters_len, uint64_t second_cs, uint64_t second_ce,
                                           uint64_t second_table, const uint8_t *second_exceptions, uint64_t second_exceptions_len,
-                                          uint64_t second_cds_end, uint8_t *out, uint64_t out_len);
+                                          uint64_t second_cds_end, uint64_t second_form, uint64_t second_size, uint8_t *out, uint64_t out_len);
 
 /* ---- Stored references -------------------------------------------------------------------------------------------------------------- */
 
@@ -468,8 +489,59 @@ struct garumbott_length garumbott_write_stored(
     uint64_t ce,
     uint64_t table,
     const uint8_t *exceptions, uint64_t exceptions_len,
-    uint64_t cds_end,
+    uint64_t cds_end, uint64_t form, uint64_t size,
     uint8_t *out, uint64_t out_len);
+
+/* ---- Settings ----------------------------------------------------------------------------------------------------------------------- */
+
+/* The settings that a bench keeps: its default table, whether its profile is on, the output width of residue names and the longest edit in bases. They are
+ * stored in fields as a reference is, with tags of their own, so that they survive an update and the way back:
+ *   1   version   one byte, GARUMBOTT_SETTINGS_FIRST or GARUMBOTT_SETTINGS_SECOND
+ *   2   table     one byte, GARUMBOTT_TABLE_..
+ *   3   profile   one byte, 0 off, 1 on
+ *   4   width     one byte, 1 or 3: residue names of one letter or of three
+ *   5   longest   two bytes, high byte first, 1 to 4,096; in version 2 alone. A version 1 store reads as 4,096
+ * Every field stands there, once and in this order, and nothing behind the last. No function reads settings by itself: a host hands the table and the longest
+ * edit on to its calls, and chooses between garumbott_record and garumbott_panel, and between residues as they are and garumbott_names3.
+ *
+ *     uint8_t store[GARUMBOTT_SETTINGS_ROOM];
+ *     struct garumbott_length w = garumbott_write_settings(GARUMBOTT_SETTINGS_SECOND, GARUMBOTT_TABLE_STANDARD, 0, 3, 50, store, sizeof store);
+ *     struct garumbott_settings s = garumbott_read_settings(GARUMBOTT_SETTINGS_SECOND, store, w.len);
+ *     if (s.newer) puts("settings of a newer version: update this bench, or use its own");
+ *     else if (s.refusal) puts(garumbott_refusal_words(s.refusal));
+ *     else reference.table = s.table, edit.longest = s.longest; */
+#define GARUMBOTT_SETTINGS_FIRST 1
+#define GARUMBOTT_SETTINGS_SECOND 2
+
+/* The bytes of a store of version 1, and of version 2, which is the longest. */
+#define GARUMBOTT_SETTINGS_FIRST_ROOM 16
+#define GARUMBOTT_SETTINGS_ROOM 21
+
+/* What garumbott_read_settings answers: the settings, or a refusal's number and every other number 0, but newer. */
+struct garumbott_settings {
+    uint64_t refusal; /* GARUMBOTT_REFUSAL_.., or 0 */
+    uint64_t newer;   /* 1 beside refusal 60 where the store has a higher version than the reader knows, else 0 */
+    uint64_t version;
+    uint64_t table;
+    uint64_t profile;
+    uint64_t width;
+    uint64_t longest;
+};
+
+/* Reads settings as a reader does that knows the versions up to newest, GARUMBOTT_SETTINGS_FIRST or GARUMBOTT_SETTINGS_SECOND; any other reads nothing: 60. So a
+ * host can ask what a bench that wasn't updated will make of a store. Refusals, the first that applies:
+ *   60   the first field isn't tag 1 with one byte, or the version is 0, or above newest, which is marked as newer; nothing behind it is looked at
+ *   61   a field is missing, cut off, extra (tag 5 in version 1 too), out of order or of wrong length, or bytes stand behind the last
+ *   62   a content is out of range */
+struct garumbott_settings garumbott_read_settings(uint64_t newest, const uint8_t *data, uint64_t data_len);
+
+/* Writes settings in a version, 16 or 21 bytes. What is written is read back as the same settings, and what was read, written again, is the same bytes. Refusals,
+ * the first that applies:
+ *   60   the version isn't 1 or 2
+ *   62   a content is out of range, or the version is 1 and longest isn't 4,096
+ *   63   out is shorter than the store */
+struct garumbott_length garumbott_write_settings(uint64_t version, uint64_t table, uint64_t profile, uint64_t width, uint64_t longest,
+                                                 uint8_t *out, uint64_t out_len);
 
 /* ---- The text program --------------------------------------------------------------------------------------------------------------- */
 
@@ -512,7 +584,7 @@ uint64_t garumbott_common_suffix(const uint8_t *a, uint64_t a_len, const uint8_t
 /* ---- The same over structs ---------------------------------------------------------------------------------------------------------- */
 
 /* More than twenty arguments in a row are easy to mix up: these hold them by name. Members that an initializer leaves out are 0: no exceptions, no stars, no
- * bases, GARUMBOTT_TABLE_STANDARD, GARUMBOTT_END_STOP and GARUMBOTT_FORM_BYTES. */
+ * bases, GARUMBOTT_TABLE_STANDARD, GARUMBOTT_END_STOP, GARUMBOTT_FORM_BYTES, and a longest edit of 4,096. */
 struct garumbott_reference {
     const uint8_t *letters;
     uint64_t letters_len;
@@ -534,6 +606,7 @@ struct garumbott_coding_edit {
     int64_t end;
     const uint8_t *bases;
     uint64_t bases_len;
+    uint64_t longest; /* the longest edit in bases, 1 to 4,096, or 0 for 4,096 */
 };
 
 struct garumbott_buffers {
@@ -566,31 +639,41 @@ static inline struct garumbott_reference garumbott_reference_at(const struct gar
 static inline struct garumbott_answer garumbott_record_of(const struct garumbott_reference *r, const struct garumbott_coding_edit *e,
                                                           const struct garumbott_buffers *b)
 {
-    return garumbott_record(r->letters, r->letters_len, r->cs, r->ce, r->table, r->exceptions, r->exceptions_len, r->end, r->form,
-                            r->size, e->kind, e->start_star, e->start, e->end_star, e->end, e->bases, e->bases_len, b->transcript, b->transcript_len,
-                            b->reference, b->reference_len, b->altered, b->altered_len);
+    return garumbott_record(r->letters, r->letters_len, r->cs, r->ce, r->table, r->exceptions, r->exceptions_len, r->end, r->form, r->size, e->kind,
+                            e->start_star, e->start, e->end_star, e->end, e->bases, e->bases_len, e->longest, b->transcript,
+                            b->transcript_len, b->reference, b->reference_len, b->altered, b->altered_len);
+}
+
+static inline struct garumbott_answer garumbott_panel_of(const struct garumbott_reference *r, const struct garumbott_coding_edit *e,
+                                                         uint64_t named, const struct garumbott_buffers *b)
+{
+    return garumbott_panel(r->letters, r->letters_len, r->cs, r->ce, r->table, r->exceptions, r->exceptions_len, r->end, r->form, r->size, e->kind,
+                           e->start_star, e->start, e->end_star, e->end, e->bases, e->bases_len, e->longest, named, b->transcript,
+                           b->transcript_len, b->reference, b->reference_len, b->altered, b->altered_len);
 }
 
 /* Only the transcript buffer is used. */
 static inline struct garumbott_answer garumbott_edit_of(const struct garumbott_reference *r, const struct garumbott_coding_edit *e,
                                                         const struct garumbott_buffers *b)
 {
-    return garumbott_edit(r->letters, r->letters_len, r->cs, r->ce, r->table, r->exceptions, r->exceptions_len, r->end, r->form,
-                          r->size, e->kind, e->start_star, e->start, e->end_star, e->end, e->bases, e->bases_len, b->transcript, b->transcript_len);
+    return garumbott_edit(r->letters, r->letters_len, r->cs, r->ce, r->table, r->exceptions, r->exceptions_len, r->end, r->form, r->size, e->kind,
+                          e->start_star, e->start, e->end_star, e->end, e->bases, e->bases_len, e->longest, b->transcript,
+                          b->transcript_len);
 }
 
 static inline struct garumbott_checked garumbott_check_of(const struct garumbott_reference *r, const struct garumbott_coding_edit *e,
                                                           uint64_t number, const uint8_t *deleted, uint64_t deleted_len,
                                                           const uint8_t *inserted, uint64_t inserted_len, const struct garumbott_buffers *b)
 {
-    return garumbott_check(r->letters, r->letters_len, r->cs, r->ce, r->table, r->exceptions, r->exceptions_len, r->end, r->form,
-                           r->size, e->kind, e->start_star, e->start, e->end_star, e->end, e->bases, e->bases_len, number, deleted, deleted_len, inserted,
-                           inserted_len, b->transcript, b->transcript_len, b->reference, b->reference_len, b->altered, b->altered_len);
+    return garumbott_check(r->letters, r->letters_len, r->cs, r->ce, r->table, r->exceptions, r->exceptions_len, r->end, r->form, r->size, e->kind,
+                           e->start_star, e->start, e->end_star, e->end, e->bases, e->bases_len, e->longest, number, deleted,
+                           deleted_len, inserted, inserted_len, b->transcript, b->transcript_len, b->reference, b->reference_len,
+                           b->altered, b->altered_len);
 }
 
 static inline struct garumbott_length garumbott_write_stored_of(const struct garumbott_reference *r, uint8_t *out, uint64_t out_len)
 {
-    return garumbott_write_stored(r->letters, r->letters_len, r->cs, r->ce, r->table, r->exceptions, r->exceptions_len, r->end, out, out_len);
+    return garumbott_write_stored(r->letters, r->letters_len, r->cs, r->ce, r->table, r->exceptions, r->exceptions_len, r->end, r->form, r->size, out, out_len);
 }
 
 /* Exactly what 24 asks for: the length of a reference's stored form, of a reference that isn't refused. letters_len is L. Three bytes and a content for each
@@ -606,16 +689,17 @@ static inline uint64_t garumbott_stored_room(uint64_t letters_len, uint64_t exce
 static inline struct garumbott_paired garumbott_pair_of(const struct garumbott_reference *r, const struct garumbott_coding_edit *e,
                                                         const struct garumbott_coding_edit *f, const struct garumbott_buffers *b)
 {
-    return garumbott_pair(r->letters, r->letters_len, r->cs, r->ce, r->table, r->exceptions, r->exceptions_len, r->end, e->kind,
-                          e->start_star, e->start, e->end_star, e->end, e->bases, e->bases_len, f->kind, f->start_star, f->start,
-                          f->end_star, f->end, f->bases, f->bases_len, b->transcript, b->transcript_len, b->altered, b->altered_len);
+    return garumbott_pair(r->letters, r->letters_len, r->cs, r->ce, r->table, r->exceptions, r->exceptions_len, r->end, r->form, r->size, e->kind,
+                          e->start_star, e->start, e->end_star, e->end, e->bases, e->bases_len, e->longest, f->kind, f->start_star,
+                          f->start, f->end_star, f->end, f->bases, f->bases_len, f->longest, b->transcript, b->transcript_len,
+                          b->altered, b->altered_len);
 }
 
 static inline struct garumbott_length garumbott_compare_of(const struct garumbott_reference *r, const struct garumbott_reference *s,
                                                            uint8_t *out, uint64_t out_len)
 {
-    return garumbott_compare(r->letters, r->letters_len, r->cs, r->ce, r->table, r->exceptions, r->exceptions_len, r->end, s->letters,
-                             s->letters_len, s->cs, s->ce, s->table, s->exceptions, s->exceptions_len, s->end, out, out_len);
+    return garumbott_compare(r->letters, r->letters_len, r->cs, r->ce, r->table, r->exceptions, r->exceptions_len, r->end, r->form, r->size, s->letters,
+                             s->letters_len, s->cs, s->ce, s->table, s->exceptions, s->exceptions_len, s->end, s->form, s->size, out, out_len);
 }
 
 /* Packs upper-case letters, two to a byte, for GARUMBOTT_FORM_PACKED. packed needs GARUMBOTT_PACKED_BYTES(letters_len) bytes. The first of these that

@@ -351,10 +351,10 @@ def made_by(ref, edit):
     return {i: put if i == start else "" for i in range(start, end)}, {}
 
 
-def paired(ref, first, second, room=None):
-    """The transcript of two edits of a checked reference, and its protein, read without exceptions; `room` is that of the two buffers."""
-    check_edit(ref, first)
-    check_edit(ref, second)
+def paired(ref, first, second, room=None, longest=(0, 0)):
+    """The transcript of two edits of a checked reference, and its protein, read without exceptions; `room` is that of the two buffers, `longest` each edit's (E12)."""
+    check_edit(ref, first, longest[0])
+    check_edit(ref, second, longest[1])
     (a, b), (c, d) = sorted((touched(ref, first), touched(ref, second)))
     refuse(51, not any(b < 2 * i < c for i in range(len(ref.letters))))
     refuse(52, is_unknown(ref, first) or is_unknown(ref, second))

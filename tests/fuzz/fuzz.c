@@ -1,8 +1,9 @@
 /* fuzz SECONDS SEED: for so long, and on 10,000 inputs at least, calls every entry point on random bytes, on good input and on damaged copies of
  * it, through fenced memory, and holds each answer to what can be told without a second account of the rules: no byte changes that shouldn't,
  * every number is in its range, the answers of different entry points fit together, the altered transcript is what the edit makes of the letters, the codons
- * looked up are those that the edit doesn't leave alone, the record carried out on either protein gives the other, a proposed record gets its two answers by carrying it out on R, and a stored reference is what
- * its fields, read plainly, and garumbott_record make of it. In the end every answer, class, refusal and end of a CDS must have come up. Prints the call's seed where a check fails, and exits 1. */
+ * looked up are those that the edit doesn't leave alone, the record carried out on either protein gives the other, a proposed record gets its two answers by carrying it out on R, a longest
+ * edit does to 10 what counting the new bases does, the panel profile answers as garumbott_record where its four tests, made plainly, pass, and a stored reference and settings are what
+ * their fields, read plainly, make of them. In the end every answer, class, refusal and end of a CDS must have come up. Prints the call's seed where a check fails, and exits 1. */
 #define _DEFAULT_SOURCE
 #include "../host/fence.h"
 #include "garumbott.h"
@@ -45,7 +46,7 @@ static uint64_t strange(void)
 
 /* ---- checks ------------------------------------------------------------------------------------------------------------------------- */
 
-static unsigned long checks, faults, found[3], ends[3], begun, answers[5], classes[10], refusals[64], verdicts[3], long_forms[2];
+static unsigned long checks, faults, found[3], ends[3], begun, answers[5], classes[10], refusals[64], verdicts[3], long_forms[2], profiled[2], kept[3];
 static const char *doing = "";
 
 static void check(int good, const char *what)
@@ -156,6 +157,8 @@ static void make_edit(void)
             memcpy(bases, letters + start, edit.bases_len);
         }
     }
+    if (one_in(4)) edit.longest = one_in(2) ? 1 + below(4096) : edit.bases_len + below(2);
+    if (one_in(40) && edit.bases_len > 1) edit.longest = edit.bases_len - 1;
 }
 
 static void damage(uint8_t *s, uint64_t *len, uint64_t most)
@@ -184,7 +187,7 @@ static void damage_signed(int64_t *n)
 
 static void damage_call(void)
 {
-    switch (below(13)) {
+    switch (below(14)) {
     case 0: damage(letters, &ref.letters_len, sizeof letters); break;
     case 1: damage_number(&ref.cs); break;
     case 2: damage_number(&ref.ce); break;
@@ -197,6 +200,7 @@ static void damage_call(void)
     case 9: damage_signed(&edit.end); break;
     case 10: damage(bases, &edit.bases_len, sizeof bases); break;
     case 11: damage_number(&ref.end); break;
+    case 12: damage_number(&edit.longest); break;
     default: /* bytes of any kind */
         for (uint64_t i = 0; i < ref.letters_len; i++) letters[i] = (uint8_t)chance();
         break;
@@ -239,7 +243,7 @@ static void edit_call(int alone, enum fence_side side, const size_t size[3], str
     check(fence_check(&fences[REFERENCE], NULL, a->reference_len), "reference buffer");
     check(fence_check(&fences[ALTERED], NULL, a->altered_len), "altered buffer");
     check(a->answer <= 4 && (a->answer == 0) == (a->refusal != 0), "answer and refusal");
-    check(a->refusal <= (alone ? 11u : 12u) || a->refusal == 28, "refusal's number");
+    check(a->refusal <= (alone ? 11u : 12u) || a->refusal == 28 || a->refusal == 62, "refusal's number");
     if (a->answer < 2) check(same(a, &none), "a refusal or Unknown tells more");
     check(a->frameshift <= 1 && a->change <= 9 && (a->change != 0) == (a->answer == 4 && !alone), "flag and class");
     memcpy(o->t, b.transcript, a->transcript_len);
@@ -357,6 +361,55 @@ static void check_proteins(const struct outcome *o)
         check(ref.end != GARUMBOTT_END_STOP && a->deleted_len == 0 && a->change != GARUMBOTT_CHANGE_EXTENSION, "R is the beginning of A");
         begun++;
     }
+}
+
+/* ---- the longest edit, and the panel profile ---------------------------------------------------------------------------------------- */
+
+/* What the longest edit of a call does, by what is answered without it: 62 before 1, and 10 where more bases of a delins or an insertion are new. */
+static void check_longest(const size_t most[3], const struct outcome *o)
+{
+    static struct outcome without;
+    uint64_t longest = edit.longest, limit = longest == 0 ? GARUMBOTT_MOST_BASES : longest;
+    if (longest == 0) return;
+    edit.longest = 0;
+    edit_call(0, FENCE_END, most, &without);
+    edit.longest = longest;
+    struct garumbott_answer want = without.a, none = {.refusal = longest > GARUMBOTT_MOST_BASES ? 62 : 10};
+    int counted = edit.kind == GARUMBOTT_DELINS || edit.kind == GARUMBOTT_INSERTION, judged_before = want.refusal == 28 || (want.refusal >= 1 && want.refusal <= 9);
+    if (longest > GARUMBOTT_MOST_BASES || (counted && edit.bases_len > limit && !judged_before)) want = none;
+    check(same(&o->a, &want), "the longest edit");
+}
+
+/* The edit under the profile with the room of the case, whose own answer is `o`; `wide` is that with ample room. */
+static void check_panel(const struct outcome *o, const struct outcome *wide)
+{
+    enum fence_side side = one_in(2) ? FENCE_END : FENCE_START;
+    struct garumbott_reference r = ref;
+    struct garumbott_coding_edit e = edit;
+    uint64_t behind_10 = wide->a.refusal == 0, at = ref.cs + (uint64_t)edit.start - 2, four = 1, named = one_in(3) ? strange() : (uint8_t) "ACGT"[below(4)];
+    struct garumbott_answer want = o->a;
+    if (behind_10 && edit.kind == GARUMBOTT_SUBSTITUTION && at < ref.letters_len && !one_in(4)) named = letters[at];
+    for (uint64_t i = 0; behind_10 && i < ref.letters_len; i++) four &= memchr("ACGT", letters[i], 4) != NULL;
+    for (uint64_t i = 0; behind_10 && i < edit.bases_len; i++) four &= memchr("ACGT", bases[i], 4) != NULL;
+    int kind = edit.kind == GARUMBOTT_SUBSTITUTION || edit.kind == GARUMBOTT_DELETION || edit.kind == GARUMBOTT_DUPLICATION || edit.kind == GARUMBOTT_INSERTION;
+    int inside = edit.start_star == 0 && edit.end_star == 0 && edit.start > 0 && edit.end > 0;
+    uint64_t net = edit.kind == GARUMBOTT_INSERTION ? edit.bases_len : edit.kind == GARUMBOTT_SUBSTITUTION ? 0 : (uint64_t)edit.end - (uint64_t)edit.start + 1, own = 0;
+    if (behind_10) own = !four ? 40 : !kind || !inside ? 41 : net % 3 != 0 ? 42 : edit.kind == GARUMBOTT_SUBSTITUTION && named != letters[at] ? 43 : 0;
+    if (own != 0) want = (struct garumbott_answer){.refusal = own};
+    r.letters = lend(LETTERS, side, letters, ref.letters_len);
+    r.exceptions = lend(EXCEPTIONS, side, exceptions, ref.exceptions_len);
+    e.bases = lend(BASES, side, bases, edit.bases_len);
+    struct garumbott_buffers b = {fence_fill(&fences[TRANSCRIPT], side, NULL, room[0]), room[0], fence_fill(&fences[REFERENCE], side, NULL, room[1]), room[1],
+                                  fence_fill(&fences[ALTERED], side, NULL, room[2]), room[2]};
+    doing = "garumbott_panel";
+    struct garumbott_answer got = garumbott_panel_of(&r, &e, named, &b);
+    check(same(&got, &want), "answer");
+    check(unchanged(LETTERS, r.letters) && unchanged(EXCEPTIONS, r.exceptions) && unchanged(BASES, e.bases), "input changed");
+    check(fence_check(&fences[TRANSCRIPT], o->t, want.transcript_len), "transcript buffer");
+    check(fence_check(&fences[REFERENCE], o->r, want.reference_len), "reference buffer");
+    check(fence_check(&fences[ALTERED], o->p, want.altered_len), "altered buffer");
+    refusals[got.refusal < 64 ? got.refusal : 0]++;
+    profiled[own == 0 && got.answer > GARUMBOTT_UNKNOWN]++;
 }
 
 /* ---- records from elsewhere --------------------------------------------------------------------------------------------------------- */
@@ -520,6 +573,9 @@ static void fuzz_edit(void)
     refusals[o.a.refusal]++;
     check(same(&o.a, &again.a) && memcmp(o.t, again.t, o.a.transcript_len) == 0 && memcmp(o.r, again.r, o.a.reference_len) == 0
               && memcmp(o.p, again.p, o.a.altered_len) == 0, "two calls differ");
+    check_longest(most, &wide);
+    check_panel(&o, &wide);
+    doing = "garumbott_record";
     if (wide.a.answer < 2) {
         check(same(&o.a, &wide.a) && same(&alone.a, &wide.a), "room counts in a refusal or Unknown");
         fuzz_check(most, &wide, 0);
@@ -626,6 +682,7 @@ static void fuzz_pair(void)
     }
     struct garumbott_paired want[2] = {{0}, {0}}, less = {0};
     for (int i = 0; i < 2; i++) want[i].refusal = two[i].answer.refusal != 0 ? two[i].answer.refusal : two[1 - i].answer.refusal;
+    if (two[0].answer.refusal == 62 || two[1].answer.refusal == 62) want[0].refusal = want[1].refusal = 62;
     if (want[0].refusal == 0) {
         plain_carried(&two[0]);
         plain_carried(&two[1]);
@@ -817,7 +874,7 @@ static void fuzz_stored(void)
     if (got[0].refusal == 0) found[got[0].end <= 2 ? got[0].end : 0]++;
 }
 
-/* ---- byte strings ------------------------------------------------------------------------------------------------------------------- */
+/* ---- settings ----------------------------------------------------------------------------------------------------------------------- */
 
 static uint64_t some_bytes(uint8_t *s, uint64_t most, const char *of)
 {
@@ -825,6 +882,61 @@ static uint64_t some_bytes(uint8_t *s, uint64_t most, const char *of)
     for (uint64_t i = 0; i < n; i++) s[i] = kinds == 0 || one_in(60) ? (uint8_t)chance() : (uint8_t)of[below(kinds)];
     return n;
 }
+
+/* The store read in the plainest way. */
+static struct garumbott_settings plain_settings(uint64_t newest, const uint8_t *s, uint64_t n)
+{
+    struct garumbott_settings w = {.refusal = 60};
+    if ((newest != 1 && newest != 2) || n < 4 || memcmp(s, "\1\0\1", 3) != 0 || s[3] == 0) return w;
+    w.newer = s[3] > newest;
+    if (w.newer) return w;
+    w.refusal = 61;
+    if (n != (s[3] == 2 ? GARUMBOTT_SETTINGS_ROOM : GARUMBOTT_SETTINGS_FIRST_ROOM)) return w;
+    if (memcmp(s + 4, "\2\0\1", 3) != 0 || memcmp(s + 8, "\3\0\1", 3) != 0 || memcmp(s + 12, "\4\0\1", 3) != 0) return w;
+    if (s[3] == 2 && memcmp(s + 16, "\5\0\2", 3) != 0) return w;
+    uint64_t longest = s[3] == 2 ? s[19] * UINT64_C(256) + s[20] : GARUMBOTT_MOST_BASES;
+    w.refusal = 62;
+    if (s[7] > 2 || s[11] > 1 || (s[15] != 1 && s[15] != 3) || longest == 0 || longest > GARUMBOTT_MOST_BASES) return w;
+    return (struct garumbott_settings){.version = s[3], .table = s[7], .profile = s[11], .width = s[15], .longest = longest};
+}
+
+/* Settings, mostly good, written, damaged and read. */
+static void fuzz_settings(void)
+{
+    struct garumbott_settings x = {.version = 1 + below(2), .table = below(3), .profile = below(2), .width = 1 + 2 * below(2)};
+    enum fence_side side = one_in(2) ? FENCE_END : FENCE_START;
+    uint8_t held[64] = {0};
+    x.longest = x.version == 1 && !one_in(8) ? GARUMBOTT_MOST_BASES : 1 + below(4096);
+    uint64_t *numbers[] = {&x.version, &x.table, &x.profile, &x.width, &x.longest};
+    if (one_in(3)) damage_number(numbers[below(5)]);
+    uint64_t size = x.version == 2 ? GARUMBOTT_SETTINGS_ROOM : GARUMBOTT_SETTINGS_FIRST_ROOM, space = one_in(4) ? below(24) : size + below(3), number = 0;
+    int good = x.table <= 2 && x.profile <= 1 && (x.width == 1 || x.width == 3) && x.longest >= 1 && x.longest <= 4096 && (x.version == 2 || x.longest == 4096);
+    fences = small;
+    doing = "garumbott_write_settings";
+    number = x.version != 1 && x.version != 2 ? 60 : !good ? 62 : space < size ? 63 : 0;
+    uint8_t *out = fence_fill(&fences[TRANSCRIPT], side, NULL, space);
+    struct garumbott_length w = garumbott_write_settings(x.version, x.table, x.profile, x.width, x.longest, out, space);
+    check(w.refusal == number && w.len == (number == 0 ? size : 0), "answer");
+    check(w.len < sizeof held && fence_check(&fences[TRANSCRIPT], NULL, w.len), "bytes changed");
+    if (w.len >= sizeof held) return;
+    memcpy(held, out, w.len);
+    refusals[w.refusal < 64 ? w.refusal : 0]++;
+    uint64_t n = w.len, newest = one_in(12) ? strange() : 1 + below(2);
+    if (n == 0) n = some_bytes(held, 30, "\1\2\3\4\5");
+    for (uint64_t i = one_in(2) ? 0 : 1 + below(2); i != 0; i--) damage(held, &n, 30);
+    doing = "garumbott_read_settings";
+    const uint8_t *data = lend(STORED, side, held, n);
+    struct garumbott_settings got = garumbott_read_settings(newest, data, n), want = plain_settings(newest, held, n);
+    check(unchanged(STORED, data), "input changed");
+    check(memcmp(&got, &want, sizeof got) == 0, "the store read plainly says otherwise");
+    refusals[got.refusal < 64 ? got.refusal : 0]++;
+    kept[got.refusal == 0 ? 0 : got.newer ? 1 : 2]++;
+    if (got.refusal != 0) return;
+    w = garumbott_write_settings(got.version, got.table, got.profile, got.width, got.longest, fence_fill(&fences[TRANSCRIPT], side, NULL, n), n);
+    check(w.refusal == 0 && w.len == n && fence_check(&fences[TRANSCRIPT], held, n), "read and written again, other bytes");
+}
+
+/* ---- byte strings ------------------------------------------------------------------------------------------------------------------- */
 
 typedef struct garumbott_length filler(const uint8_t *, uint64_t, uint8_t *, uint64_t);
 
@@ -929,7 +1041,7 @@ int main(int argc, char **argv)
 {
     double seconds = argc > 1 ? strtod(argv[1], NULL) : 30;
     uint64_t seed = argc > 2 ? strtoull(argv[2], NULL, 10) : 1, calls = 0;
-    static const int wanted[] = {1, 2, 3, 4, 5, 6, 7, 8, 9, 10, 11, 12, 14, 15, 20, 21, 22, 23, 25, 26, 27, 28, 29, 51, 52, 53};
+    static const int wanted[] = {1, 2, 3, 4, 5, 6, 7, 8, 9, 10, 11, 12, 14, 15, 20, 21, 22, 23, 25, 26, 27, 28, 29, 40, 41, 42, 43, 51, 52, 53, 60, 61, 62, 63};
     enum { LEAST = 10000 }; /* a slow machine too must meet every answer, class and refusal */
     time_t until = time(NULL) + (time_t)seconds;
     for (int i = 0; i < FENCES; i++) fence_make(&small[i], 4000), fence_make(&large[i], 40000), fence_make(&huge[i], GARUMBOTT_TRANSCRIPT_ROOM + 64);
@@ -939,6 +1051,7 @@ int main(int argc, char **argv)
             if (i % 4 == 3) fuzz_strings();
             else if (i % 4 == 1) fuzz_stored();
             else if (i % 8 == 6) fuzz_pair();
+            else if (i % 16 == 10) fuzz_settings();
             else fuzz_edit();
         }
     } while (time(NULL) < until || calls < LEAST);
@@ -947,6 +1060,8 @@ int main(int argc, char **argv)
         printf("end %d: %lu edits, %lu stored references\n", i, ends[i], found[i]), check(ends[i] != 0 && found[i] != 0, "an end never came up");
     for (int i = 0; i < 3; i++) printf("records %s: %lu\n", (const char *[]){"no no", "yes no", "yes yes"}[i], verdicts[i]), check(verdicts[i] != 0, "an answer to a record never came up");
     printf("stored references with joined letters: %lu\n", long_forms[1]), check(long_forms[1] != 0, "no letters were joined");
+    printf("edits that the profile accepts: %lu\n", profiled[1]), check(profiled[1] != 0, "the profile never accepts");
+    printf("settings read: %lu, newer: %lu\n", kept[0], kept[1]), check(kept[0] != 0 && kept[1] != 0, "no settings were read, or none newer");
     printf("R the beginning of A: %lu\n", begun), check(begun != 0, "R was never the beginning of A");
     for (int i = 1; i < 10; i++) printf("%s: %lu\n", garumbott_class_name((uint64_t)i), classes[i]), check(classes[i] != 0, "a class never came up");
     for (size_t i = 0; i < sizeof wanted / sizeof *wanted; i++) printf("refused %d: %lu\n", wanted[i], refusals[wanted[i]]), check(refusals[wanted[i]] != 0, "a refusal never came up");

@@ -111,6 +111,12 @@ wanted["REFERENCE_ROOM"] = (wanted["LONGEST"] + 2) // 3
 wanted["ALTERED_ROOM"] = (wanted["TRANSCRIPT_ROOM"] + 2) // 3
 wanted["DIFFERENCE_BYTES"], wanted["DIFFERENCES_ROOM"] = 4, 4 * wanted["REFERENCE_ROOM"]
 wanted["OF_SECOND"] = int(re.search(r"↯ \((\d+) \+ referenceRefusal longest s\)", text(f"{SPECS}/Editions.antt")).group(1))
+settings = text(f"{SPECS}/Settings.antt")
+versions = re.search(r"^isVersion v = leb (\d+) v && leb v (\d+)$", settings, re.M)
+wanted["SETTINGS_FIRST"], wanted["SETTINGS_SECOND"] = int(versions.group(1)), int(versions.group(2))
+stored, added = re.search(r"^layout v = (.*) ∷ \(if hasLongest v then (.*) ∷ \[\] else \[\]\)$", settings, re.M).groups()
+sizes = [sum(3 + int(n) for n in re.findall(r"\(\d+, (\d+)\)", fields)) for fields in (stored, added)]
+wanted["SETTINGS_FIRST_ROOM"], wanted["SETTINGS_ROOM"] = sizes[0], sum(sizes)
 for name, n in sorted(wanted.items()):
     same(name, f"GARUMBOTT_{name}", str(n))
 refusals = set()

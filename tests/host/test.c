@@ -438,6 +438,9 @@ static void refusal_case(const struct refusal *x)
 #define EXCEPTED(s) .exceptions = (const uint8_t *)(s), .exceptions_len = sizeof(s) - 1
 #define SEVENTEEN "\0\1A\0\2A\0\3A\0\4A\0\1A\0\2A\0\3A\0\4A\0\1A\0\2A\0\3A\0\4A\0\1A\0\2A\0\3A\0\4A\0\5*"
 
+#define LONGEST_EDIT(n, k, s, e, b) \
+    {.kind = GARUMBOTT_##k, .start = (s), .end = (e), .bases = (const uint8_t *)(b), .bases_len = sizeof(b) - 1, .longest = (n)}
+
 static void refusals(void)
 {
     static const struct refusal all[] = {
@@ -527,8 +530,79 @@ static void refusals(void)
         {"bases in an inversion", WITH(.table = 0), ONE_NEW(INVERSION, 5, "A"), 10},
         {"bases in an identity", WITH(.table = 0), ONE_NEW(IDENTITY, 5, "A"), 10},
         {"10 before Unknown", WITH(.table = 0), {.kind = GARUMBOTT_DELINS, .start = 1, .end_star = 1, .end = 7}, 10},
+        {"two new bases, longest 1", WITH(.table = 0), LONGEST_EDIT(1, INSERTION, 4, 5, "AC"), 10},
+        {"what the cut would leave fits", WITH(.table = 0), LONGEST_EDIT(3, INSERTION, 9, 10, "TAGC"), 10},
+        {"longest 4,097", WITH(.table = 0), LONGEST_EDIT(4097, INSERTION, 4, 5, "AC"), 62},
+        {"longest 2^16+1", WITH(.table = 0), LONGEST_EDIT(65537, INSERTION, 4, 5, "AC"), 62},
+        {"longest 2^32+1", WITH(.table = 0), LONGEST_EDIT((UINT64_C(1) << 32) + 1, DELETION, 5, 5, ""), 62},
+        {"longest 2^64-1, before 7", WITH(.table = 0), LONGEST_EDIT(UINT64_MAX, DELETION, 0, 0, ""), 62},
     };
     for (size_t i = 0; i < sizeof all / sizeof *all; i++) refusal_case(&all[i]);
+}
+
+/* ---- the panel profile -------------------------------------------------------------------------------------------------------------- */
+
+/* An edit under the profile, with plenty of room and with none: the refusal, or where that is 0 what garumbott_record answers and writes. */
+static void panel_case(const char *name, const struct garumbott_reference *reference, const struct garumbott_coding_edit *edit, uint64_t named, uint64_t refusal)
+{
+    static const size_t none[3] = {0, 0, 0};
+    for (int side = FENCE_END; side <= FENCE_START; side++) {
+        for (int roomy = 0; roomy < 2; roomy++) {
+            static uint8_t t[256], r[256], a[256];
+            const size_t *room = roomy ? plenty : none;
+            struct garumbott_reference ref = *reference;
+            struct garumbott_coding_edit e = *edit;
+            ref.letters = lend(LETTERS, side, reference->letters, reference->letters_len);
+            ref.exceptions = lend(EXCEPTIONS, side, reference->exceptions, reference->exceptions_len);
+            e.bases = lend(BASES, side, edit->bases, edit->bases_len);
+            struct garumbott_buffers b = {t, roomy ? sizeof t : 0, r, roomy ? sizeof r : 0, a, roomy ? sizeof a : 0};
+            struct garumbott_answer want = garumbott_record_of(&ref, &e, &b);
+            if (refusal != 0) want = (struct garumbott_answer){.refusal = refusal};
+            b.transcript = fence_fill(&fences[TRANSCRIPT], side, NULL, b.transcript_len = room[0]);
+            b.reference = fence_fill(&fences[REFERENCE], side, NULL, b.reference_len = room[1]);
+            b.altered = fence_fill(&fences[ALTERED], side, NULL, b.altered_len = room[2]);
+            struct garumbott_answer got = garumbott_panel_of(&ref, &e, named, &b);
+            check(same(&got, &want), name, "panel's answer");
+            check(fence_check(&fences[TRANSCRIPT], t, want.transcript_len), name, "panel's transcript");
+            check(fence_check(&fences[REFERENCE], r, want.reference_len), name, "panel's reference protein");
+            check(fence_check(&fences[ALTERED], a, want.altered_len), name, "panel's altered protein");
+        }
+    }
+}
+
+/* The inputs that decide the request's clauses. */
+static void panels(void)
+{
+    static const struct {
+        const char *name;
+        struct garumbott_reference reference;
+        struct garumbott_coding_edit edit;
+        uint64_t named, refusal;
+    } all[] = {
+        {"a letter behind the CDS", REFERENCE_OF("ATGAAATAAN", 1, 9, 0, NULL, 0), ONE_NEW(SUBSTITUTION, 4, "C"), 'A', 40},
+        {"7 before 40", REFERENCE_OF("ATGAAATAAN", 1, 9, 0, NULL, 0), ONE(DELETION, 0), 'A', 7},
+        {"a star anchor", WITH(.table = 0), {.kind = GARUMBOTT_INSERTION, .start = 15, .end_star = 1, .end = 1, .bases = (const uint8_t *)"AAA", .bases_len = 3}, 'A', 41},
+        {"a star end", WITH(.table = 0), STAR(DELETION, 13, 1), 'A', 41},
+        {"a negative start", WITH(.table = 0), TWO(DELETION, -1, 2), 'A', 41},
+        {"an inversion", WITH(.table = 0), TWO(INVERSION, 4, 6), 'A', 41},
+        {"40 before 41", WITH(.table = 0), TWO_NEW(DELINS, 4, 9, "NNN"), 'A', 40},
+        {"before the cut", WITH(.table = 0), TWO_NEW(INSERTION, 8, 9, "ATAA"), 'A', 42},
+        {"cut", WITH(.table = 0), TWO_NEW(INSERTION, 9, 10, "TAG"), 0, 0},
+        {"in frame", WITH(.table = 0), TWO(DELETION, 5, 7), 0, 0},
+        {"8A>G", WITH(.table = 0), ONE_NEW(SUBSTITUTION, 8, "G"), 'A', 0},
+        {"8C>G", WITH(.table = 0), ONE_NEW(SUBSTITUTION, 8, "G"), 'C', 43},
+        {"8a>G", WITH(.table = 0), ONE_NEW(SUBSTITUTION, 8, "G"), 'a', 43},
+        {"a byte's number above 255", WITH(.table = 0), ONE_NEW(SUBSTITUTION, 8, "G"), 'A' + 256, 43},
+        {"2^32 above it", WITH(.table = 0), ONE_NEW(SUBSTITUTION, 8, "G"), 'A' + (UINT64_C(1) << 32), 43},
+        {"42 before Unknown", REFERENCE_OF("ATGTAATAA", 1, 9, 0, NULL, 0), ONE(DELETION, 4), 'T', 42},
+        {"Unknown", REFERENCE_OF("ATGTAATAA", 1, 9, 0, NULL, 0), ONE_NEW(SUBSTITUTION, 4, "A"), 'T', 0},
+        {"10 by the longest edit", WITH(.table = 0), LONGEST_EDIT(2, INSERTION, 9, 10, "TAG"), 0, 10},
+        {"at the longest edit", WITH(.table = 0), LONGEST_EDIT(3, INSERTION, 9, 10, "TAG"), 0, 0},
+        {"longest 4,097", WITH(.table = 0), LONGEST_EDIT(4097, INSERTION, 9, 10, "TAG"), 0, 62},
+        {"cut short", {.letters = (const uint8_t *)"ATGGCC", .letters_len = 6, .cs = 1, .ce = 6, .end = 1}, ONE_NEW(SUBSTITUTION, 4, "C"), 'G', 0},
+        {"cut short, a star end", {.letters = (const uint8_t *)"ATGGCC", .letters_len = 6, .cs = 1, .ce = 6, .end = 1}, STAR(DELETION, 4, 1), 'G', 41},
+    };
+    for (size_t i = 0; i < sizeof all / sizeof *all; i++) panel_case(all[i].name, &all[i].reference, &all[i].edit, all[i].named, all[i].refusal);
 }
 
 /* ---- how a CDS ends ---------------------------------------------------------------------------------------------------------------- */
@@ -1638,6 +1712,15 @@ static void nulls(void)
     check(garumbott_check_of(&none, &edit, 0, NULL, 0, NULL, 0, &buffers).refusal == 1, "NULL everywhere", "check");
     check(garumbott_check_of(&SHORT, &whole, 0, NULL, 0, NULL, 0, &buffers).refusal == 26, "NULL buffers", "check, Unknown");
     check(garumbott_check_of(&SHORT, &in, 0, NULL, 0, NULL, 0, &buffers).refusal == 11, "NULL buffers", "check");
+    check(garumbott_panel_of(&none, &edit, 0, &buffers).refusal == 1, "NULL everywhere", "panel");
+    check(garumbott_panel_of(&SHORT, &in, 0, &buffers).refusal == 42, "NULL buffers", "panel");
+    edit.longest = 4097;
+    check(garumbott_record_of(&none, &edit, &buffers).refusal == 62 && garumbott_edit_of(&none, &edit, &buffers).refusal == 62, "62 before 1", "record and edit");
+    check(garumbott_panel_of(&none, &edit, 0, &buffers).refusal == 62, "62 before 1", "panel");
+    check(garumbott_check_of(&none, &edit, 0, NULL, 0, NULL, 0, &buffers).refusal == 62, "62 before 1", "check");
+    check(garumbott_pair_of(&none, &edit, &in, &buffers).refusal == 62 && garumbott_pair_of(&none, &in, &edit, &buffers).refusal == 62, "62 before 1", "pair");
+    check(garumbott_read_settings(2, NULL, 0).refusal == 60, "NULL", "read_settings");
+    check(garumbott_write_settings(1, 0, 1, 3, 4096, NULL, 0).refusal == 63, "NULL", "write_settings");
     check(garumbott_compare_of(&none, &none, NULL, 0).refusal == 1, "NULL everywhere", "compare");
     check(garumbott_compare_of(&SHORT, &none, NULL, 0).refusal == GARUMBOTT_OF_SECOND + 1, "NULL, the second", "compare");
     check(garumbott_compare_of(&SHORT, &W, NULL, 0).refusal == GARUMBOTT_REFUSAL_LIST, "NULL buffer", "compare");
@@ -1716,6 +1799,15 @@ static void *call_record(void *given)
     struct garumbott_reference r = longest_reference(), cut = endless_reference();
     garumbott_record_of(&r, given, &b);
     garumbott_record_of(&cut, given, &b);
+    return NULL;
+}
+
+static void *call_panel(void *given)
+{
+    struct garumbott_buffers b = {on_t, sizeof on_t, on_r, sizeof on_r, on_a, sizeof on_a};
+    struct garumbott_reference r = longest_reference(), cut = endless_reference();
+    garumbott_panel_of(&r, given, 'A', &b);
+    garumbott_panel_of(&cut, given, 'A', &b);
     return NULL;
 }
 
@@ -1820,6 +1912,8 @@ static void stack(void)
         most = r > most ? r : most;
         most = e > most ? e : most;
         most = c > most ? c : most;
+        size_t p = touched(call_panel, &edits[i]) - base;
+        most = p > most ? p : most;
     }
     static void *(*const others[])(void *) = {call_compare, call_stored, call_translate, call_strings};
     for (size_t i = 0; i < sizeof others / sizeof *others; i++) {
@@ -1841,6 +1935,7 @@ int main(int argc, char **argv)
     rows();
     codons();
     refusals();
+    panels();
     ends();
     limits();
     cut_limits();

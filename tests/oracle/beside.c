@@ -138,7 +138,7 @@ static void show(const char *what, const struct garumbott_answer *ours)
 /* The object of bench/native follows x86-64's convention on every processor: a struct above sixteen bytes is written through a first argument. */
 void record_through(struct garumbott_answer *answer, const uint8_t *letters, uint64_t letters_len, uint64_t cs, uint64_t ce, uint64_t table,
                     const uint8_t *exceptions, uint64_t exceptions_len, uint64_t cds_end, uint64_t form, uint64_t size, uint64_t kind, uint64_t start_star, int64_t start, uint64_t end_star,
-                    int64_t end, const uint8_t *bases, uint64_t bases_len, uint8_t *transcript, uint64_t transcript_len, uint8_t *reference,
+                    int64_t end, const uint8_t *bases, uint64_t bases_len, uint64_t longest, uint8_t *transcript, uint64_t transcript_len, uint8_t *reference,
                     uint64_t reference_len, uint8_t *altered, uint64_t altered_len) __asm__("garumbott_record");
 #endif
 
@@ -147,11 +147,11 @@ static struct garumbott_answer ours_of(const struct reference *r, uint8_t *to_tx
 {
 #ifdef __x86_64__
     return garumbott_record(r->letters, r->len, r->cs, r->ce, r->table, r->exceptions, r->exceptions_len, r->end, 0, 0, edit.kind, edit.start_star, edit.start,
-                            edit.end_star, edit.end, edit.bases, edit.bases_len, to_tx, ROOM, to_r, ROOM, to_a, ROOM);
+                            edit.end_star, edit.end, edit.bases, edit.bases_len, 0, to_tx, ROOM, to_r, ROOM, to_a, ROOM);
 #else
     struct garumbott_answer answer;
     record_through(&answer, r->letters, r->len, r->cs, r->ce, r->table, r->exceptions, r->exceptions_len, r->end, 0, 0, edit.kind, edit.start_star, edit.start,
-                   edit.end_star, edit.end, edit.bases, edit.bases_len, to_tx, ROOM, to_r, ROOM, to_a, ROOM);
+                   edit.end_star, edit.end, edit.bases, edit.bases_len, 0, to_tx, ROOM, to_r, ROOM, to_a, ROOM);
     return answer;
 #endif
 }
