@@ -49,7 +49,10 @@
  *   Versions. Later versions add members at the ends of the structs; 0 in a new member means what is done today. The functions over slices and numbers
  *     gain parameters; those over structs keep theirs. New in 2.0.0: the end of a CDS (cds_end in garumbott_record and garumbott_edit, behind
  *     exceptions_len; end in struct garumbott_reference and struct garumbott_stored; tag 8 of stored references; refusal 28), with R's room rounded
- *     up for a cut codon; garumbott_write_stored, with refusal 24; garumbott_check, with refusals 26 and 27; garumbott_pair, with refusals 51 to 53; garumbott_compare, with refusals 50, 101 to 106 and 128; codons in struct garumbott_answer; transcripts up to 131,072 bases (rooms and GARUMBOTT_STACK have grown; a buffer for joined letters in garumbott_read_stored and garumbott_reference_at; joined in struct garumbott_stored; tags 5, 6 and 7 of stored references; refusals 25 and 29). Other answers than in 1: a copy of the first
+ *     up for a cut codon; garumbott_write_stored, with refusal 24; garumbott_check, with refusals 26 and 27; garumbott_pair, with refusals 51 to
+ *     53; garumbott_compare, with refusals 50, 101 to 106 and 128; codons in struct garumbott_answer; transcripts up to 131,072 bases (rooms and
+ *     GARUMBOTT_STACK have grown; a buffer for joined letters in garumbott_read_stored and garumbott_reference_at; joined in struct
+ *     garumbott_stored; tags 5, 6 and 7 of stored references; refusals 25 and 29). Other answers than in 1: a copy of the first
  *     residues is a duplication, and a codon whose plain codons give exactly D and N, or exactly E and Q, is 'B' or 'Z' in R and A, where it was
  *     'X': a record kept with that 'X' no longer replays. The archive can't tell which header its caller was compiled with: compile all of a host
  *     with the header that came with the archive, and anew whenever they change.
