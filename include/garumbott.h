@@ -47,12 +47,17 @@
  *   Letters are IUPAC's for bases and sets of bases, ACGTRYSWKMBDHVN, in upper case but for garumbott_translate. Letters and residues are bytes of
  *     ASCII. A stop is '*', a residue that is D or N 'B', one that is E or Q 'Z', any other that isn't known 'X'.
  *   Versions. Later versions add members at the ends of the structs; 0 in a new member means what is done today. The functions over slices and numbers
- *     gain parameters; those over structs keep theirs. New in 2.0.0: the end of a CDS (cds_end in garumbott_record and garumbott_edit, behind
+ *     gain parameters; those over structs keep theirs, but for garumbott_reference_at in 2.0.0. New in 2.0.0: the end of a CDS (cds_end behind
  *     exceptions_len; end in struct garumbott_reference and struct garumbott_stored; tag 8 of stored references; refusal 28), with R's room rounded
- *     up for a cut codon; garumbott_write_stored, with refusal 24; garumbott_check, with refusals 26 and 27; garumbott_pair, with refusals 51 to 53; garumbott_compare, with refusals 50, 101 to 106 and 128; codons in struct garumbott_answer; packed letters (form and size, behind cds_end, and at the end of struct garumbott_reference), with garumbott_pack; longest in struct garumbott_coding_edit, and behind bases_len in the functions over slices and numbers that take an edit, with refusal 62; garumbott_read_settings and garumbott_write_settings, with refusals 60 to 63; garumbott_panel, with refusals 40 to 43; transcripts up to 131,072 bases (rooms and GARUMBOTT_STACK have grown; a buffer for joined letters in garumbott_read_stored and garumbott_reference_at; joined in struct garumbott_stored; tags 5, 6 and 7 of stored references; refusals 25 and 29). Other answers than in 1: a copy of the first
- *     residues is a duplication, and a codon whose plain codons give exactly D and N, or exactly E and Q, is 'B' or 'Z' in R and A, where it was
- *     'X': a record kept with that 'X' no longer replays. The archive can't tell which header its caller was compiled with: compile all of a host
- *     with the header that came with the archive, and anew whenever they change.
+ *     up for a cut codon; packed letters (form and size, behind cds_end, and at the end of struct garumbott_reference), with garumbott_pack; longest
+ *     in struct garumbott_coding_edit, and behind bases_len in the functions over slices and numbers, with refusal 62; codons in struct
+ *     garumbott_answer; garumbott_check, with refusals 26 and 27; garumbott_panel, with refusals 40 to 43; garumbott_pair, with refusals 51 to 53;
+ *     garumbott_compare, with refusals 50, 101 to 106 and 128; garumbott_write_stored, with refusal 24; garumbott_read_settings and
+ *     garumbott_write_settings, with refusals 60 to 63; transcripts up to 131,072 bases (rooms and GARUMBOTT_STACK have grown; a buffer for joined
+ *     letters in garumbott_read_stored and garumbott_reference_at; joined in struct garumbott_stored; tags 5, 6 and 7 of stored references; refusals
+ *     25 and 29). Other answers than in 1: a copy of the first residues is a duplication, and a codon whose plain codons give exactly D and N, or
+ *     exactly E and Q, is 'B' or 'Z' in R and A, where it was 'X': a record kept with that 'X' no longer replays. The archive can't tell which header
+ *     its caller was compiled with: compile all of a host with the header that came with the archive, and anew whenever they change.
  *
  * The archive is compiled for Linux on x86-64 (System V calling convention). It wants memcpy and memset of the C library and nothing else,
  * and links into programs and shared objects alike. The header is C11, and C++ as well.
@@ -774,7 +779,7 @@ static inline const char *garumbott_answer_name(uint64_t answer)
 }
 
 /* The words of what is refused of a reference, the first of two as well as the second. */
-#define GARUMBOTT_WORDS_LENGTH "the transcript's length is 0 or above 131,072 (in the text program 16,384)"
+#define GARUMBOTT_WORDS_LENGTH "the transcript's length L is 0 or above its limit: the library takes up to 131,072; the text program keeps 16,384"
 #define GARUMBOTT_WORDS_LETTER \
     "a letter is not of ACGTRYSWKMBDHVN, the fifteen of a reference and of a complement; plain translation takes either case, and U as T"
 #define GARUMBOTT_WORDS_BOUNDS \
@@ -817,7 +822,8 @@ static inline const char *garumbott_refusal_words(uint64_t number)
                "or an output doesn't fit (of names, a translation, a complement or a run)";
     case GARUMBOTT_REFUSAL_CUT: return "a stored field is cut off";
     case GARUMBOTT_REFUSAL_TAG: return "a stored tag is unknown, repeated or not rising";
-    case GARUMBOTT_REFUSAL_MISSING: return "stored tag 1 or 3 (letters, table) is missing, or one of tags 2 and 7 (bounds)";
+    case GARUMBOTT_REFUSAL_MISSING:
+        return "stored tag 1 or 3 (letters, table) is missing, or both 2 and 7 are (bounds): a stored reference wants one of tags 2 and 7";
     case GARUMBOTT_REFUSAL_FIELD:
         return "a stored field's length is wrong for its tag, tag 5 or 6 is empty, or the content of tag 8 is not 1 or 2";
     case GARUMBOTT_REFUSAL_STORED_ROOM: return "the buffer is too short for the stored form";

@@ -2,7 +2,8 @@
  * it, through fenced memory, and holds each answer to what can be told without a second account of the rules: no byte changes that shouldn't,
  * every number is in its range, the answers of different entry points fit together, the altered transcript is what the edit makes of the letters, the codons
  * looked up are those that the edit doesn't leave alone, the record carried out on either protein gives the other, a proposed record gets its two answers by carrying it out on R, a longest
- * edit does to 10 what counting the new bases does, the panel profile answers as garumbott_record where its four tests, made plainly, pass, and a stored reference and settings are what
+ * edit does to 10 what counting the new bases does, the panel profile answers as garumbott_record where its four tests, made plainly, pass, two edits of a haplotype make the letters that
+ * both put together do, two editions differ in the codons that do one by one, a reference is written as its fields, one behind the other, and a stored reference and settings are what
  * their fields, read plainly, make of them. In the end every answer, class, refusal and end of a CDS must have come up. Prints the call's seed where a check fails, and exits 1. */
 #define _DEFAULT_SOURCE
 #include "../host/fence.h"
@@ -46,7 +47,8 @@ static uint64_t strange(void)
 
 /* ---- checks ------------------------------------------------------------------------------------------------------------------------- */
 
-static unsigned long checks, faults, found[3], ends[3], begun, answers[5], classes[10], refusals[64], verdicts[3], long_forms[2], profiled[2], kept[3];
+enum { REFUSALS = 160 };
+static unsigned long checks, faults, found[3], ends[3], begun, answers[5], classes[10], refusals[REFUSALS], verdicts[3], long_forms[2], profiled[2], kept[3], listed;
 static const char *doing = "";
 
 static void check(int good, const char *what)
@@ -408,7 +410,7 @@ static void check_panel(const struct outcome *o, const struct outcome *wide)
     check(fence_check(&fences[TRANSCRIPT], o->t, want.transcript_len), "transcript buffer");
     check(fence_check(&fences[REFERENCE], o->r, want.reference_len), "reference buffer");
     check(fence_check(&fences[ALTERED], o->p, want.altered_len), "altered buffer");
-    refusals[got.refusal < 64 ? got.refusal : 0]++;
+    refusals[got.refusal < REFUSALS ? got.refusal : 0]++;
     profiled[own == 0 && got.answer > GARUMBOTT_UNKNOWN]++;
 }
 
@@ -518,7 +520,7 @@ static void check_call(enum fence_side side, const size_t size[3], const struct 
     check(fence_check(&fences[TRANSCRIPT], o->t, want->transcript_len), "transcript buffer");
     check(fence_check(&fences[REFERENCE], o->r, want->reference_len), "reference buffer");
     check(fence_check(&fences[ALTERED], o->p, want->altered_len), "altered buffer");
-    refusals[got.refusal < 64 ? got.refusal : 0]++;
+    refusals[got.refusal < REFUSALS ? got.refusal : 0]++;
     if (got.refusal == 0) verdicts[got.replays + got.shortest < 3 ? got.replays + got.shortest : 0]++;
 }
 
@@ -653,7 +655,7 @@ static void pair_call(const struct carried *one, const struct carried *two, cons
     check(unchanged(LETTERS, r.letters) && unchanged(EXCEPTIONS, r.exceptions) && unchanged(BASES, e.bases) && unchanged(INSERTED, f.bases), "input changed");
     check(fence_check(&fences[TRANSCRIPT], t, want->transcript_len), "transcript buffer");
     check(fence_check(&fences[ALTERED], p, want->altered_len), "altered buffer");
-    refusals[got.refusal < 64 ? got.refusal : 0]++;
+    refusals[got.refusal < REFUSALS ? got.refusal : 0]++;
 }
 
 /* Two edits of one reference, in both orders; small references only. */
@@ -840,9 +842,9 @@ static uint64_t judged(const struct garumbott_stored *s, const uint8_t *data)
     return a.refusal == 11 ? 0 : a.refusal;
 }
 
-static void fuzz_stored(void)
+/* The form, read through the library and plainly. */
+static void read_form(void)
 {
-    make_stored();
     struct garumbott_stored plain = plain_stored(), want = plain, got[2];
     uint64_t space = !plain.joined || one_in(6) ? below(3) : one_in(6) ? plain.letters_len - 1 : plain.letters_len + below(3);
     if (space > GARUMBOTT_LONGEST + 2) space = GARUMBOTT_LONGEST;
@@ -869,9 +871,169 @@ static void fuzz_stored(void)
         check(memcmp(g, &want, sizeof want) == 0, "the form read plainly, judged by garumbott_record, says otherwise");
         check(fence_check(&fences[TRANSCRIPT], joined, want.joined ? want.letters_len : 0), "the buffer for joined letters");
     }
-    refusals[got[0].refusal]++;
+    refusals[got[0].refusal < REFUSALS ? got[0].refusal : 0]++;
     long_forms[got[0].refusal == 0 && got[0].joined]++;
     if (got[0].refusal == 0) found[got[0].end <= 2 ? got[0].end : 0]++;
+}
+
+static void fuzz_stored(void)
+{
+    make_stored();
+    read_form();
+}
+
+/* ---- written references and editions ------------------------------------------------------------------------------------------------ */
+
+/* One fault of a reference, or what may be one. */
+static void damage_reference(void)
+{
+    switch (below(8)) {
+    case 0: ref.letters_len = one_in(2) ? 0 : GARUMBOTT_LONGEST + 1; break;
+    case 1: if (ref.letters_len != 0) letters[below(ref.letters_len)] = (uint8_t)chance(); break;
+    case 2: damage_number(&ref.cs); break;
+    case 3: damage_number(&ref.ce); break;
+    case 4: damage_number(&ref.table); break;
+    case 5: damage(exceptions, &ref.exceptions_len, sizeof exceptions); break;
+    case 6: damage_number(&ref.end); break;
+    default: if (ref.ce >= 3 && ref.ce <= ref.letters_len) memcpy(letters + ref.ce - 3, "GCC", 3); break;
+    }
+}
+
+/* What garumbott_record refuses of a reference, 1 to 6 or 28, or 0. */
+static uint64_t reference_refusal(const struct garumbott_reference *r)
+{
+    static const struct garumbott_coding_edit nothing = {.kind = GARUMBOTT_IDENTITY, .start = 1, .end = 1};
+    static const struct garumbott_buffers none;
+    uint64_t n = garumbott_record_of(r, &nothing, &none).refusal;
+    return n == GARUMBOTT_REFUSAL_TRANSCRIPT_ROOM ? 0 : n;
+}
+
+/* A reference around one of the lengths at which the stored form changes, its CDS at the end of its letters. */
+static void lengthen(void)
+{
+    static const uint64_t lengths[] = {SHORT, FULL, 2 * FULL, GARUMBOTT_LONGEST};
+    uint64_t size = lengths[below(4)] + below(5) - 2, first = size - ref.letters_len;
+    if (size > GARUMBOTT_LONGEST) return;
+    memmove(letters + first, letters, ref.letters_len);
+    for (uint64_t k = 0; k < first; k++) letters[k] = letter();
+    ref.letters_len = size;
+    ref.cs += first;
+    ref.ce += first;
+}
+
+/* A reference written, held to its fields one behind the other; then a byte of the form is damaged, and it is read. */
+static void fuzz_written(void)
+{
+    static uint8_t want[sizeof form];
+    char order[9], *to = order;
+    make_reference();
+    if (one_in(12) && ref.letters_len < 1000) lengthen();
+    if (one_in(3)) damage_reference();
+    uint64_t refusal = reference_refusal(&ref), room_for, n = ref.letters_len;
+    *to++ = '1';
+    if (n <= SHORT) *to++ = '2';
+    *to++ = '3';
+    if (ref.exceptions_len != 0) *to++ = '4';
+    if (n > FULL) *to++ = '5';
+    if (n > 2 * FULL) *to++ = '6';
+    if (n > SHORT) *to++ = '7';
+    if (ref.end != GARUMBOTT_END_STOP) *to++ = '8';
+    *to = 0;
+    form_len = 0;
+    if (refusal == 0) store(order);
+    memcpy(want, form, form_len);
+    room_for = refusal != 0 || one_in(4) ? below(60) : form_len - below(2) + (one_in(3) ? 1 + below(9) : 0);
+    fences = n > 39000 || room_for > 39000 ? huge : n > 3000 || room_for > 3000 ? large : small;
+    enum fence_side side = one_in(2) ? FENCE_END : FENCE_START;
+    struct garumbott_reference r = ref;
+    r.letters = lend(LETTERS, side, letters, n);
+    r.exceptions = lend(EXCEPTIONS, side, exceptions, ref.exceptions_len);
+    uint8_t *out = fence_fill(&fences[TRANSCRIPT], side, NULL, room_for);
+    doing = "garumbott_write_stored";
+    struct garumbott_length got = garumbott_write_stored_of(&r, room_for == 0 && one_in(2) ? NULL : out, room_for);
+    if (refusal == 0 && room_for < form_len) refusal = GARUMBOTT_REFUSAL_STORED_ROOM;
+    check(got.refusal == refusal && got.len == (refusal == 0 ? form_len : 0), "answer");
+    check(fence_check(&fences[TRANSCRIPT], want, refusal == 0 ? form_len : 0), "the form");
+    check(unchanged(LETTERS, r.letters) && unchanged(EXCEPTIONS, r.exceptions), "input changed");
+    refusals[got.refusal < REFUSALS ? got.refusal : 0]++;
+    if (form_len == 0) return;
+    check(garumbott_stored_room(n, ref.exceptions_len, ref.end) == form_len, "garumbott_stored_room");
+    read_form();
+    doing = "garumbott_write_stored";
+    struct garumbott_stored s = garumbott_read_stored(form, form_len, joined, sizeof joined);
+    struct garumbott_reference back = garumbott_reference_at(&s, form, joined);
+    check(s.refusal == 0 && back.letters_len == n && memcmp(back.letters, letters, n) == 0 && back.cs == ref.cs && back.ce == ref.ce && back.table == ref.table
+              && back.end == ref.end && back.exceptions_len == ref.exceptions_len
+              && (ref.exceptions_len == 0 || memcmp(back.exceptions, exceptions, ref.exceptions_len) == 0), "read back, another reference");
+    form[one_in(2) ? below(form_len) : below(form_len < 40 ? form_len : 40)] ^= (uint8_t)(1 + below(255));
+    read_form();
+}
+
+/* The list of differences in the plainest way, codon by codon; its length, in bytes. */
+static uint64_t plain_list(const struct garumbott_reference *a, const struct garumbott_reference *b, uint8_t *list)
+{
+    static uint8_t residues[2][GARUMBOTT_REFERENCE_ROOM];
+    const struct garumbott_reference *both[2] = {a, b};
+    uint64_t codons[2], n = 0;
+    for (int i = 0; i < 2; i++) {
+        const struct garumbott_reference *r = both[i];
+        codons[i] = garumbott_translate(r->letters + r->cs - 1, r->ce + 1 - r->cs, r->table, 0, r->exceptions, r->exceptions_len, residues[i], sizeof residues[i]).len;
+    }
+    for (uint64_t k = 0; k < codons[0] || k < codons[1]; k++) {
+        int in_both = k < codons[0] && k < codons[1], equal = in_both && residues[0][k] == residues[1][k];
+        for (uint64_t i = 3 * k; equal && i < 3 * k + 3; i++) {
+            int one = a->cs + i <= a->ce ? a->letters[a->cs - 1 + i] : 0, two = b->cs + i <= b->ce ? b->letters[b->cs - 1 + i] : 0;
+            equal = one == two;
+        }
+        if (equal) continue;
+        list[n++] = (uint8_t)((k + 1) >> 8);
+        list[n++] = (uint8_t)(k + 1);
+        list[n++] = k < codons[0] ? residues[0][k] : 0;
+        list[n++] = k < codons[1] ? residues[1][k] : 0;
+    }
+    return n;
+}
+
+/* Two editions of small and middling references, both ways. */
+static void fuzz_compare(void)
+{
+    static uint8_t kept[sizeof letters], kept_exceptions[sizeof exceptions], list[GARUMBOTT_DIFFERENCES_ROOM];
+    do make_reference(); while (ref.letters_len > 3000);
+    if (one_in(6)) damage_reference();
+    struct garumbott_reference first = ref;
+    memcpy(kept, letters, ref.letters_len);
+    memcpy(kept_exceptions, exceptions, ref.exceptions_len);
+    if (one_in(3)) do make_reference(); while (ref.letters_len > 3000);
+    else if (ref.letters_len != 0)
+        for (uint64_t i = below(6); i != 0; i--) letters[below(ref.letters_len)] = letter();
+    if (one_in(4)) ref.table = below(3);
+    if (one_in(4)) ref.exceptions_len = 0;
+    if (one_in(3)) damage_reference();
+    first.letters = kept;
+    first.exceptions = kept_exceptions;
+    struct garumbott_reference two[2] = {first, ref};
+    uint64_t refusal[2] = {reference_refusal(&two[0]), reference_refusal(&two[1])};
+    fences = two[0].letters_len > 39000 || two[1].letters_len > 39000 ? huge : two[0].letters_len > 3000 || two[1].letters_len > 3000 ? large : small;
+    for (int i = 0; i < 2; i++) {
+        enum fence_side side = one_in(2) ? FENCE_END : FENCE_START;
+        struct garumbott_reference r = two[i], s = two[1 - i];
+        uint64_t want = refusal[i] != 0 ? refusal[i] : refusal[1 - i] != 0 ? GARUMBOTT_OF_SECOND + refusal[1 - i] : 0, len = want == 0 ? plain_list(&r, &s, list) : 0;
+        uint64_t size = one_in(3) ? below(60) : one_in(2) && len != 0 ? len - 1 - below(4) : len;
+        if (want == 0 && size < len) want = GARUMBOTT_REFUSAL_LIST;
+        if (want != 0) len = 0;
+        r.letters = lend(LETTERS, side, r.letters, r.letters_len);
+        r.exceptions = lend(EXCEPTIONS, side, r.exceptions, r.exceptions_len);
+        s.letters = lend(BASES, side, s.letters, s.letters_len);
+        s.exceptions = lend(INSERTED, side, s.exceptions, s.exceptions_len);
+        uint8_t *out = fence_fill(&fences[TRANSCRIPT], side, NULL, size);
+        doing = "garumbott_compare";
+        struct garumbott_length got = garumbott_compare_of(&r, &s, size == 0 && one_in(2) ? NULL : out, size);
+        check(got.refusal == want && got.len == len, "answer");
+        check(fence_check(&fences[TRANSCRIPT], list, len), "the list");
+        check(unchanged(LETTERS, r.letters) && unchanged(EXCEPTIONS, r.exceptions) && unchanged(BASES, s.letters) && unchanged(INSERTED, s.exceptions), "input changed");
+        refusals[got.refusal < REFUSALS ? got.refusal : 0]++;
+        if (got.refusal == 0 && got.len != 0) listed++;
+    }
 }
 
 /* ---- settings ----------------------------------------------------------------------------------------------------------------------- */
@@ -920,7 +1082,7 @@ static void fuzz_settings(void)
     check(w.len < sizeof held && fence_check(&fences[TRANSCRIPT], NULL, w.len), "bytes changed");
     if (w.len >= sizeof held) return;
     memcpy(held, out, w.len);
-    refusals[w.refusal < 64 ? w.refusal : 0]++;
+    refusals[w.refusal < REFUSALS ? w.refusal : 0]++;
     uint64_t n = w.len, newest = one_in(12) ? strange() : 1 + below(2);
     if (n == 0) n = some_bytes(held, 30, "\1\2\3\4\5");
     for (uint64_t i = one_in(2) ? 0 : 1 + below(2); i != 0; i--) damage(held, &n, 30);
@@ -929,7 +1091,7 @@ static void fuzz_settings(void)
     struct garumbott_settings got = garumbott_read_settings(newest, data, n), want = plain_settings(newest, held, n);
     check(unchanged(STORED, data), "input changed");
     check(memcmp(&got, &want, sizeof got) == 0, "the store read plainly says otherwise");
-    refusals[got.refusal < 64 ? got.refusal : 0]++;
+    refusals[got.refusal < REFUSALS ? got.refusal : 0]++;
     kept[got.refusal == 0 ? 0 : got.newer ? 1 : 2]++;
     if (got.refusal != 0) return;
     w = garumbott_write_settings(got.version, got.table, got.profile, got.width, got.longest, fence_fill(&fences[TRANSCRIPT], side, NULL, n), n);
@@ -1041,14 +1203,16 @@ int main(int argc, char **argv)
 {
     double seconds = argc > 1 ? strtod(argv[1], NULL) : 30;
     uint64_t seed = argc > 2 ? strtoull(argv[2], NULL, 10) : 1, calls = 0;
-    static const int wanted[] = {1, 2, 3, 4, 5, 6, 7, 8, 9, 10, 11, 12, 14, 15, 20, 21, 22, 23, 25, 26, 27, 28, 29, 40, 41, 42, 43, 51, 52, 53, 60, 61, 62, 63};
+    static const int wanted[] = {1, 2, 3, 4, 5, 6, 7, 8, 9, 10, 11, 12, 14, 15, 20, 21, 22, 23, 24, 25, 26, 27, 28, 29, 40, 41, 42, 43, 50, 51, 52, 53, 60, 61, 62, 63, 101, 102, 103, 104, 105, 106, 128};
     enum { LEAST = 10000 }; /* a slow machine too must meet every answer, class and refusal */
     time_t until = time(NULL) + (time_t)seconds;
     for (int i = 0; i < FENCES; i++) fence_make(&small[i], 4000), fence_make(&large[i], 40000), fence_make(&huge[i], GARUMBOTT_TRANSCRIPT_ROOM + 64);
     do {
         for (int i = 0; i < 100; i++, calls++) {
             case_seed = state = seed + calls * UINT64_C(0x1000003);
-            if (i % 4 == 3) fuzz_strings();
+            if (i % 16 == 7) fuzz_written();
+            else if (i % 16 == 15) fuzz_compare();
+            else if (i % 4 == 3) fuzz_strings();
             else if (i % 4 == 1) fuzz_stored();
             else if (i % 8 == 6) fuzz_pair();
             else if (i % 16 == 10) fuzz_settings();
@@ -1062,6 +1226,7 @@ int main(int argc, char **argv)
     printf("stored references with joined letters: %lu\n", long_forms[1]), check(long_forms[1] != 0, "no letters were joined");
     printf("edits that the profile accepts: %lu\n", profiled[1]), check(profiled[1] != 0, "the profile never accepts");
     printf("settings read: %lu, newer: %lu\n", kept[0], kept[1]), check(kept[0] != 0 && kept[1] != 0, "no settings were read, or none newer");
+    printf("lists of differences: %lu\n", listed), check(listed != 0, "no difference was listed");
     printf("R the beginning of A: %lu\n", begun), check(begun != 0, "R was never the beginning of A");
     for (int i = 1; i < 10; i++) printf("%s: %lu\n", garumbott_class_name((uint64_t)i), classes[i]), check(classes[i] != 0, "a class never came up");
     for (size_t i = 0; i < sizeof wanted / sizeof *wanted; i++) printf("refused %d: %lu\n", wanted[i], refusals[wanted[i]]), check(refusals[wanted[i]] != 0, "a refusal never came up");

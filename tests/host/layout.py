@@ -109,8 +109,10 @@ wanted |= {"TABLE_STANDARD": 0, "TABLE_SELENOCYSTEINE": 1, "TABLE_VERTEBRATE_MIT
 wanted["TRANSCRIPT_ROOM"] = wanted["LONGEST"] + max(wanted["LONGEST"], wanted["MOST_BASES"])
 wanted["REFERENCE_ROOM"] = (wanted["LONGEST"] + 2) // 3
 wanted["ALTERED_ROOM"] = (wanted["TRANSCRIPT_ROOM"] + 2) // 3
-wanted["DIFFERENCE_BYTES"], wanted["DIFFERENCES_ROOM"] = 4, 4 * wanted["REFERENCE_ROOM"]
-wanted["OF_SECOND"] = int(re.search(r"↯ \((\d+) \+ referenceRefusal longest s\)", text(f"{SPECS}/Editions.antt")).group(1))
+editions = text(f"{SPECS}/Editions.antt")
+wanted["DIFFERENCE_BYTES"] = re.search(r"^differenceBytes d = (.*\[\])$", editions, re.M).group(1).count("∷")
+wanted["DIFFERENCES_ROOM"] = wanted["DIFFERENCE_BYTES"] * wanted["REFERENCE_ROOM"]
+wanted["OF_SECOND"] = int(re.search(r"↯ \((\d+) \+ referenceRefusal longest s\)", editions).group(1))
 settings = text(f"{SPECS}/Settings.antt")
 versions = re.search(r"^isVersion v = leb (\d+) v && leb v (\d+)$", settings, re.M)
 wanted["SETTINGS_FIRST"], wanted["SETTINGS_SECOND"] = int(versions.group(1)), int(versions.group(2))

@@ -28,12 +28,14 @@ static const uint8_t *bytes(const char *s)
 
 /* ---- edits ------------------------------------------------------------------------------------------------------------------------- */
 
-enum { LETTERS, EXCEPTIONS, BASES, TRANSCRIPT, REFERENCE, ALTERED, STORED, DELETED, INSERTED, FENCES };
-static struct fence large[FENCES], small[FENCES], *fences = large;
+enum { LETTERS, EXCEPTIONS, BASES, TRANSCRIPT, REFERENCE, ALTERED, STORED, DELETED, INSERTED, JOINED, FENCES };
+static struct fence huge[FENCES], large[FENCES], small[FENCES], *fences = large;
 
-/* Room that is never too short: for every reference, and, in the small fences, for those of some letters. */
-/* The longest transcript of the text program, and what its edits take; tests/long has longer ones. */
+/* The longest transcript of the text program, and what its edits take at most. */
 enum { TEXT_LONGEST = 16384, TEXT_TRANSCRIPT = 32768, TEXT_REFERENCE = 5462, TEXT_ALTERED = 10923 };
+
+/* Room that is never too short: for every reference, for those of up to 16,384 letters, and, in the small fences, for those of some letters. */
+static const size_t library_room[3] = {GARUMBOTT_TRANSCRIPT_ROOM, GARUMBOTT_REFERENCE_ROOM, GARUMBOTT_ALTERED_ROOM};
 static const size_t whole_room[3] = {TEXT_TRANSCRIPT, TEXT_REFERENCE, TEXT_ALTERED}, small_room[3] = {40, 10, 20};
 static const size_t *plenty = whole_room;
 
@@ -142,17 +144,41 @@ static void put_field(uint8_t **to, uint8_t tag, const void *content, size_t len
     *to += 3 + len;
 }
 
-/* The stored form of a reference whose numbers fit, and its length. No exceptions: no field for them; an end at a stop: none for it. */
-static size_t store(uint8_t *form, const struct garumbott_reference *r)
+/* Letters of a full field, those that have bounds of two bytes, and the longest form that is written here: one letter too many, seventeen exceptions. */
+enum { FULL = 65535, NARROW = 16384, LONGEST_FORM = GARUMBOTT_LONGEST + 1 + 8 * 3 + 8 + 1 + 51 + 1 };
+
+static void put_bounds(uint8_t **to, uint8_t tag, const struct garumbott_reference *r)
 {
-    uint8_t *to = form;
-    uint8_t bounds[4] = {(uint8_t)(r->cs >> 8), (uint8_t)r->cs, (uint8_t)(r->ce >> 8), (uint8_t)r->ce}, table = (uint8_t)r->table, end = (uint8_t)r->end;
-    put_field(&to, 1, r->letters, r->letters_len);
-    put_field(&to, 2, bounds, 4);
+    uint8_t content[8];
+    int bytes_each = tag == 2 ? 2 : 4;
+    for (int i = 0; i < bytes_each; i++) {
+        int shift = 8 * (bytes_each - 1 - i);
+        content[i] = (uint8_t)(r->cs >> shift);
+        content[bytes_each + i] = (uint8_t)(r->ce >> shift);
+    }
+    put_field(to, tag, content, 2 * (size_t)bytes_each);
+}
+
+/* The stored form of a reference whose numbers fit, with bounds under tag 2 or 7, and its length. No exceptions: no field for them; letters up to 65,535: tag 1 alone;
+ * an end at a stop: no tag 8. */
+static size_t store_by(uint8_t *form, const struct garumbott_reference *r, uint8_t bounds_tag)
+{
+    uint8_t *to = form, table = (uint8_t)r->table, end = (uint8_t)r->end;
+    size_t n = r->letters_len;
+    put_field(&to, 1, r->letters, n < FULL ? n : FULL);
+    if (bounds_tag == 2) put_bounds(&to, 2, r);
     put_field(&to, 3, &table, 1);
     if (r->exceptions_len != 0) put_field(&to, 4, r->exceptions, r->exceptions_len);
+    if (n > FULL) put_field(&to, 5, r->letters + FULL, n < 2 * FULL ? n - FULL : FULL);
+    if (n > 2 * FULL) put_field(&to, 6, r->letters + 2 * FULL, n - 2 * FULL);
+    if (bounds_tag == 7) put_bounds(&to, 7, r);
     if (r->end != 0) put_field(&to, 8, &end, 1);
     return (size_t)(to - form);
+}
+
+static size_t store(uint8_t *form, const struct garumbott_reference *r)
+{
+    return store_by(form, r, r->letters_len > NARROW ? 7 : 2);
 }
 
 static int same_stored(const struct garumbott_stored *a, const struct garumbott_stored *b)
@@ -165,18 +191,22 @@ static int same_stored(const struct garumbott_stored *a, const struct garumbott_
 static void edit_stored(const char *name, const struct garumbott_reference *reference, const struct garumbott_coding_edit *edit,
                         const struct garumbott_answer *want, const void *t, const void *r, const void *a)
 {
-    static uint8_t form[66000];
-    if (reference->cs > 65535 || reference->ce > 65535 || reference->table > 255 || reference->end > 255) return;
-    size_t len = store(form, reference), x = reference->exceptions_len;
+    static uint8_t form[LONGEST_FORM];
+    uint64_t most = reference->letters_len > NARROW ? UINT32_MAX : UINT16_MAX;
+    if (reference->cs > most || reference->ce > most || reference->table > 255 || reference->end > 255) return;
+    size_t len = store(form, reference), x = reference->exceptions_len, joined = reference->letters_len > FULL, room = joined ? reference->letters_len : 0;
+    size_t letters = joined ? FULL : reference->letters_len;
     uint64_t refusal = x % 3 != 0 || reference->end > 2 ? GARUMBOTT_REFUSAL_FIELD : want->refusal <= 6 || want->refusal == GARUMBOTT_REFUSAL_END ? want->refusal : 0;
     for (int side = FENCE_END; side <= FENCE_START; side++) {
         const uint8_t *data = fence_fill(&fences[STORED], side, form, len);
-        struct garumbott_stored got = garumbott_read_stored(data, len, NULL, 0), no = {.refusal = refusal},
-                                good = {.cs = reference->cs, .ce = reference->ce, .table = reference->table, .letters_at = 3,
-                                        .letters_len = reference->letters_len, .exceptions_at = x == 0 ? 0 : reference->letters_len + 17, .exceptions_len = x,
-                                        .end = reference->end};
+        uint8_t *lent = room == 0 ? NULL : fence_fill(&fences[JOINED], side, NULL, room);
+        struct garumbott_stored got = garumbott_read_stored(data, len, lent, room), no = {.refusal = refusal},
+                                good = {.cs = reference->cs, .ce = reference->ce, .table = reference->table, .letters_at = joined ? 0 : 3,
+                                        .letters_len = reference->letters_len, .exceptions_at = x == 0 ? 0 : letters + (most == UINT16_MAX ? 17 : 10), .exceptions_len = x,
+                                        .end = reference->end, .joined = joined};
         check(same_stored(&got, refusal == 0 ? &good : &no), name, "read_stored's answer");
-        struct garumbott_reference found = garumbott_reference_at(&got, data, NULL);
+        if (lent != NULL) check(fence_check(&fences[JOINED], reference->letters, refusal == 0 ? room : 0), name, "joined letters");
+        struct garumbott_reference found = garumbott_reference_at(&got, data, lent);
         check(found.end == got.end, name, "the end that garumbott_reference_at carries");
         struct garumbott_buffers b = {fence_fill(&fences[TRANSCRIPT], side, NULL, plenty[0]), plenty[0], fence_fill(&fences[REFERENCE], side, NULL, plenty[1]),
                                       plenty[1], fence_fill(&fences[ALTERED], side, NULL, plenty[2]), plenty[2]};
@@ -918,6 +948,119 @@ static void limits(void)
     edit_stored("sixteen exceptions", &r, &same_place, &kept, longest, excepted, excepted);
 }
 
+/* ---- the library's own limit ---------------------------------------------------------------------------------------------------------- */
+
+enum { CODONS = GARUMBOTT_LONGEST / 3, LAST_BASE = 3 * CODONS };
+static uint8_t all_letters[GARUMBOTT_LONGEST + 1], all_residues[GARUMBOTT_REFERENCE_ROOM], twice[GARUMBOTT_TRANSCRIPT_ROOM], altered_residues[GARUMBOTT_ALTERED_ROOM];
+
+/* ATG GCN GCC .. GCC TAA CC and one letter more: 131,072 letters, a CDS of 43,690 codons; or, all of them a CDS, GCC in the stop's place, the last two a cut codon. */
+static struct garumbott_reference library_reference(uint64_t end)
+{
+    for (size_t i = 0; i < sizeof all_letters; i++) all_letters[i] = (uint8_t) "GCC"[i % 3];
+    memcpy(all_letters, "ATGGCN", 6);
+    memset(all_residues, 'A', sizeof all_residues);
+    all_residues[0] = 'M';
+    all_residues[CODONS] = 'X';
+    if (end == GARUMBOTT_END_STOP) memcpy(all_letters + LAST_BASE - 3, "TAACC", 5), all_residues[CODONS - 1] = '*';
+    memcpy(twice, all_letters, GARUMBOTT_LONGEST);
+    memcpy(twice + GARUMBOTT_LONGEST, all_letters, GARUMBOTT_LONGEST);
+    struct garumbott_reference r = {.letters = all_letters, .letters_len = GARUMBOTT_LONGEST, .cs = 1, .ce = end == GARUMBOTT_END_STOP ? LAST_BASE : GARUMBOTT_LONGEST, .end = end};
+    return r;
+}
+
+/* The longest altered transcript fills GARUMBOTT_TRANSCRIPT_ROOM, and 12 asks for all of GARUMBOTT_ALTERED_ROOM, however short A is; and one byte too little in each. */
+static void library_copied(void)
+{
+    struct garumbott_reference r = library_reference(GARUMBOTT_END_STOP);
+    struct garumbott_coding_edit copy = STAR(DUPLICATION, 1, 2);
+    struct garumbott_answer w = {.answer = GARUMBOTT_SILENT, .frameshift = 1, .transcript_len = GARUMBOTT_TRANSCRIPT_ROOM, .reference_len = CODONS, .altered_len = CODONS,
+                                 .number = 1, .deleted_len = 1, .inserted_len = 1},
+                            e = alone(&w);
+    check(GARUMBOTT_TRANSCRIPT_ROOM == 262144 && GARUMBOTT_REFERENCE_ROOM == 43691 && GARUMBOTT_ALTERED_ROOM == 87382, "rooms", "the header's");
+    check(garumbott_transcript_room(GARUMBOTT_LONGEST, GARUMBOTT_DUPLICATION, 0) == GARUMBOTT_TRANSCRIPT_ROOM, "transcript_room", "131,072 letters");
+    check(garumbott_reference_room(1, LAST_BASE) == CODONS && garumbott_reference_room(1, GARUMBOTT_LONGEST) == GARUMBOTT_REFERENCE_ROOM, "reference_room", "131,072 letters");
+    check(garumbott_altered_room(GARUMBOTT_TRANSCRIPT_ROOM, 1) == GARUMBOTT_ALTERED_ROOM, "altered_room", "262,144 letters");
+    edit_case("131,072 letters, all of them copied", &r, &copy, library_room, &w, &e, twice, all_residues, all_residues);
+    edit_stored("131,072 letters, all of them copied", &r, &copy, &w, twice, all_residues, all_residues);
+    own_record("131,072 letters, all of them copied", &r, &copy, library_room, &w, "", "", "");
+    for (int i = 0; i < 3; i++) {
+        size_t less[3] = {library_room[0], CODONS, library_room[2]};
+        edit_case("exactly the room for 131,072 letters", &r, &copy, less, &w, &e, twice, all_residues, all_residues);
+        less[i]--;
+        struct garumbott_answer no = {.refusal = i == 0 ? 11 : 12}, still = i == 0 ? no : e;
+        edit_case("a byte too little for 131,072 letters", &r, &copy, less, &no, &still, twice, all_residues, all_residues);
+        own_record("a byte too little for 131,072 letters", &r, &copy, less, &no, "", "", "");
+    }
+}
+
+/* The longest R, which fills GARUMBOTT_REFERENCE_ROOM, and the longest A: the cut codon's GC and the copy's A read A, then TGG CNG CCG .. and a base that is left. */
+static void library_cut(void)
+{
+    struct garumbott_reference r = library_reference(GARUMBOTT_END_CUT_CODON);
+    struct garumbott_coding_edit copy = TWO(DUPLICATION, 1, GARUMBOTT_LONGEST);
+    struct garumbott_answer w = {.answer = GARUMBOTT_CHANGED, .frameshift = 1, .transcript_len = GARUMBOTT_TRANSCRIPT_ROOM, .reference_len = GARUMBOTT_REFERENCE_ROOM,
+                                 .altered_len = GARUMBOTT_ALTERED_ROOM, .change = GARUMBOTT_CHANGE_FRAMESHIFT, .number = CODONS + 1, .deleted_at = CODONS, .deleted_len = 1,
+                                 .inserted_at = CODONS, .inserted_len = GARUMBOTT_ALTERED_ROOM - CODONS, .codons = CODONS + 1},
+                            e = alone(&w), no = {.refusal = GARUMBOTT_REFUSAL_PROTEIN_ROOM};
+    memset(altered_residues, 'P', sizeof altered_residues);
+    memcpy(altered_residues, all_residues, CODONS);
+    memcpy(altered_residues + CODONS, "AWX", 3);
+    altered_residues[GARUMBOTT_ALTERED_ROOM - 1] = 'X';
+    edit_case("131,072 letters and a cut codon, all of them copied", &r, &copy, library_room, &w, &e, twice, all_residues, altered_residues);
+    edit_stored("131,072 letters and a cut codon, all of them copied", &r, &copy, &w, twice, all_residues, altered_residues);
+    own_record("131,072 letters and a cut codon, all of them copied", &r, &copy, library_room, &w, (const char *)twice, (const char *)all_residues, (const char *)altered_residues);
+    for (int i = 1; i < 3; i++) {
+        size_t less[3] = {library_room[0], library_room[1], library_room[2]};
+        less[i]--;
+        edit_case("a residue too little for 131,072 letters and a cut codon", &r, &copy, less, &no, &e, twice, all_residues, altered_residues);
+    }
+    /* a stop in the last whole codon, which no stated end but 0 may have */
+    struct garumbott_answer end = {.refusal = GARUMBOTT_REFUSAL_END};
+    struct garumbott_coding_edit nothing = ONE(IDENTITY, 1);
+    memcpy(all_letters + LAST_BASE - 3, "TAA", 3);
+    edit_case("131,072 letters, a stop before the cut codon", &r, &nothing, library_room, &end, &end, "", "", "");
+    edit_stored("131,072 letters, a stop before the cut codon", &r, &nothing, &end, "", "", "");
+}
+
+/* One letter more; the text program's limit stays where it was. */
+static void one_letter_more(void)
+{
+    struct garumbott_reference r = library_reference(GARUMBOTT_END_STOP);
+    struct garumbott_coding_edit nothing = ONE(IDENTITY, 1), nowhere = ONE(IDENTITY, 0);
+    struct garumbott_answer one = {.refusal = GARUMBOTT_REFUSAL_LENGTH};
+    r.letters_len++;
+    edit_case("131,073 letters", &r, &nothing, library_room, &one, &one, "", "", "");
+    edit_case("131,073 letters, 1 before 2 to 7", &r, &nowhere, library_room, &one, &one, "", "", "");
+    edit_stored("131,073 letters", &r, &nothing, &one, "", "", "");
+    own_record("131,073 letters", &r, &nothing, library_room, &one, "", "", "");
+    static const struct garumbott_coding_edit other = ONE(IDENTITY, 5);
+    static uint8_t out[2 * LONGEST_FORM];
+    struct garumbott_buffers b = {.transcript = out, .transcript_len = sizeof out};
+    check(garumbott_pair_of(&r, &nothing, &other, &b).refusal == 1, "131,073 letters", "pair");
+    check(garumbott_write_stored_of(&r, out, sizeof out).refusal == 1, "131,073 letters", "write_stored");
+    check(garumbott_compare_of(&r, &SHORT, out, sizeof out).refusal == 1, "131,073 letters", "compare");
+    check(garumbott_compare_of(&SHORT, &r, out, sizeof out).refusal == 101, "131,073 letters, the second", "compare");
+    /* 16,385 is no limit of the library */
+    struct garumbott_reference more = longest_reference();
+    more.letters_len++;
+    struct garumbott_answer w = {.answer = GARUMBOTT_SILENT, .transcript_len = TEXT_LONGEST + 1, .reference_len = LONGEST_CODONS, .altered_len = LONGEST_CODONS, .number = 1,
+                                 .deleted_len = 1, .inserted_len = 1},
+                            e = alone(&w);
+    edit_case("16,385 letters", &more, &nothing, library_room, &w, &e, longest, protein, protein);
+    edit_stored("16,385 letters", &more, &nothing, &w, longest, protein, protein);
+}
+
+static void library_limits(void)
+{
+    fences = huge;
+    plenty = library_room;
+    library_copied();
+    library_cut();
+    one_letter_more();
+    fences = large;
+    plenty = whole_room;
+}
+
 /* ---- records from elsewhere --------------------------------------------------------------------------------------------------------- */
 
 /* What garumbott_record makes of an edit, in buffers that are never too short. */
@@ -1212,9 +1355,15 @@ static void stored_refusals(void)
         S("a zero byte behind tag 4", ALL_FIELDS "\4\0\0\0", 21),
         /* 21 */
         S("tag 0", "\0\0\0" ALL_FIELDS, 21),
-        S("tag 5 first", "\5\0\0" ALL_FIELDS, 23),
+        S("tag 9 first", "\11\0\0" ALL_FIELDS, 21),
+        S("tag 9 alone", "\11", 21),
+        S("a last byte 9", ALL_FIELDS "\11", 21),
         S("tag 255", ALL_FIELDS "\377\0\0", 21),
-        S("tag 5 last", ALL_FIELDS "\5\0\0", 23),
+        S("tag 9 last", ALL_FIELDS "\11\0\0", 21),
+        S("tag 5 first", "\5\0\1C" ALL_FIELDS, 21),
+        S("tag 6 before tag 5", ALL_FIELDS "\6\0\1C" "\5\0\1C", 21),
+        S("tag 5 twice", ALL_FIELDS "\5\0\1C" "\5\0\1C", 21),
+        S("tag 7 before table", LETTERS_FIELD "\7\0\10\0\0\0\3\0\0\0\21" TABLE_FIELD, 21),
         S("letters twice", LETTERS_FIELD ALL_FIELDS, 21),
         S("bounds twice", LETTERS_FIELD BOUNDS_FIELD BOUNDS_FIELD TABLE_FIELD, 21),
         S("table twice", ALL_FIELDS TABLE_FIELD, 21),
@@ -1249,6 +1398,30 @@ static void stored_refusals(void)
         S("21 with 20", LETTERS_FIELD "\1\0\7", 21),
         S("21 with 23", LETTERS_FIELD BOUNDS_FIELD "\2\0\5\0\0\0\0\0", 21),
         S("20 with 23", LETTERS_FIELD "\2\0\7\0\3\0\21", 20),
+        /* tags 5 to 7: cut off, lengths, and 25 behind 22 and before 1 */
+        S("tag 5 of one byte, none left", ALL_FIELDS "\5\0\1", 20),
+        S("tag 7 of eight bytes, seven left", LETTERS_FIELD TABLE_FIELD "\7\0\10\0\0\0\3\0\0\0", 20),
+        S("tag 7 of nine bytes, eight left", LETTERS_FIELD TABLE_FIELD "\7\0\11\0\0\0\3\0\0\0\21", 20),
+        S("an empty tag 5, then 21", "\5\0\0" ALL_FIELDS, 23),
+        S("an empty tag 5 last", ALL_FIELDS "\5\0\0", 23),
+        S("an empty tag 6 last", ALL_FIELDS "\6\0\0", 23),
+        S("an empty tag 5, no table", LETTERS_FIELD BOUNDS_FIELD "\5\0\0", 23),
+        S("tag 7 of no byte", LETTERS_FIELD TABLE_FIELD "\7\0\0", 23),
+        S("tag 7 of four bytes", LETTERS_FIELD TABLE_FIELD "\7\0\4\0\3\0\21", 23),
+        S("tag 7 of seven bytes", LETTERS_FIELD TABLE_FIELD "\7\0\7\0\0\0\3\0\0\0", 23),
+        S("tag 7 of nine bytes", LETTERS_FIELD TABLE_FIELD "\7\0\11\0\0\0\3\0\0\0\21\0", 23),
+        S("tag 5, no bounds", LETTERS_FIELD TABLE_FIELD "\5\0\1C", 22),
+        S("tag 7, no table", LETTERS_FIELD "\7\0\10\0\0\0\3\0\0\0\21", 22),
+        S("tag 7, no letters", TABLE_FIELD "\7\0\10\0\0\0\3\0\0\0\21", 22),
+        S("tags 5 and 6, no tag 1", BOUNDS_FIELD TABLE_FIELD "\5\0\6ATGTAA" "\6\0\1C", 22),
+        S("tag 7 for 23 letters", LETTERS_FIELD TABLE_FIELD "\7\0\10\0\0\0\3\0\0\0\21", 25),
+        S("both bounds", ALL_FIELDS "\7\0\10\0\0\0\3\0\0\0\21", 25),
+        S("tag 5 behind 23 letters", ALL_FIELDS "\5\0\1C", 25),
+        S("tag 5, ATG and TAA", "\1\0\3ATG" "\2\0\4\0\1\0\6" TABLE_FIELD "\5\0\3TAA", 25),
+        S("tag 6 without tag 5", ALL_FIELDS "\6\0\1C", 25),
+        S("empty letters, tag 5", "\1\0\0" BOUNDS_FIELD TABLE_FIELD "\5\0\1C", 25),
+        S("empty letters, tag 7", "\1\0\0" TABLE_FIELD "\7\0\10\0\0\0\3\0\0\0\21", 25),
+        S("25 with 2 to 6", "\1\0\1u" "\2\0\4\0\0\0\0" "\3\0\1\3" "\4\0\3\0\0a" "\5\0\1u", 25),
         /* 22, behind these and before 1 to 6 */
         S("no byte", "", 22),
         S("letters alone", LETTERS_FIELD, 22),
@@ -1312,9 +1485,11 @@ static void stored_refusals(void)
         S("tag 6 behind table", SIX_FIELDS "\6\0\1\1", 25),
         S("tag 7 behind table", SIX_FIELDS "\7\0\1\1", 23),
         S("tag 9 behind table", SIX_FIELDS "\11\0\1\1", 21),
-        S("tag 5 before tag 8", SIX_FIELDS "\5\0\0" NO_STOP_FIELD, 23),
-        S("tag 6 before tag 8", SIX_FIELDS "\6\0\0" NO_STOP_FIELD, 23),
-        S("tag 7 before tag 8", SIX_FIELDS "\7\0\0" NO_STOP_FIELD, 23),
+        S("tag 5 before tag 8", SIX_FIELDS "\5\0\1C" NO_STOP_FIELD, 25),
+        S("tag 6 before tag 8", SIX_FIELDS "\6\0\1C" NO_STOP_FIELD, 25),
+        S("tag 7 before tag 8", SIX_FIELDS "\7\0\10\0\0\0\1\0\0\0\6" NO_STOP_FIELD, 25),
+        S("tag 7 behind tag 8", SIX_FIELDS NO_STOP_FIELD "\7\0\10\0\0\0\1\0\0\0\6", 21),
+        S("an empty tag 5 before tag 8", SIX_FIELDS "\5\0\0" NO_STOP_FIELD, 23),
         S("tag 9 behind tag 8", SIX_FIELDS NO_STOP_FIELD "\11\0\0", 21),
         S("tag 5, ATGTAA", "\1\0\6ATGTAA" "\2\0\4\0\1\0\6" TABLE_FIELD "\5\0\0", 23),
         S("a zero byte behind tag 8", SIX_FIELDS NO_STOP_FIELD "\0", 21),
@@ -1432,7 +1607,7 @@ static void stored(void)
     }
 
     /* lengths: sixteen and seventeen exceptions, 16,384 letters, one more, and as many as a length can say */
-    static uint8_t form[66000], many[65535], seventeen[51];
+    static uint8_t form[LONGEST_FORM], many[FULL], seventeen[51];
     for (uint8_t i = 0; i < 17; i++) {
         seventeen[3 * i] = 0;
         seventeen[3 * i + 1] = (uint8_t)(i + 2);
@@ -1446,12 +1621,19 @@ static void stored(void)
     r.exceptions_len = 51;
     stored_refused("16,384 letters and seventeen exceptions", form, store(form, &r), 5);
     r.letters_len++;
-    stored_refused("16,385 letters with tag 2", form, store(form, &r), 25);
+    stored_refused("16,385 letters with tag 2, and seventeen exceptions", form, store_by(form, &r, 2), 25);
+    stored_refused("16,385 letters with tag 7, and seventeen exceptions", form, store_by(form, &r, 7), 5);
+    r.exceptions_len = 48;
+    want = (struct garumbott_stored){.cs = 1, .ce = 16383, .letters_at = 3, .letters_len = TEXT_LONGEST + 1, .exceptions_at = TEXT_LONGEST + 11, .exceptions_len = 48};
+    stored_case("16,385 letters with tag 7", form, store_by(form, &r, 7), &want);
+    r.letters_len--;
+    stored_refused("16,384 letters with tag 7", form, store_by(form, &r, 7), 25);
     memset(many, 'A', sizeof many);
     r.letters = many;
     r.letters_len = sizeof many;
     r.exceptions_len = 0;
-    stored_refused("65,535 letters with tag 2", form, store(form, &r), 25);
+    stored_refused("65,535 letters with tag 2", form, store_by(form, &r, 2), 25);
+    stored_refused("65,535 letters A with tag 7", form, store_by(form, &r, 7), 6);
     uint8_t *to = form;
     put_field(&to, 1, many, sizeof many);
     stored_refused("65,535 letters alone", form, (size_t)(to - form), 22);
@@ -1689,13 +1871,22 @@ static void text(void)
         plain_case(RUN, all[i].name, (const uint8_t *)all[i].input, strlen(all[i].input), 0, 0, NULL, 0, strlen(all[i].output), 0, all[i].output, strlen(all[i].output));
     struct garumbott_length none = garumbott_run(NULL, 0, NULL, 0);
     check(none.refusal == 0 && none.len == 0, "run", "NULL");
+    /* the text program keeps 16,384 */
+    static uint8_t line[TEXT_LONGEST + 32];
+    for (size_t n = TEXT_LONGEST; n <= TEXT_LONGEST + 1; n++) {
+        const char *answer = n == TEXT_LONGEST ? "reference M*\nsilent 1 M M\n" : "refused 1\n";
+        memset(line, 'C', sizeof line);
+        memcpy(line, "ref 1 6 0 ATGTAA", 16);
+        memcpy(line + 10 + n, "\n1=\n", 4);
+        plain_case(RUN, n == TEXT_LONGEST ? "a line of 16,384 letters" : "a line of 16,385 letters", line, 14 + n, 0, 0, NULL, 0, strlen(answer), 0, answer, strlen(answer));
+    }
 }
 
 /* NULL for every slice of length 0. */
 static void nulls(void)
 {
     struct garumbott_reference none = {0};
-    struct garumbott_coding_edit edit = {0}, whole = STAR(IDENTITY, 1, 1), in = TWO_NEW(INSERTION, 3, 4, "A");
+    struct garumbott_coding_edit edit = {0}, whole = STAR(IDENTITY, 1, 1), in = TWO_NEW(INSERTION, 3, 4, "A"), near_start = ONE(DELETION, 1), near_end = ONE(DELETION, 15);
     struct garumbott_buffers buffers = {0};
     struct garumbott_answer a = garumbott_record_of(&none, &edit, &buffers), one = {.refusal = 1}, unknown = {.answer = 1}, eleven = {.refusal = 11};
     check(same(&a, &one), "NULL everywhere", "record");
@@ -1712,6 +1903,11 @@ static void nulls(void)
     check(garumbott_check_of(&none, &edit, 0, NULL, 0, NULL, 0, &buffers).refusal == 1, "NULL everywhere", "check");
     check(garumbott_check_of(&SHORT, &whole, 0, NULL, 0, NULL, 0, &buffers).refusal == 26, "NULL buffers", "check, Unknown");
     check(garumbott_check_of(&SHORT, &in, 0, NULL, 0, NULL, 0, &buffers).refusal == 11, "NULL buffers", "check");
+    check(garumbott_pair_of(&none, &edit, &edit, &buffers).refusal == 1, "NULL everywhere", "pair");
+    check(garumbott_pair_of(&SHORT, &in, &whole, &buffers).refusal == 51, "NULL buffers", "pair that touches");
+    check(garumbott_pair_of(&W, &near_start, &near_end, &buffers).refusal == 11, "NULL buffers", "pair");
+    check(garumbott_write_stored_of(&none, NULL, 0).refusal == 1, "NULL everywhere", "write_stored");
+    check(garumbott_write_stored_of(&SHORT, NULL, 0).refusal == GARUMBOTT_REFUSAL_STORED_ROOM, "NULL buffer", "write_stored");
     check(garumbott_panel_of(&none, &edit, 0, &buffers).refusal == 1, "NULL everywhere", "panel");
     check(garumbott_panel_of(&SHORT, &in, 0, &buffers).refusal == 42, "NULL buffers", "panel");
     edit.longest = 4097;
@@ -1793,12 +1989,26 @@ static void *call_nothing(void *given)
     return given;
 }
 
+/* Of each kind: 131,072 letters, and 16,384, at a stop and cut short. */
+static struct garumbott_reference stacked[4];
+
+static void make_stacked(void)
+{
+    static uint8_t at_stop[GARUMBOTT_LONGEST], cut_short[GARUMBOTT_LONGEST];
+    stacked[0] = library_reference(GARUMBOTT_END_STOP);
+    memcpy(at_stop, all_letters, sizeof at_stop);
+    stacked[0].letters = at_stop;
+    stacked[1] = library_reference(GARUMBOTT_END_CUT_CODON);
+    memcpy(cut_short, all_letters, sizeof cut_short);
+    stacked[1].letters = cut_short;
+    stacked[2] = longest_reference();
+    stacked[3] = endless_reference();
+}
+
 static void *call_record(void *given)
 {
     struct garumbott_buffers b = {on_t, sizeof on_t, on_r, sizeof on_r, on_a, sizeof on_a};
-    struct garumbott_reference r = longest_reference(), cut = endless_reference();
-    garumbott_record_of(&r, given, &b);
-    garumbott_record_of(&cut, given, &b);
+    for (int i = 0; i < 4; i++) garumbott_record_of(&stacked[i], given, &b);
     return NULL;
 }
 
@@ -1816,47 +2026,60 @@ static void *call_check(void *given)
 {
     static uint8_t residues[GARUMBOTT_ALTERED_ROOM];
     struct garumbott_buffers b = {on_t, sizeof on_t, on_r, sizeof on_r, on_a, sizeof on_a};
-    struct garumbott_reference r = longest_reference(), cut = endless_reference(), excepted = longest_reference();
     memset(residues, 'A', sizeof residues);
-    excepted.exceptions = bytes("\0\2U\25\120U");
-    excepted.exceptions_len = 6;
-    garumbott_check_of(&r, given, 2, residues, 5000, residues, sizeof residues, &b);
-    garumbott_check_of(&cut, given, 2, residues, 5000, residues, sizeof residues, &b);
-    garumbott_check_of(&excepted, given, 3, residues, 5000, residues, 5000, &b);
+    for (int i = 0; i < 4; i++) {
+        struct garumbott_reference excepted = stacked[i];
+        excepted.exceptions = bytes("\0\2U\25\120U");
+        excepted.exceptions_len = 6;
+        garumbott_check_of(&stacked[i], given, 2, residues, 5000, residues, sizeof residues, &b);
+        garumbott_check_of(&excepted, given, 3, residues, 5000, residues, 5000, &b);
+    }
     return NULL;
 }
 
 static void *call_edit(void *given)
 {
     struct garumbott_buffers b = {on_t, sizeof on_t, on_r, sizeof on_r, on_a, sizeof on_a};
-    struct garumbott_reference r = longest_reference(), cut = endless_reference();
-    garumbott_edit_of(&r, given, &b);
-    garumbott_edit_of(&cut, given, &b);
+    for (int i = 0; i < 4; i++) garumbott_edit_of(&stacked[i], given, &b);
+    return NULL;
+}
+
+/* With an edit far behind it. */
+static void *call_pair(void *given)
+{
+    static uint8_t room[GARUMBOTT_TRANSCRIPT_ROOM + GARUMBOTT_MOST_BASES];
+    static const struct garumbott_coding_edit behind = TWO_NEW(DELINS, 16000, 16001, "ACGTN");
+    struct garumbott_buffers b = {room, sizeof room, NULL, 0, on_a, sizeof on_a};
+    for (int i = 0; i < 4; i++) {
+        garumbott_pair_of(&stacked[i], given, &behind, &b);
+        garumbott_pair_of(&stacked[i], &behind, given, &b);
+    }
     return NULL;
 }
 
 /* Two that differ in each codon, cut short and with exceptions. */
 static void *call_compare(void *given)
 {
-    struct garumbott_reference r = longest_reference(), cut = endless_reference();
-    r.exceptions = bytes("\0\2U");
-    r.exceptions_len = 3;
-    garumbott_compare_of(&r, &cut, on_t, sizeof on_t);
-    garumbott_compare_of(&cut, &r, on_t, sizeof on_t);
+    for (int i = 0; i < 4; i++) {
+        struct garumbott_reference r = stacked[i];
+        r.exceptions = bytes("\0\2U");
+        r.exceptions_len = 3;
+        garumbott_compare_of(&r, &stacked[i ^ 1], on_t, sizeof on_t);
+        garumbott_compare_of(&stacked[i ^ 1], &r, on_t, sizeof on_t);
+    }
     return given;
 }
 
 static void *call_stored(void *given)
 {
-    static uint8_t form[TEXT_LONGEST + 64];
-    struct garumbott_reference r = longest_reference();
-    r.exceptions = bytes("\0\2U");
-    r.exceptions_len = 3;
-    garumbott_read_stored(form, store(form, &r), NULL, 0);
-    r.letters = endless;
-    r.ce = TEXT_LONGEST;
-    r.end = GARUMBOTT_END_CUT_CODON;
-    garumbott_read_stored(form, store(form, &r), NULL, 0);
+    static uint8_t form[LONGEST_FORM], joined[GARUMBOTT_LONGEST];
+    for (int i = 0; i < 4; i++) {
+        struct garumbott_reference r = stacked[i];
+        r.exceptions = bytes("\0\2U");
+        r.exceptions_len = 3;
+        struct garumbott_length w = garumbott_write_stored_of(&r, form, sizeof form);
+        garumbott_read_stored(form, w.len, joined, sizeof joined);
+    }
     return given;
 }
 
@@ -1906,6 +2129,7 @@ static void *call_run(void *given)
 static void stack(void)
 {
     static struct garumbott_coding_edit edits[] = {STAR(DUPLICATION, 1, 1), TWO(INVERSION, 4, 9), TWO_NEW(INSERTION, 3, 4, "ACGTN"), ONE(DELETION, 5), ONE(DELETION, 0)};
+    make_stacked();
     size_t base = touched(call_nothing, NULL), most = 0;
     for (size_t i = 0; i < sizeof edits / sizeof *edits; i++) {
         size_t r = touched(call_record, &edits[i]) - base, e = touched(call_edit, &edits[i]) - base, c = touched(call_check, &edits[i]) - base;
@@ -1913,6 +2137,10 @@ static void stack(void)
         most = e > most ? e : most;
         most = c > most ? c : most;
         size_t p = touched(call_panel, &edits[i]) - base;
+        most = p > most ? p : most;
+    }
+    for (size_t i = 0; i < sizeof edits / sizeof *edits; i++) {
+        size_t p = touched(call_pair, &edits[i]) - base;
         most = p > most ? p : most;
     }
     static void *(*const others[])(void *) = {call_compare, call_stored, call_translate, call_strings};
@@ -1930,7 +2158,11 @@ static void stack(void)
 int main(int argc, char **argv)
 {
     (void)argv;
-    for (int i = 0; i < FENCES; i++) fence_make(&large[i], i == STORED ? 66000 : 40960), fence_make(&small[i], 256);
+    for (int i = 0; i < FENCES; i++) {
+        fence_make(&huge[i], i == TRANSCRIPT ? GARUMBOTT_TRANSCRIPT_ROOM : LONGEST_FORM);
+        fence_make(&large[i], i == STORED ? 66000 : 40960);
+        fence_make(&small[i], 256);
+    }
     make_longest();
     rows();
     codons();
@@ -1939,6 +2171,7 @@ int main(int argc, char **argv)
     ends();
     limits();
     cut_limits();
+    library_limits();
     records();
     stored();
     text();

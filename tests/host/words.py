@@ -6,6 +6,8 @@ Refusals: document 01's table and what document 02 adds to it, by their rows in 
 of a number have every word and every number of its rows. Where a row points to another sentence, or another sentence amends it (POINTS), they have those of that
 sentence, which docs/RULES.md must quote.
 A refusal of the second of two references (E11) has the words of the first's, 100 less, behind "of the second reference: ", and exactly those of a reference are there.
+Where a row says behind which others its refusal comes ("after 22"), that isn't of the refusal's words but of the order: the header's list of refusals that has the number
+has the others above it.
 Names of classes and answers: what the definitions print, crates/rules/specs.
 """
 import re
@@ -38,9 +40,10 @@ POINTS = [
 OWN = {"L is": "length is", "ce <= L": "ce <= length", "has place L or more": "is behind the transcript", "is refused (14)": "",
        "needs a length not": "not", "the CDS still has at least 6 bases": "at least 6", "an unknown end keeps the old rule": "", "codons only": "codons",
        "only for ends": "ends", "other than": "not", "in 6's place for the new ends": "", "The last two need ce = L": "cut short: ce not the last base",
-       "no `*` in R": "a codon reads *", "takes L up to 131,072; the text program keeps 16,384": "131,072, text program 16,384",
-       "wants one of tags": "one of tags"}
+       "no `*` in R": "a codon reads *"}
 SMALL = set("a an the is are of or and in it its has whose also if with such each takes".split())
+
+ORDER = re.compile(r"[;,] after (\d+)(?: to (\d+))?$")
 
 faults = []
 
@@ -58,6 +61,17 @@ def wordlist(s):
 def has(said, word):
     """A word begins so: "residue" is in "residues". Numbers and single letters stand alone."""
     return re.search(rf"(?<![\w,]){re.escape(word)}" + (r"(?!\w|,\d)" if len(word) == 1 or word[0].isdigit() else ""), said.lower())
+
+
+def listed_with(header, number):
+    """The header's list of refusals that has the number on a line, as its numbers from above; empty where there is none."""
+    for comment in re.findall(r"/\*.*?\*/", header, re.S):
+        numbers = []
+        for first, last, several in re.findall(r"^ \*   (?:(\d+) to (\d+)|(\d+(?:, \d+)*))  +\S", comment.partition("Refusals, the first that applies:")[2], re.M):
+            numbers += range(int(first), int(last) + 1) if first else map(int, several.split(", "))
+        if number in numbers:
+            return numbers
+    return []
 
 
 said = {}
@@ -84,7 +98,13 @@ for number, phrase, quote in POINTS:
         faults.append(f'the row of {number} has no "{phrase}"')
     if quote not in rules:
         faults.append(f'docs/RULES.md has no "{quote}"')
+header = text("include/garumbott.h")
 for number, row in rows.items():
+    if after := ORDER.search(row):
+        row = row[:after.start()]
+        numbers = listed_with(header, number)
+        if not set(range(int(after[1]), int(after[2] or after[1]) + 1)) <= set(numbers[:numbers.index(number)] if numbers else ()):
+            faults.append(f'the header lists {number} otherwise than "{after[0]}"')
     for at, phrase, quote in POINTS:
         if at == number:
             row = (row.replace(phrase, "") if phrase else row) + " " + quote

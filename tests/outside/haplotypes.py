@@ -1,9 +1,9 @@
 """Pairs of edits beside bcftools csq, which without -l reads the variants of one haplotype together. Some thousand random references get two random edits each, as two
 phased variants of one sample; the residues that csq reports ("3K>3R", of both together where they meet) are carried out on R, and what they make is held to the
-pair's protein by the second account, which tests/pairs holds to garumbott_pair. Prints by csq's own words how many agree, and why the others don't; exits 1 where
-one differs for none of the reasons below, or where too few agree.
+protein that garumbott_pair answers, through the archive. Prints by csq's own words how many agree, and why the others don't; exits 1 where one differs for none of the
+reasons below, or where too few agree.
 
-    python3 tests/outside/haplotypes.py FOLDER
+    python3 tests/outside/haplotypes.py FOLDER PAIR..    PAIR is the compiled pair.c, behind an emulator where one is wanted
 
 What csq says otherwise:
   stop    it reports a new stop and leaves what R has behind the residues that it names. Cut behind its first stop, what it says is the protein.
@@ -78,22 +78,47 @@ def verdict(ref, edits, words, changes, protein):
     return "last" if any(last > ref.ce - 3 for _, _, last, _ in edits) else ""
 
 
-def main(folder):
-    rand, cases = random.Random(2), []
+def sent(reference, edits):
+    """A case as a line for pair.c."""
+    parts = [*reference, 0]
+    for edit in (account.edit_line(edit[0]) for edit in edits):
+        parts.append(account.KINDS.index(edit.kind) + 1)
+        for sign, n in (edit.start, edit.end):
+            parts += [int(sign == "*"), -n if sign == "-" else n]
+        parts.append(edit.bases or "-")
+    return " ".join(map(str, parts))
+
+
+def answered(command, cases):
+    """What garumbott_pair answers to each case: a refusal, the transcript and the protein."""
+    ran = subprocess.run(command, input="".join(sent(*case) + "\n" for case in cases), capture_output=True, text=True, check=True)
+    answers = [line.split(" ") for line in ran.stdout.splitlines()]
+    assert len(answers) == len(cases), ran.stderr
+    return [(int(refusal), transcript, protein) for refusal, transcript, protein in answers]
+
+
+def random_cases(command):
+    """Random pairs that garumbott_pair accepts, each a reference and two edits, with the protein; and the refusals of the others."""
+    rand, cases, proteins, refusals = random.Random(2), [], [], set()
     while len(cases) < PAIRS:
-        reference = records.random_reference(rand)
-        edits = [records.random_edit(rand, *reference) for _ in range(2)]
-        ref = account.Reference(*reference, 0).check()
-        try:
-            account.paired(ref, *(account.edit_line(edit[0]) for edit in edits))
-        except account.Refused:
-            continue
-        cases.append((reference, edits))
+        drawn = [(reference, [records.random_edit(rand, *reference) for _ in range(2)]) for reference in (records.random_reference(rand) for _ in range(PAIRS))]
+        for case, (refusal, _, protein) in zip(drawn, answered(command, drawn)):
+            refusals.add(refusal)
+            if refusal == 0 and len(cases) < PAIRS:
+                cases.append(case)
+                proteins.append(protein)
+    return cases, proteins, refusals - {0}
+
+
+def main(folder, command):
+    cases, proteins, refusals = random_cases(command)
     counts, faults, said = {}, 0, said_by(folder, cases)
+    if refusals != {51, 53}:
+        faults += 1
+        print(f"garumbott_pair refuses random pairs with {sorted(refusals)}")
     for i, told in sorted(said.items()):
-        reference, edits = cases[i]
+        (reference, edits), protein = cases[i], proteins[i]
         ref = account.Reference(*reference, 0).check()
-        _, protein = account.paired(ref, *(account.edit_line(edit[0]) for edit in edits))
         changes = [of[5] for of in told if len(of) > 5 and of[5] and "?" not in of[5]]
         words = " and ".join(sorted({of[0] for of in told}))
         why = verdict(ref, edits, words, changes, protein)
@@ -111,4 +136,4 @@ def main(folder):
 
 
 if __name__ == "__main__":
-    sys.exit(main(sys.argv[1]))
+    sys.exit(main(sys.argv[1], sys.argv[2:]))
