@@ -2,16 +2,14 @@
 use mathlib.Core.List.{List, [], _∷_, _++_}
 use mathlib.Core.Bool.{Bool, true, false, _&&_, _||_, not}
 use mathlib.Core.Path.{_≡_, refl, sym, ap, _∙_}
-use Prim.Native.Nat.{ℕ, zero, suc, _+_, _-_, _*_, _/_, _%_, _<_}
+use Prim.Native.Nat.{ℕ, zero, suc, _+_, _*_, _/_, _%_, _<_}
 use native.Mathlib.Omega.{arith}
-use lib.Dec.{lit<, eqb}
+use lib.Dec.{eqb}
 use lib.ListN.{getD}
 use borrow.Author.Tests.{eqb-true, eqb-false}
 use Rattle.rules.specs.Bytes.{byte, if_then_else_}
 use Rattle.rules.specs.Codons.{residueX, geneticCode, plainCodon, withBase, basesOf, forEach, residues, allAre, isAmong, noThird, mixed, agreed, codonRule}
 use Rattle.codons.specs.Expansion.{expanded, mixedWith, joinedAll}
-use Rattle.codons.specs.Tables.{HoldsPlain}
-use Rattle.letters.specs.Sets.{baseSet}
 use Rattle.letters.proofs.Sets.{and-left, and-right}
 
 each-same : (is : List ℕ) (f g : ℕ → List ℕ) → ((i : ℕ) → f i ≡ g i) → forEach is f ≡ forEach is g
@@ -121,7 +119,7 @@ same-either : (b : Bool) → (if b then residueX else residueX) ≡ residueX
 same-either true = refl
 same-either false = refl
 
-pub stays-X : (xs : List ℕ) → joinedAll residueX xs ≡ residueX
+stays-X : (xs : List ℕ) → joinedAll residueX xs ≡ residueX
 unfolding joinedAll
 stays-X [] = refl
 stays-X (x ∷ xs) = rw (same-either (eqb x residueX)) (stays-X xs)
@@ -214,30 +212,8 @@ agreed-all t (i ∷ is) (j ∷ js) [] ha hb hc = absurd hc
 agreed-all t (i ∷ is) (j ∷ js) (k ∷ ks) ha hb hc =
     let plain = plain-residues t (i ∷ is) (j ∷ js) (k ∷ ks) in agreed-list (plainCodon t i j k) _ (plain .0) (plain .1)
 
--- the numbers b / 2 % 4 of the bases' letters, in the order T, C, A, G
-abbrev pub numberAt : ℕ → ℕ
-numberAt i = (6 - i) % 4
-
-pub number-small : (i : ℕ) → numberAt i < 4
-number-small i = omega arith
-
-single : (i : ℕ) → i < 4 → basesOf (baseSet (numberAt i)) ≡ i ∷ []
-single zero h = refl
-single (suc zero) h = refl
-single (suc (suc zero)) h = refl
-single (suc (suc (suc zero))) h = refl
-single (suc (suc (suc (suc i)))) h = absurd (omega arith)
-
--- the table of plain codons has the residue of three bases at their numbers' place
-pub plain-codon : (t : ℕ) (code : List ℕ) → HoldsPlain t code → (i j k : ℕ) → i < 4 → j < 4 → k < 4
-    → getD code (numberAt i * 16 + numberAt j * 4 + numberAt k) 0 ≡ plainCodon t i j k
-unfolding codonRule
-plain-codon t code holds i j k hi hj hk =
-    holds .entry (numberAt i) (numberAt j) (numberAt k) (number-small i) (number-small j) (number-small k)
-    ∙ rw (single i hi, single j hj, single k hk)
-
 -- joining the residues of all plain codons gives the codon rule
-pub by-plain : (t a b c : ℕ) → (0 < a) × (a < 16) → (0 < b) × (b < 16) → (0 < c) × (c < 16) → joinedAll 0 (residues t a b c) ≡ codonRule t a b c
+by-plain : (t a b c : ℕ) → (0 < a) × (a < 16) → (0 < b) × (b < 16) → (0 < c) × (c < 16) → joinedAll 0 (residues t a b c) ≡ codonRule t a b c
 unfolding codonRule
 by-plain t a b c ha hb hc =
     agreed-all t (basesOf a) (basesOf b) (basesOf c) (some-base a (ha .0) (ha .1)) (some-base b (hb .0) (hb .1)) (some-base c (hc .0) (hc .1))

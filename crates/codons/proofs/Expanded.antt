@@ -6,11 +6,10 @@ use Prim.Native.Nat.{ℕ, zero, suc, _+_, _-_, _*_, _/_, _%_, _<_, _≤_}
 use native.Mathlib.Nat.{suc-sub-suc, le-of-suc-le-suc, not-suc-le-zero}
 use native.Mathlib.Numerals.{add-one, sub-one}
 use native.Mathlib.Omega.{arith}
-use lib.Dec.{eqb}
 use lib.ListN.{length, getD}
 use borrow.Author.Tests.{eq-eqb, ne-eqb}
-use Rattle.rules.specs.Bytes.{byte, if_then_else_}
-use Rattle.rules.specs.Codons.{residueX, geneticCode, bitOf, withBase, basesOf, forEach}
+use Rattle.rules.specs.Bytes.{byte}
+use Rattle.rules.specs.Codons.{residueX, geneticCode, bitOf, withBase, forEach}
 use Rattle.codons.specs.Expansion.{codonCount, expanded, isAsx, isGlx, mixedWith, joined, joinedAll}
 
 -- within a list it does not matter what stands past its end
@@ -67,28 +66,6 @@ pub turn-out : (s i found whole : ℕ) (f : ℕ → List ℕ) → i < 4 → (s /
 turn-out s i found whole f h n is =
     let e : s / bitOf i % 2 ≡ 0 = omega (arith, n) in
     rw add-one (rw (one-less i h, e) at is)
-
--- the bases of a set one by one: what is joined for each that it has
-base-joined : (b i found : ℕ) (is : List ℕ) (f : ℕ → List ℕ) → b < 2
-    → joinedAll found (forEach (withBase b i is) f) ≡ joinedAll (if eqb b 1 then joinedAll found (f i) else found) (forEach is f)
-base-joined zero i found is f h = refl
-base-joined (suc zero) i found is f h = joined-append found (f i) (forEach is f)
-base-joined (suc (suc b)) i found is f h = absurd (omega arith)
-
-pub joined-bases : (s found t tc tca all : ℕ) (f : ℕ → List ℕ)
-    → t ≡ (if eqb (s / 8 % 2) 1 then joinedAll found (f 0) else found)
-    → tc ≡ (if eqb (s / 2 % 2) 1 then joinedAll t (f 1) else t)
-    → tca ≡ (if eqb (s % 2) 1 then joinedAll tc (f 2) else tc)
-    → all ≡ (if eqb (s / 4 % 2) 1 then joinedAll tca (f 3) else tca)
-    → all ≡ joinedAll found (forEach (basesOf s) f)
-unfolding joinedAll
-joined-bases s found t tc tca all f et etc etca eall =
-    let one : s / 1 ≡ s = omega arith in
-    sym
-    (base-joined (s / 8 % 2) 0 found _ f (omega arith)
-    ∙ rw (sym et) (base-joined (s / 2 % 2) 1 t _ f (omega arith)
-    ∙ rw (sym etc) (rw one (base-joined (s % 2) 2 tc _ f (omega arith)
-    ∙ rw (sym etca) (base-joined (s / 4 % 2) 3 tca [] f (omega arith) ∙ sym eall)))))
 
 -- no base has the bit 0
 pub bit-some : (i : ℕ) → i < 4 → 0 < bitOf i

@@ -2,4 +2,5 @@
 pub mod Plain
 pub mod Expanded
 pub mod Agreement
+pub mod Pairs
 pub mod Single

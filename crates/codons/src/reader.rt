@@ -1,12 +1,11 @@
 // The plain codon reader: the codon rule without the tables of letter sets, for comparison with them.
 ghost use mathlib.Core.Path.{_≡_};
-ghost use mathlib.Core.List.{[], _∷_};
 ghost use Prim.Native.Nat.{_-_, _<_, _≤_};
 ghost use lib.ListN.{getD};
-ghost use Rattle.rules.specs.Bytes.{if_then_else_};
-ghost use Rattle.rules.specs.Codons.{geneticCode, residueX, plainCodon, basesOf, forEach, codonRule};
+ghost use Rattle.rules.specs.Codons.{geneticCode, residueX, codonRule};
 ghost use Rattle.codons.specs.Tables.{HoldsPlain};
 ghost use Rattle.codons.specs.Expansion.{codonCount, expanded, isAsx, isGlx, mixedWith, joined, joinedAll};
+ghost use Rattle.codons.specs.Pairs.{isBaseSet, firstOf, agreedOn, pairRule, twoPairs, mixedRule};
 
 // What a base adds to a set, in the order T, C, A, G.
 const BITS: [usize; 4] = [8, 2, 1, 4];
@@ -107,58 +106,91 @@ pub fn read_codon(table: usize, a: usize, b: usize, c: usize) -> u8
     expand(table, [a, b, c], 3, 0, 0)
 }
 
-// The same by the residues of the plain codons, which a walk has at hand: the bases of each letter in turn.
+// The same by the residues of the plain codons, which a walk has at hand, without a loop. Two first letters agree on anything only where both are
+// bases, or where they are one of five mixed pairs.
 
-// The residue of a plain codon of three bases. The numbers b / 2 % 4 of the bases' letters are 2, 1, 0 and 3, in the order T, C, A, G.
-fn plain_at(table: usize, code: &[u8; 64], i: usize, j: usize, k: usize) -> u8
-    requires { ⌜ HoldsPlain table (now code) ⌝ }
-    requires { ⌜ (i < 4) × (j < 4) × (k < 4) ⌝ }
-    ensures { λ r. ⌜ r ≡ plainCodon table i j k ⌝ }
+// Whether a set has one base.
+fn is_base_set(s: usize) -> bool
+    ensures { λ r. ⌜ r ≡ isBaseSet s ⌝ }
 {
-    let place = (6 - i) % 4 * 16 + (6 - j) % 4 * 4 + (6 - k) % 4;
-    code[place]
+    (s == 1) | (s == 2) | (s == 4) | (s == 8)
 }
 
-// A residue beside what was found so far, where its base is one of a letter's.
-fn join_if(there: bool, found: u8, residue: u8) -> u8
-    ensures { λ r. ⌜ r ≡ (if there then joined found residue else found) ⌝ }
+// Of the residues with A, C, T and G as the third base: that of the first base, in the order A, C, G, T, that the third letter stands for.
+fn first_of(a: u8, c: u8, t: u8, g: u8, third: usize) -> u8
+    ensures { λ r. ⌜ r ≡ firstOf a c t g third ⌝ }
 {
-    if there { join(found, residue) } else { found }
+    if third % 2 == 1 {
+        return a;
+    }
+    if third / 2 % 2 == 1 {
+        return c;
+    }
+    if third / 4 % 2 == 1 { g } else { t }
 }
 
-// Joins the residues of two bases with each base of a third letter to what was found so far.
-fn join_third(table: usize, code: &[u8; 64], i: usize, j: usize, c: usize, found: u8) -> u8
-    requires { ⌜ HoldsPlain table (now code) ⌝ }
-    requires { ⌜ (i < 4) × (j < 4) ⌝ }
-    ensures { λ r. ⌜ r ≡ joinedAll found (forEach (basesOf c) λ k. plainCodon table i j k ∷ []) ⌝ }
+// The one residue that all bases of the third letter give, else X.
+fn agreed_on(a: u8, c: u8, t: u8, g: u8, third: usize) -> u8
+    ensures { λ r. ⌜ r ≡ agreedOn a c t g third ⌝ }
 {
-    if found == b'X' {
-        return found;
+    let found = first_of(a, c, t, g, third);
+    let with_c = (third / 2 % 2 == 0) | (c == found);
+    let with_g = (third / 4 % 2 == 0) | (g == found);
+    let with_t = (third / 8 % 2 == 0) | (t == found);
+    if with_c & with_g & with_t {
+        found
+    } else {
+        b'X'
     }
-    let t = join_if(c / 8 % 2 == 1, found, plain_at(table, code, i, j, 0));
-    let tc = join_if(c / 2 % 2 == 1, t, plain_at(table, code, i, j, 1));
-    let tca = join_if(c % 2 == 1, tc, plain_at(table, code, i, j, 2));
-    join_if(c / 4 % 2 == 1, tca, plain_at(table, code, i, j, 3))
 }
 
-// The same of a base with each base of a second and a third letter.
-fn join_second(table: usize, code: &[u8; 64], i: usize, b: usize, c: usize, found: u8) -> u8
+// The residue of two bases and a third letter. The bases are a pair of numbers b / 2 % 4 of their letters: A 0, C 1, T 2, G 3.
+fn read_third(table: usize, code: &[u8; 64], pair: usize, c: usize) -> u8
     requires { ⌜ HoldsPlain table (now code) ⌝ }
-    requires { ⌜ i < 4 ⌝ }
-    ensures { λ r. ⌜ r ≡ joinedAll found (forEach (basesOf b) λ j. forEach (basesOf c) λ k. plainCodon table i j k ∷ []) ⌝ }
+    requires { ⌜ pair < 16 ⌝ }
+    requires { ⌜ (0 < c) × (c < 16) ⌝ }
+    ensures { λ r. ⌜ r ≡ pairRule table pair c ⌝ }
 {
-    if found == b'X' {
-        return found;
+    let place = pair * 4;
+    agreed_on(
+        code[place],
+        code[place + 1],
+        code[place + 2],
+        code[place + 3],
+        c,
+    )
+}
+
+// The two pairs of bases that a mixed pair of sets stands for, a hexadecimal digit each, of RA, SA, TR, YT and MG. No other mixed pair agrees on a
+// residue, whatever the third letter: 0.
+fn two_pairs(sets: usize) -> usize
+    ensures { λ r. ⌜ r ≡ twoPairs sets ⌝ }
+    ensures small { λ r. ⌜ r < 256 ⌝ }
+{
+    match sets {
+        0x51 => 0x0c,
+        0x61 => 0x4c,
+        0x85 => 0x8b,
+        0xa8 => 0x6a,
+        0x34 => 0x37,
+        _ => 0,
     }
-    let mut all = found;
-    let mut j = 0;
-    while j < 4 {
-        if b / BITS[j] % 2 == 1 {
-            all = join_third(table, code, i, j, c, all);
-        }
-        j += 1;
+}
+
+// The residue of two letters that aren't both bases, and a third.
+fn read_mixed(table: usize, code: &[u8; 64], sets: usize, c: usize) -> u8
+    requires { ⌜ HoldsPlain table (now code) ⌝ }
+    requires { ⌜ sets < 256 ⌝ }
+    requires { ⌜ (0 < c) × (c < 16) ⌝ }
+    ensures { λ r. ⌜ r ≡ mixedRule table sets c ⌝ }
+{
+    let pairs = two_pairs(sets);
+    if pairs == 0 {
+        return b'X';
     }
-    all
+    let first = read_third(table, code, pairs / 16, c);
+    let second = read_third(table, code, pairs % 16, c);
+    join(first, second)
 }
 
 // The residue of a codon of three letter sets, none of them empty.
@@ -169,13 +201,9 @@ pub fn read_by_plain(table: usize, code: &[u8; 64], a: usize, b: usize, c: usize
     requires { ⌜ (0 < c) × (c < 16) ⌝ }
     ensures { λ r. ⌜ r ≡ codonRule table a b c ⌝ }
 {
-    let mut all = 0;
-    let mut i = 0;
-    while i < 4 {
-        if a / BITS[i] % 2 == 1 {
-            all = join_second(table, code, i, b, c, all);
-        }
-        i += 1;
+    if is_base_set(a) & is_base_set(b) {
+        let pair = (a / 2 + a / 4) % 4 * 4 + (b / 2 + b / 4) % 4;
+        return read_third(table, code, pair, c);
     }
-    all
+    read_mixed(table, code, a * 16 + b, c)
 }

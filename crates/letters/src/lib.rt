@@ -7,7 +7,7 @@ pub mod complement;
 ghost use mathlib.Core.Path.{_≡_};
 ghost use mathlib.Core.Bool.{true};
 ghost use Prim.Native.Nat.{_<_};
-ghost use Rattle.rules.specs.Bytes.{isCapital};
+ghost use Rattle.rules.specs.Bytes.{isCapital, if_then_else_};
 ghost use Rattle.rules.specs.Letters.{letterSet, isLetter, folded};
 ghost use Rattle.rules.specs.Translation.{isResidue};
 ghost use Rattle.letters.specs.Sets.{HoldsSets, foldedSet, foldsToBase, isBase};
@@ -79,13 +79,24 @@ pub fn folds_to_base(b: u8) -> bool
     (u == b'A') | (u == b'C') | (u == b'G') | (u == b'T') | (u == b'U')
 }
 
-// Whether a letter of plain translation stands for one base: its place in the alphabet is A's, C's, G's, T's or U's.
+// Whether a letter of plain translation stands for one base: its place in the alphabet is none of the other letters'.
 pub fn is_base_letter(b: u8) -> bool
     requires { ⌜ isLetter (folded b) ≡ true ⌝ }
     ensures { λ r. ⌜ r ≡ foldsToBase b ⌝ }
 {
-    let places: u32 = 0x30008a;
-    (places >> (b % 32)) % 2 == 1
+    let places: u32 = 0x2cc6914;
+    (places >> (b % 32)) % 2 == 0
+}
+
+// The sets of letters by their places in the alphabet, four bits each, the first lowest: of the places 0 to 15, and from 16 on.
+fn sets_of_half(first: bool) -> usize
+    ensures { λ r. ⌜ r ≡ (if first then 0x0f30c00b400d2e10 else 0x000000a097886500) ⌝ }
+{
+    if first {
+        0x0f30c00b400d2e10
+    } else {
+        0x000000a097886500
+    }
 }
 
 // The set of a letter of plain translation, without the table of all.
@@ -94,11 +105,8 @@ pub fn set_of_letter(b: u8) -> usize
     ensures { λ r. ⌜ r ≡ foldedSet b ⌝ }
     ensures small { λ r. ⌜ r < 16 ⌝ }
 {
-    let u = b & 223;
-    if u == b'U' {
-        return 8;
-    }
-    letter_set(u)
+    let place = b % 32;
+    (sets_of_half(place < 16) >> (place % 16 * 4)) % 16
 }
 
 // Whether transcripts and edits take a byte: an upper-case letter of plain translation, but not U.

@@ -129,6 +129,28 @@ fn write_few(seq: &[u8], table: usize, code: &[u8; 64], out: &mut [u8])
 // Below so many letters the table of 4,096 takes longer to lay out than it saves.
 const FEW: usize = 192;
 
+// Writes the residues of letters all of which are bases.
+pub(crate) fn write_bases(seq: &[u8], table: usize, out: &mut [u8])
+    requires { ⌜ table < 3 ⌝ }
+    requires { ⌜ foldToBases (now seq) ≡ true ⌝ }
+    requires { ⌜ residueCount (length (now seq)) ≤ length (now out) ⌝ }
+    ensures { λ _. ⌜ now (out .exit) ≡ over (foldedTranslated table [] (now (seq .entry))) (now (out .entry)) ⌝ }
+{
+    let code = plain_code(table);
+    write_plain(seq, table, &code, out);
+}
+
+// Writes the residues of letters without the table of 4,096.
+fn write_short(seq: &[u8], table: usize, out: &mut [u8])
+    requires { ⌜ table < 3 ⌝ }
+    requires { ⌜ foldToLetters (now seq) ≡ true ⌝ }
+    requires { ⌜ residueCount (length (now seq)) ≤ length (now out) ⌝ }
+    ensures { λ _. ⌜ now (out .exit) ≡ over (foldedTranslated table [] (now (seq .entry))) (now (out .entry)) ⌝ }
+{
+    let code = plain_code(table);
+    write_few(seq, table, &code, out);
+}
+
 // Writes the residues of letters, without exceptions, to the buffer's start, the faster way where all letters are bases.
 pub(crate) fn write_letters(seq: &[u8], table: usize, plain: bool, out: &mut [u8])
     requires { ⌜ table < 3 ⌝ }
@@ -138,13 +160,25 @@ pub(crate) fn write_letters(seq: &[u8], table: usize, plain: bool, out: &mut [u8
     ensures { λ _. ⌜ now (out .exit) ≡ over (foldedTranslated table [] (now (seq .entry))) (now (out .entry)) ⌝ }
 {
     if plain {
-        let code = plain_code(table);
-        write_plain(seq, table, &code, out);
+        write_bases(seq, table, out);
     } else if seq.len() < FEW {
-        let code = plain_code(table);
-        write_few(seq, table, &code, out);
+        write_short(seq, table, out);
     } else {
         let residues = residues_by_number(table);
         write_any(seq, table, &residues, out);
+    }
+}
+
+// The same of letters some of which are no bases. A few of them don't enter the function above, which makes room for the table before it looks.
+pub(crate) fn write_mixed(seq: &[u8], table: usize, out: &mut [u8])
+    requires { ⌜ table < 3 ⌝ }
+    requires { ⌜ foldToLetters (now seq) ≡ true ⌝ }
+    requires { ⌜ residueCount (length (now seq)) ≤ length (now out) ⌝ }
+    ensures { λ _. ⌜ now (out .exit) ≡ over (foldedTranslated table [] (now (seq .entry))) (now (out .entry)) ⌝ }
+{
+    if seq.len() < FEW {
+        write_short(seq, table, out);
+    } else {
+        write_letters(seq, table, false, out);
     }
 }

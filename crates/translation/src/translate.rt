@@ -1,7 +1,9 @@
 // Plain translation of a byte string, without and with exceptions.
 use crate::bases::all_fold_to_bases;
 use crate::bases::all_fold_to_letters;
+use crate::reading::write_bases;
 use crate::reading::write_letters;
+use crate::reading::write_mixed;
 use excepted::are_exceptions;
 use excepted::put_exceptions;
 use numbers::thirds;
@@ -43,11 +45,11 @@ pub fn translate_cds(seq: &[u8], table: usize, full: bool, out: &mut [u8]) -> Wr
     }
     let end = seq.len() - seq.len() % 3;
     if all_fold_to_bases(&seq[..end]) {
-        write_letters(seq, table, true, out);
+        write_bases(seq, table, out);
         return Written::Bytes(n);
     }
     if all_fold_to_letters(&seq[..end]) {
-        write_letters(seq, table, false, out);
+        write_mixed(seq, table, out);
         return Written::Bytes(n);
     }
     Written::Refused(2)

@@ -12,7 +12,7 @@ use Rattle.letters.proofs.is_base_letter.Tie as tie
 
 returns : tie.Need-returns
 unfolding letterSet isLetter upper folded foldsToBase
-returns c = at-letter true (λ (k : ℕ). eqb (0x30008a / 2 ^ (k % 32) % 2) 1) foldsToBase refl (c .args .b) (search needs)
+returns c = at-letter true (λ (k : ℕ). eqb (0x2cc6914 / 2 ^ (k % 32) % 2) 0) foldsToBase refl (c .args .b) (search needs)
 
 pub is-base-letter-spec : {M : Type 1} → statement M
 is-base-letter-spec = tie.close (tie.spec (λ c. search needs) (λ c. search needs) returns)

@@ -1,57 +1,49 @@
--- `codons::reader::read_by_plain` meets its contract. The invariant: what is left to join gives the whole. Assumes nothing.
-use mathlib.Core.List.{List, [], _∷_}
-use mathlib.Core.Logic.{⊎-elim}
-use mathlib.Core.Path.{_≡_, refl, _∙_}
-use Prim.Native.Nat.{ℕ, _-_, _≤_}
+-- `codons::reader::read_by_plain` meets its contract: two bases are read at their place, and any others as the mixed pair that they are.
+-- Assumes nothing.
+use mathlib.Core.Path.{_∙_}
 use native.Mathlib.Omega.{arith}
 use borrow.Author.Needs.{needs}
-use Rattle.rules.specs.Codons.{plainCodon, basesOf, forEach, residues}
-use Rattle.codons.specs.Expansion.{joinedAll}
-use Rattle.codons.proofs.Expanded.{basesFrom, turn-in, turn-out, bit-some}
-use Rattle.codons.proofs.Agreement.{by-plain}
+use Rattle.codons.proofs.Pairs.{bases-rule, mixed-rule}
 use Rattle.codons.proofs.reader.read_by_plain.Statement.{statement}
 use Rattle.codons.proofs.reader.read_by_plain.Tie as tie
 
-abbrev Inv-loop : tie.InvT-loop
-Inv-loop table code a b c all₀ i₀ all i =
-    (i ≤ 4) × (joinedAll all (forEach (basesFrom a i (4 - i)) λ n. forEach (basesOf b) λ j. forEach (basesOf c) λ k. plainCodon table n j k ∷ [])
-    ≡ joinedAll 0 (residues table a b c))
+read-third-requires : tie.Need-read-third-requires
+read-third-requires c κs =
+    let pre = c .before .before .before .pre in
+    (pre .0, (omega arith, pre .1 .1 .1))
 
-abbrev μ-loop : tie.MeasureT-loop
-μ-loop table code a b c all₀ i₀ all i = 4 - i
-
-loop-again : tie.Need-loop-again Inv-loop μ-loop
-loop-again c =
-    let at-loop = c .before .before .loop in
-    let args = c .before .before .before .args in
-    let rest : ℕ → List ℕ = λ n. forEach (basesOf (args .b)) λ j. forEach (basesOf (args .c)) λ k. plainCodon (args .table) n j k ∷ [] in (
-      search needs,
-      ⊎-elim
-          (λ w. rw (w .2, w .1 .ensures) (turn-in (args .a) (at-loop .i) (at-loop .all) _ rest (c .before .loop-test .taken) (w .0 .taken) (at-loop .inv .1)))
-          (λ w. rw (w .1) (turn-out (args .a) (at-loop .i) (at-loop .all) _ rest (c .before .loop-test .taken) (w .0 .left) (at-loop .inv .1)))
-          (c .if1 .came),
-    )
-
-returns : tie.Need-returns Inv-loop μ-loop
-unfolding joinedAll
+returns : tie.Need-returns
 returns c =
-    let args = c .before .before .args in
-    let pre = c .before .before .pre in
-    let done : c .before .loop .i ≡ 4 = omega arith in
-    (rw done at (c .before .loop .inv .1)) ∙ by-plain (args .table) (args .a) (args .b) (args .c) (pre .1 .0) (pre .1 .1 .0) (pre .1 .1 .1)
+    let start = c .before .before .before .before in
+    let args = start .args in
+    c .read-third .ensures
+    ∙ bases-rule (args .table) (args .a) (args .b) (args .c) _ _ (start .pre .1 .0 .1) (start .pre .1 .1 .0 .1) (c .before .before .before .is-base-set .ensures) (c .before .before .is-base-set2 .ensures) (c .before .if1 .taken)
+
+read-mixed-requires : tie.Need-read-mixed-requires
+read-mixed-requires c κs =
+    let pre = c .before .before .before .pre in
+    (pre .0, (omega (arith, pre .1 .0 .1, pre .1 .1 .0 .1), pre .1 .1 .1))
+
+returns-2 : tie.Need-returns-2
+returns-2 c =
+    let start = c .before .before .before .before in
+    let args = start .args in
+    c .read-mixed .ensures
+    ∙ mixed-rule (args .table) (args .a) (args .b) (args .c) _ _ (start .pre .1 .0 .1) (start .pre .1 .1 .0 .1) (start .pre .1 .1 .1) (c .before .before .before .is-base-set .ensures) (c .before .before .is-base-set2 .ensures) (c .before .if1 .left)
 
 pub read-by-plain-spec : {M : Type 1} → statement M
 read-by-plain-spec =
     tie.close
     (tie.spec
-    Inv-loop
-    μ-loop
-    (λ c. (search needs, refl))
-    (λ c. search needs)
-    (λ c. search needs)
-    (λ c. bit-some (c .before .loop .i) (c .loop-test .taken))
+    (λ c κs. search needs)
     (λ c κs. search needs)
     (λ c. search needs)
     (λ c. search needs)
-    loop-again
-    returns)
+    (λ c. search needs)
+    (λ c. search needs)
+    read-third-requires
+    returns
+    (λ c. search needs)
+    (λ c. search needs)
+    read-mixed-requires
+    returns-2)

@@ -10,7 +10,6 @@ use lib.Seq.{length-take-le}
 use Rattle.rules.specs.Translation.{wholeCodons, foldToLetters, residueCount, foldedTranslated, translation}
 use Rattle.rules.proofs.Fills.{refuses, gives}
 use Rattle.places.specs.Places.{foldToBases}
-use Rattle.excepted.proofs.Putting.{never}
 use Rattle.places.proofs.Residues.{length-plain}
 use Rattle.translation.proofs.Answers.{no-table, not-full, no-room, no-letter, all-fold-to-letters, bases-letters, none-taken}
 use Rattle.translation.proofs.translate.translate_cds.Statement.{statement}
@@ -36,11 +35,10 @@ slice-aggregate-all-fold-to-bases c =
     let args = c .before .before .before .before .before .before .before .args in
     sym (length-take-le (length (args .seq .now) - length (args .seq .now) % 3) (args .seq .now) (omega arith))
 
-write-letters-requires : tie.Need-write-letters-requires
+write-bases-requires : tie.Need-write-bases-requires
 unfolding wholeCodons foldToBases residueCount
-write-letters-requires c κs =
-    let bases : foldToBases (c .before .before .before .before .before .before .before .before .before .before .args .seq .now) ≡ true = sym (c .before .before .all-fold-to-bases .ensures) ∙ c .before .if4 .taken in
-    (search needs, (bases-letters (c .before .before .before .before .before .before .before .before .before .before .args .seq .now) bases, ((λ _. bases), omega (arith, c .before .before .before .before .if3 .left, c .before .before .before .before .before .thirds .ensures))))
+write-bases-requires c κs =
+    (search needs, (sym (c .before .before .all-fold-to-bases .ensures) ∙ c .before .if4 .taken, omega (arith, c .before .before .before .before .if3 .left, c .before .before .before .before .before .thirds .ensures)))
 
 returns-4 : tie.Need-returns-4
 unfolding wholeCodons foldToBases
@@ -50,17 +48,17 @@ returns-4 c =
     gives (translation (args .table) [] (args .full) (args .seq .now) (length (args .out .now))) (foldedTranslated (args .table) [] (args .seq .now)) _ _ (args .out .now)
     (all-fold-to-letters (args .table) [] (args .full) (args .seq .now) (length (args .out .now)) (c .before .before .before .before .before .before .before .before .before .before .if1 .left) none-taken (c .before .before .before .before .before .before .before .before .before .if2 .left) (omega (arith, c .before .before .before .before .before .before .before .if3 .left, c .before .before .before .before .before .before .before .before .thirds .ensures)) (bases-letters (args .seq .now) bases))
     (c .before .before .before .before .before .before .before .before .thirds .ensures ∙ sym (length-plain (args .table) [] (args .seq .now)))
-    (c .before .before .write-letters .ensures)
+    (c .before .before .write-bases .ensures)
 
 slice-aggregate-all-fold-to-letters : tie.Need-slice-aggregate-all-fold-to-letters
 slice-aggregate-all-fold-to-letters c =
     let args = c .before .before .before .before .before .before .before .before .before .before .args in
     sym (length-take-le (length (args .seq .now) - length (args .seq .now) % 3) (args .seq .now) (omega arith))
 
-write-letters-requires-2 : tie.Need-write-letters-requires-2
+write-mixed-requires : tie.Need-write-mixed-requires
 unfolding wholeCodons foldToLetters residueCount
-write-letters-requires-2 c κs =
-    (search needs, (sym (c .before .before .all-fold-to-letters .ensures) ∙ c .before .if5 .taken, ((λ e. absurd (never e)), omega (arith, c .before .before .before .before .before .before .before .if3 .left, c .before .before .before .before .before .before .before .before .thirds .ensures))))
+write-mixed-requires c κs =
+    (search needs, (sym (c .before .before .all-fold-to-letters .ensures) ∙ c .before .if5 .taken, omega (arith, c .before .before .before .before .before .before .before .if3 .left, c .before .before .before .before .before .before .before .before .thirds .ensures)))
 
 returns-5 : tie.Need-returns-5
 unfolding wholeCodons foldToLetters
@@ -70,7 +68,7 @@ returns-5 c =
     gives (translation (args .table) [] (args .full) (args .seq .now) (length (args .out .now))) (foldedTranslated (args .table) [] (args .seq .now)) _ _ (args .out .now)
     (all-fold-to-letters (args .table) [] (args .full) (args .seq .now) (length (args .out .now)) (c .before .before .before .before .before .before .before .before .before .before .before .before .before .if1 .left) none-taken (c .before .before .before .before .before .before .before .before .before .before .before .before .if2 .left) (omega (arith, c .before .before .before .before .before .before .before .before .before .before .if3 .left, c .before .before .before .before .before .before .before .before .before .before .before .thirds .ensures)) letters)
     (c .before .before .before .before .before .before .before .before .before .before .before .thirds .ensures ∙ sym (length-plain (args .table) [] (args .seq .now)))
-    (c .before .before .write-letters2 .ensures)
+    (c .before .before .write-mixed .ensures)
 
 returns-6 : tie.Need-returns-6
 unfolding wholeCodons foldToLetters
@@ -90,12 +88,12 @@ translate-cds-spec =
     (λ c. omega arith)
     slice-aggregate-all-fold-to-bases
     (λ c κs. omega arith)
-    write-letters-requires
+    write-bases-requires
     (λ c. omega arith)
     returns-4
     slice-aggregate-all-fold-to-letters
     (λ c κs. omega arith)
-    write-letters-requires-2
+    write-mixed-requires
     (λ c. omega arith)
     returns-5
     returns-6)
