@@ -1,7 +1,7 @@
 #include "baseline.h"
 #include <string.h>
 
-enum { LONGEST = 16384, LONGEST_PUT = 4096, MOST_EXCEPTIONS = 16, LAST_STAR = 65535 };
+enum { LONGEST = 131072, LONGEST_PUT = 4096, MOST_EXCEPTIONS = 16, LAST_STAR = 65535 };
 
 /* ---- letters and codons ---- */
 

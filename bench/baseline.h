@@ -51,7 +51,7 @@ struct base_known {
     struct base_reference given;
     uint64_t residues;
     int many_stops;
-    uint8_t protein[16384 / 3];
+    uint8_t protein[131072 / 3];
 };
 
 /* The refusal, or 0. */

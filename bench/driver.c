@@ -1,29 +1,14 @@
-/* Times the module (with -DOURS), the Rust and plain C in one process, by turns, and prints the best of many rounds. All is timed in several passes, so that
- * no row has its whole time while something else runs. Before anything is timed the answers are held to each other. */
+/* Times the module (with -DOURS), the Rust and plain C in one process, by turns, and prints the best of many rounds. Before anything is timed the answers are
+ * held to each other. */
 #include "baseline.h"
 #include "oracle.h"
+#include "timing.h"
 #ifdef OURS
-#include "garumbott.h"
+#include "through.h"
 #endif
-#include <stdio.h>
-#include <stdlib.h>
 #include <string.h>
-#include <time.h>
 
-enum { PASSES = 10, ROUNDS = 100, SAMPLE_NS = 20000, MOST = 20000, CALLS = 5, ROWS = 128 };
-
-static double now(void)
-{
-    struct timespec t;
-    clock_gettime(CLOCK_MONOTONIC, &t);
-    return t.tv_sec * 1e9 + t.tv_nsec;
-}
-
-static void fail(const char *what)
-{
-    printf("the answers differ: %s\n", what);
-    exit(1);
-}
+enum { MOST = 131072 + 16 };
 
 static uint64_t seed;
 
@@ -94,6 +79,11 @@ static void c_known(void)
     sink += base_record_known(&known, &edit, &buffers).number;
 }
 
+static void c_check(void)
+{
+    sink += base_check(&ref, &known);
+}
+
 #ifdef OURS
 static uint64_t ours_translated(uint8_t *to, uint64_t room)
 {
@@ -110,62 +100,47 @@ static void ours_prefix(void)
     sink += garumbott_common_prefix(letters, ref.len, other, ref.len);
 }
 
-#ifndef __x86_64__
-/* The object of bench/native follows x86-64's convention on every processor: a struct above sixteen bytes is written through a first argument. */
-void record_through(struct garumbott_answer *answer, const uint8_t *letters, uint64_t letters_len, uint64_t cs, uint64_t ce, uint64_t table,
-                    const uint8_t *exceptions, uint64_t exceptions_len, uint64_t cds_end, uint64_t form, uint64_t size, uint64_t kind, uint64_t start_star, int64_t start, uint64_t end_star,
-                    int64_t end, const uint8_t *bases, uint64_t bases_len, uint64_t longest, uint8_t *transcript, uint64_t transcript_len, uint8_t *reference,
-                    uint64_t reference_len, uint8_t *altered, uint64_t altered_len) __asm__("garumbott_record");
-void check_through(struct garumbott_checked *checked, const uint8_t *letters, uint64_t letters_len, uint64_t cs, uint64_t ce, uint64_t table,
-                   const uint8_t *exceptions, uint64_t exceptions_len, uint64_t cds_end, uint64_t form, uint64_t size, uint64_t kind, uint64_t start_star, int64_t start, uint64_t end_star,
-                   int64_t end, const uint8_t *bases, uint64_t bases_len, uint64_t longest, uint64_t number, const uint8_t *deleted, uint64_t deleted_len,
-                   const uint8_t *inserted, uint64_t inserted_len, uint8_t *transcript, uint64_t transcript_len, uint8_t *reference,
-                   uint64_t reference_len, uint8_t *altered, uint64_t altered_len) __asm__("garumbott_check");
-#endif
-
 /* None but where a row says so. */
 static const uint8_t *excepted;
 static uint64_t excepted_len;
+static const struct garumbott_buffers our_buffers = {tx, sizeof tx, rp, sizeof rp, ap, sizeof ap};
 
-/* The letters as they are lent: a byte each, but where a row packs them. */
-static uint8_t packed[MOST / 2 + 1];
-static const uint8_t *lent = letters;
-static uint64_t lent_len, form;
-
-static void lend_bytes(void)
+static struct garumbott_reference our_reference(uint64_t table)
 {
-    lent = letters, lent_len = ref.len, form = GARUMBOTT_FORM_BYTES;
+    return (struct garumbott_reference){letters, ref.len, ref.cs, ref.ce, table, excepted, excepted_len, 0, 0, 0};
 }
 
-static void lend_packed(void)
+static struct garumbott_coding_edit our_edit(int64_t start)
 {
-    lent = packed, lent_len = GARUMBOTT_PACKED_BYTES(ref.len), form = GARUMBOTT_FORM_PACKED;
+    return (struct garumbott_coding_edit){edit.kind, 0, start, 0, edit.end, edit.bases, edit.bases_len, 0};
 }
 
 static struct garumbott_answer ours_record(uint64_t table, int64_t start)
 {
-#ifdef __x86_64__
-    return garumbott_record(lent, lent_len, ref.cs, ref.ce, table, excepted, excepted_len, 0, form, ref.len, edit.kind, 0, start, 0, edit.end, edit.bases, edit.bases_len, 0, tx, sizeof tx, rp,
-                            sizeof rp, ap, sizeof ap);
-#else
-    struct garumbott_answer answer;
-    record_through(&answer, lent, lent_len, ref.cs, ref.ce, table, excepted, excepted_len, 0, form, ref.len, edit.kind, 0, start, 0, edit.end, edit.bases, edit.bases_len, 0, tx, sizeof tx, rp,
-                   sizeof rp, ap, sizeof ap);
-    return answer;
-#endif
+    struct garumbott_reference r = our_reference(table);
+    struct garumbott_coding_edit e = our_edit(start);
+    return record_of(&r, &e, &our_buffers);
 }
 
 static void ours_anew(void)
 {
-    lend_bytes();
     sink += ours_record(0, edit.start).number;
+}
+
+/* The same with the letters packed. */
+static uint8_t packed[MOST / 2 + 1];
+
+static struct garumbott_answer packed_record(void)
+{
+    struct garumbott_reference r = our_reference(0);
+    struct garumbott_coding_edit e = our_edit(edit.start);
+    r.letters = packed, r.letters_len = GARUMBOTT_PACKED_BYTES(ref.len), r.form = GARUMBOTT_FORM_PACKED, r.size = ref.len;
+    return record_of(&r, &e, &our_buffers);
 }
 
 static void ours_packed(void)
 {
-    lend_packed();
-    sink += ours_record(0, edit.start).number;
-    lend_bytes();
+    sink += packed_record().number;
 }
 
 /* The edit's own record, handed back. */
@@ -174,15 +149,9 @@ static struct garumbott_answer own;
 
 static struct garumbott_checked ours_judged(void)
 {
-#ifdef __x86_64__
-    return garumbott_check(lent, lent_len, ref.cs, ref.ce, 0, excepted, excepted_len, 0, form, ref.len, edit.kind, 0, edit.start, 0, edit.end, edit.bases, edit.bases_len, 0, own.number, own_deleted,
-                           own.deleted_len, own_inserted, own.inserted_len, tx, sizeof tx, rp, sizeof rp, ap, sizeof ap);
-#else
-    struct garumbott_checked checked;
-    check_through(&checked, lent, lent_len, ref.cs, ref.ce, 0, excepted, excepted_len, 0, form, ref.len, edit.kind, 0, edit.start, 0, edit.end, edit.bases, edit.bases_len, 0, own.number, own_deleted,
-                  own.deleted_len, own_inserted, own.inserted_len, tx, sizeof tx, rp, sizeof rp, ap, sizeof ap);
-    return checked;
-#endif
+    struct garumbott_reference r = our_reference(0);
+    struct garumbott_coding_edit e = our_edit(edit.start);
+    return check_of(&r, &e, own.number, own_deleted, own.deleted_len, own_inserted, own.inserted_len, &our_buffers);
 }
 
 static void ours_record_checked(void)
@@ -211,58 +180,7 @@ static void ours_letters(void)
 #define ours_packed NULL
 #endif
 
-/* ---- timing ---- */
-
-typedef void (*call)(void);
-
-static double kept[ROWS][CALLS];
-static int pass, at;
-
-/* The best time of each call so far, taken by turns; 0 for a call that isn't there. */
-static const double *best_of(const call *calls, int count)
-{
-    if (at == ROWS)
-        fail("more rows than there is room for");
-    double *best = kept[at++];
-    int often[CALLS];
-    for (int k = 0; k < count; k++) {
-        if (!calls[k])
-            continue;
-        calls[k]();
-        double a = now();
-        calls[k]();
-        double t = now() - a;
-        often[k] = t < 1 ? SAMPLE_NS : t > SAMPLE_NS ? 1 : (int)(SAMPLE_NS / t) + 1;
-    }
-    for (int round = 0; round < ROUNDS; round++)
-        for (int k = 0; k < count; k++) {
-            if (!calls[k])
-                continue;
-            double a = now();
-            for (int i = 0; i < often[k]; i++)
-                calls[k]();
-            double t = (now() - a) / often[k];
-            if (best[k] == 0 || t < best[k])
-                best[k] = t;
-        }
-    return best;
-}
-
-static void cell(double ns)
-{
-    if (ns > 0)
-        printf("%10.*f", ns < 100, ns);
-    else
-        printf("%10s", "-");
-}
-
-static void ratio(double a, double b)
-{
-    if (a > 0 && b > 0)
-        printf("%10.2f", a / b);
-    else
-        printf("%10s", "-");
-}
+/* ---- rows ---- */
 
 static void head(const char *what)
 {
@@ -271,10 +189,8 @@ static void head(const char *what)
     printf("\n%-38s%10s%10s%10s%10s%10s%10s%10s\n", what, "ours", "Rust", "Rust u.s.", "C", "ours/Rust", "ours/u.s.", "ours/C");
 }
 
-static void row(const char *what, double ours, double rust, double until, double c)
+static void cells(const char *what, double ours, double rust, double until, double c)
 {
-    if (pass < PASSES)
-        return;
     printf("%-38s", what);
     cell(ours);
     cell(rust);
@@ -283,6 +199,35 @@ static void row(const char *what, double ours, double rust, double until, double
     ratio(ours, rust);
     ratio(ours, until);
     ratio(ours, c);
+}
+
+static void row(const char *what, double ours, double rust, double until, double c)
+{
+    if (pass < PASSES)
+        return;
+    cells(what, ours, rust, until, c);
+    printf("\n");
+    fflush(stdout);
+}
+
+static void head_long(const char *what)
+{
+    if (pass == PASSES)
+        printf("\n%-38s%10s%10s%10s%10s%10s%10s%10s%10s%10s\n", what, "ours", "Rust", "Rust u.s.", "C", "ours/Rust", "ours/u.s.", "ours/C", "ns a base", "of 16384");
+}
+
+/* With ours a base, and that beside the shortest length's, which comes first. */
+static void row_long(const char *what, uint64_t len, double ours, double rust, double until, double c)
+{
+    static double shortest;
+    double each = ours / len;
+    if (pass < PASSES)
+        return;
+    if (len == 16384)
+        shortest = each;
+    cells(what, ours, rust, until, c);
+    each_cell(each);
+    ratio(each, shortest);
     printf("\n");
     fflush(stdout);
 }
@@ -314,9 +259,6 @@ static void make_letters(uint64_t len)
     ref = (struct base_reference){letters, len, 1, len / 3 * 3, 0, NULL, 0};
     for (uint64_t i = 0; i < len; i++)
         letters[i] = "ACGT"[next() & 3];
-#ifdef OURS
-    lend_bytes();
-#endif
 }
 
 /* One in a hundred, and at least one. */
@@ -333,21 +275,27 @@ static void strew(uint64_t len)
         letters[len / 2] = 'N';
 }
 
-/* A transcript whose CDS runs from base 101 to some 200 before the end, with a stop at its end only. */
-static void make_reference(uint64_t len)
+/* The letters at hand as a reference of all three. */
+static void know_reference(void)
+{
+    if (base_check(&ref, &known))
+        fail("a reference that C refuses");
+    rust_ref = oracle_reference_new(letters, ref.len, ref.cs, ref.ce, 0, NULL, 0);
+    if (!rust_ref)
+        fail("a reference that the Rust refuses");
+}
+
+/* A transcript whose CDS runs from base 101 to some 200 before the end, with a stop at its end only; without T before that, in no frame. */
+static void make_reference(uint64_t len, int without_t)
 {
     make_letters(len);
     ref.cs = 101;
     ref.ce = 100 + (len - 300) / 3 * 3;
-    for (uint64_t i = ref.cs - 1; i < ref.ce - 3; i += 3)
-        if (letters[i] == 'T' && (!memcmp(letters + i + 1, "AA", 2) || !memcmp(letters + i + 1, "AG", 2) || !memcmp(letters + i + 1, "GA", 2)))
+    for (uint64_t i = ref.cs - 1; i < ref.ce - 3; i += without_t ? 1 : 3)
+        if (letters[i] == 'T' && (without_t || !memcmp(letters + i + 1, "AA", 2) || !memcmp(letters + i + 1, "AG", 2) || !memcmp(letters + i + 1, "GA", 2)))
             letters[i] = 'C';
     memcpy(letters + ref.ce - 3, "TAA", 3);
-    if (base_check(&ref, &known))
-        fail("a reference that C refuses");
-    rust_ref = oracle_reference_new(letters, len, ref.cs, ref.ce, 0, NULL, 0);
-    if (!rust_ref)
-        fail("a reference that the Rust refuses");
+    know_reference();
 }
 
 static void make_edit(uint64_t kind, int64_t start, int64_t end, const char *bases)
@@ -448,21 +396,13 @@ static void check_packed(void)
     memset(ap, 0, sizeof ap);
     if (garumbott_pack(letters, ref.len, packed, sizeof packed).refusal)
         fail("letters that can't be packed");
-    lend_packed();
-    struct garumbott_answer b = ours_record(0, edit.start);
-    lend_bytes();
+    struct garumbott_answer b = packed_record();
     if (a.refusal || memcmp(&a, &b, sizeof a) || memcmp(tx, tx5, sizeof tx) || memcmp(rp, rp5, sizeof rp) || memcmp(ap, ap5, sizeof ap))
         fail("packed letters");
 }
 #endif
 
 /* ---- the tables ---- */
-
-/* What the whole takes beside a part of it. */
-static double beside(double whole, double part)
-{
-    return whole > part ? whole - part : 0;
-}
 
 static void translations(uint64_t len, int strewn)
 {
@@ -529,7 +469,7 @@ static const struct {
 /* The edit of that kind in the middle of a transcript, and its name. */
 static void make_middle(unsigned k, uint64_t len, char what[64])
 {
-    make_reference(len);
+    make_reference(len, 0);
     int64_t middle = (int64_t)(ref.ce - ref.cs + 1) / 6 * 3 + 2;   /* the second base of a codon */
     const char *base = letters[ref.cs - 1 + middle - 1] == 'C' ? "G" : "C";
     make_edit(kinds[k].kind, middle, middle + kinds[k].more, kinds[k].bases ? kinds[k].bases : base);
@@ -567,7 +507,7 @@ static void checks(uint64_t len)
     oracle_edit_free(rust_edit);
     oracle_reference_free(rust_ref);
     /* the proteins part at their end: all of A is read before a byte is written */
-    make_reference(len);
+    make_reference(len, 0);
     for (uint64_t i = ref.cs - 1; i < ref.ce - 3; i++)
         letters[i] = "GCC"[(i + 1 - ref.cs) % 3];
     edit = (struct base_edit){BASE_DUPLICATION, 0, 0, 4, 6, NULL, 0};
@@ -594,6 +534,12 @@ static void edits(uint64_t len)
     }
 }
 
+static void free_both(void)
+{
+    oracle_edit_free(rust_edit);
+    oracle_reference_free(rust_ref);
+}
+
 /* Whole calls on packed letters beside those on bytes, of plain letters and with one in a hundred ambiguous, none of which makes a stop. */
 static void packings(uint64_t len)
 {
@@ -613,9 +559,40 @@ static void packings(uint64_t len)
 #endif
             const double *best = best_of((call[]){ours_packed, ours_anew}, 2);
             row_pair(what, best[0], best[1]);
-            oracle_edit_free(rust_edit);
-            oracle_reference_free(rust_ref);
+            free_both();
         }
+}
+
+/* Whole calls, everything anew, of short and long transcripts; the check of a reference is what an edit that is refused at its positions takes. */
+static void longs(void)
+{
+    static const uint64_t lengths[] = {16384, 65536, 131072};
+    enum { LENGTHS = sizeof lengths / sizeof *lengths };
+    char what[64];
+    for (unsigned j = 0; j < LENGTHS; j++) {
+        make_middle(0, lengths[j], what);
+        const double *best = best_of((call[]){ours_check, rust_anew, rust_known, c_check}, 4);
+        snprintf(what, sizeof what, "%lu check of the reference", (unsigned long)lengths[j]);
+        row_long(what, lengths[j], best[0], beside(best[1], best[2]), 0, best[3]);
+        free_both();
+    }
+    for (unsigned k = 0; k < sizeof kinds / sizeof *kinds; k++)
+        for (unsigned j = 0; j < LENGTHS; j++) {
+            make_middle(k, lengths[j], what);
+            const double *best = best_of((call[]){ours_anew, rust_anew, rust_anew_until, c_anew}, 4);
+            row_long(what, lengths[j], best[0], best[1], best[2], best[3]);
+            free_both();
+        }
+    for (unsigned j = 0; j < LENGTHS; j++) {
+        /* no frame has a stop: A is read from the first codon to the end */
+        make_reference(lengths[j], 1);
+        make_edit(BASE_DELETION, 5, 5, "");
+        check_edit();
+        const double *best = best_of((call[]){ours_anew, rust_anew, rust_anew_until, c_anew}, 4);
+        snprintf(what, sizeof what, "%lu frameshift read to the end", (unsigned long)lengths[j]);
+        row_long(what, lengths[j], best[0], best[1], best[2], best[3]);
+        free_both();
+    }
 }
 
 int main(void)
@@ -634,6 +611,8 @@ int main(void)
         head("edits with their record");
         edits(3000);
         edits(16384);
+        head_long("whole calls by length");
+        longs();
         head_pair("an edit's own record, checked", "check", "record", "check/record");
         checks(3000);
         checks(16384);
