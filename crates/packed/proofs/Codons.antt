@@ -16,7 +16,7 @@ use Rattle.places.specs.Places.{codonAt}
 use Rattle.places.proofs.Residues.{codon-sets, leftFrom, left-all, left-rest, codon-turn}
 use Rattle.rules.specs.Packed.{setAt, lettersIn}
 use Rattle.packed.specs.Halves.{codonsAt}
-use Rattle.packed.proofs.Halves.{high-at, low-at, set-small, folded-set-of, part-at, length-of-part}
+use Rattle.halves.proofs.Halves.{high-at, low-at, set-small, folded-set-of, part-at, length-of-part}
 
 -- three halves are a place in the table
 module _ (t : ℕ) (lut bs : List ℕ) (holds : HoldsCode t lut) (bytes : (k : ℕ) → getD bs k 0 < 256) (j : ℕ) where

@@ -12,7 +12,7 @@ use Rattle.rules.proofs.Over.{overFrom, from-start, from-end, from-turn}
 use Rattle.letters.proofs.Listed.{listed, listed-at}
 use Rattle.rules.specs.Packed.{setAt, letterOf, lettersIn}
 use Rattle.packed.specs.Halves.{HoldsPairs}
-use Rattle.packed.proofs.Halves.{high-at, low-at, set-small, letter-small, part-at, length-of-part}
+use Rattle.halves.proofs.Halves.{high-at, low-at, set-small, letter-small, part-at, length-of-part}
 
 abbrev pub pairOf : ℕ → ℕ
 pairOf b = letterOf (b / 16 % 16) + letterOf (b % 16) * 256

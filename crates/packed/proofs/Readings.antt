@@ -17,10 +17,8 @@ use Rattle.rules.specs.Packed.{setAt, letterOf, lettersIn, halfUp, unpacked, le
 use Rattle.rules.proofs.Lists.{all-at}
 use Rattle.rules.proofs.Packed.{length-letters, uncounted, length-unpacked, is-counted, held}
 use Rattle.packed.specs.Halves.{InLetters}
-use Rattle.packed.proofs.Halves.{letter-in, set-of, set-small, letter-of-some}
-
-pub bytes-is : (f : Form) (s : List ℕ) → f ≡ Bytes → lettersBy f s ≡ s
-bytes-is f s e = rw e
+use Rattle.halves.proofs.Sizes.{packed-is}
+use Rattle.halves.proofs.Halves.{letter-in, set-of, set-small, letter-of-some}
 
 part-front : (from to : ℕ) (a b : List ℕ) → from ≤ to → to ≤ length a → part from to (a ++ b) ≡ part from to a
 unfolding part
@@ -34,23 +32,13 @@ part-none from to a b h =
     rw few
 
 module _ (f : Form) (n : ℕ) (s : List ℕ) (e : f ≡ Packed n) where
-  pub packed-is : lettersBy f s ≡ unpacked n s
-  packed-is = rw e
-
-  -- the number of letters
-  pub counted-size : length s ≡ halfUp n → n ≡ length (lettersBy f s)
-  counted-size h = sym (ap length packed-is ∙ length-unpacked n s (eq-eqb (length s) (halfUp n) h))
-
-  pub no-size : (length s ≡ halfUp n → ⊥) → 0 ≡ length (lettersBy f s)
-  no-size h = sym (ap length packed-is ∙ ap length (uncounted n s (ne-eqb (length s) (halfUp n) h)))
-
   -- where there are letters, their number is that of the bytes
   pub packed-count : 0 < length (lettersBy f s) → (0 < n) × (length s ≡ halfUp n)
   packed-count some = by (eqb (length s) (halfUp n)) refl
     where
       by : (t : Bool) → eqb (length s) (halfUp n) ≡ t → (0 < n) × (length s ≡ halfUp n)
-      by true h = (omega (arith, ap length packed-is, length-unpacked n s h), eqb-true (length s) (halfUp n) h)
-      by false h = absurd (omega (arith, ap length packed-is, ap length (uncounted n s h)))
+      by true h = (omega (arith, ap length (packed-is f n s e), length-unpacked n s h), eqb-true (length s) (halfUp n) h)
+      by false h = absurd (omega (arith, ap length (packed-is f n s e), ap length (uncounted n s h)))
 
   module _ (to : ℕ) (g : to ≤ length (lettersBy f s)) where
     pub packed-fits : to ≤ length s * 2
@@ -60,11 +48,11 @@ module _ (f : Form) (n : ℕ) (s : List ℕ) (e : f ≡ Packed n) where
         by zero h = omega arith
         by (suc k) h =
             let c = packed-count (omega arith) in
-            omega (arith, c .1, ap length packed-is, length-unpacked n s (eq-eqb (length s) (halfUp n) (c .1)))
+            omega (arith, c .1, ap length (packed-is f n s e), length-unpacked n s (eq-eqb (length s) (halfUp n) (c .1)))
 
     module _ (letters : all isLetter (lettersBy f s) ≡ true) where
       whole : 0 < to → lettersBy f s ≡ take n (lettersIn s)
-      whole h = packed-is ∙ held n s (omega (arith, ap length packed-is)) (rw packed-is at letters)
+      whole h = (packed-is f n s e) ∙ held n s (omega (arith, ap length (packed-is f n s e))) (rw (packed-is f n s e) at letters)
 
       -- a part of what packed bytes hold, whatever their number of letters
       pub packed-part : (from : ℕ) → from ≤ to → part from to (lettersIn s) ≡ part from to (lettersBy f s)
@@ -83,7 +71,7 @@ module _ (f : Form) (n : ℕ) (s : List ℕ) (e : f ≡ Packed n) where
       packed-letter k h =
           let is : lettersBy f s ≡ take n (lettersIn s) = whole (omega arith) in
           let c = packed-count (omega arith) in
-          let below : k < n = omega (arith, ap length packed-is, length-unpacked n s (eq-eqb (length s) (halfUp n) (c .1))) in
+          let below : k < n = omega (arith, ap length (packed-is f n s e), length-unpacked n s (eq-eqb (length s) (halfUp n) (c .1))) in
           sym (ap (λ (l : List ℕ). getD l k 0) is ∙ getD-take n (lettersIn s) k 0 below ∙ letter-in s k)
 
       pub packed-set : (k : ℕ) → k < to → setAt s k ≡ letterSet (getD (lettersBy f s) k 0)

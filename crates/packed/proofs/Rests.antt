@@ -13,7 +13,7 @@ use Rattle.rules.proofs.Parts.{take-part}
 use Rattle.rules.proofs.Reading.{restOf, whole-and-rest}
 use Rattle.places.proofs.Residues.{length-plain}
 use Rattle.packed.specs.Halves.{codonsAt}
-use Rattle.packed.proofs.Halves.{length-of-part}
+use Rattle.halves.proofs.Halves.{length-of-part}
 
 map-take : (f : ℕ → ℕ) (k : ℕ) (s : List ℕ) → map f (take k s) ≡ take k (map f s)
 map-take f zero s = refl

@@ -1,9 +1,8 @@
--- Codons among packed letters, tests of a byte's two halves, and the letters of each byte. Assumes nothing: these are definitions.
+-- Codons among packed letters, and the letters of each byte. Assumes nothing: these are definitions.
 use Prim.Native.Nat.{ℕ, _+_, _*_, _/_, _%_, _≤_, _<_}
 use mathlib.Core.Path.{_≡_}
-use mathlib.Core.Bool.{Bool, true, _&&_}
+use mathlib.Core.Bool.{true}
 use mathlib.Core.List.{List}
-use lib.Dec.{eqb}
 use lib.ListN.{length, getD}
 use Rattle.rules.specs.declared.Form.{Form}
 use Rattle.rules.specs.Bytes.{all}
@@ -14,14 +13,6 @@ use Rattle.rules.specs.Packed.{letterOf, lettersIn, lettersBy}
 -- so many codons from a place on
 unfoldable pub codonsAt : ℕ → ℕ → List ℕ → List ℕ
 codonsAt first n bs = part first (first + n * 3) (lettersIn bs)
-
--- the letters of both halves of a byte pass
-unfoldable pub arePair : (ℕ → Bool) → ℕ → Bool
-arePair p b = p (letterOf (b / 16 % 16)) && p (letterOf (b % 16))
-
--- that of the high half passes, and the low half is spare and zero
-unfoldable pub isLast : (ℕ → Bool) → ℕ → Bool
-isLast p b = p (letterOf (b / 16 % 16)) && eqb (b % 16) 0
 
 -- the two letters of each byte, the first in the low byte of their number
 pub record HoldsPairs (xs : List ℕ) : Type 0 where

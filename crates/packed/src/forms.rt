@@ -1,15 +1,15 @@
 // A reference's letters read by their form: one promise for both.
-use crate::check::packed_bases;
-use crate::check::packed_letters;
 use crate::compare::part_prefix_len;
 use crate::compare::part_suffix_len;
-use crate::half::half_at;
-use crate::half::letter_of;
 use crate::reading::write_packed;
 use crate::stops::packed_first_stop;
 use crate::turned::write_turned;
 use crate::unpack::letter_pairs;
 use crate::unpack::unpack_part;
+use halves::check::packed_bases;
+use halves::check::packed_letters;
+use halves::half::half_at;
+use halves::half::letter_of;
 use letters::letter_set;
 use numbers::wide;
 use rules::Exceptions;
@@ -35,21 +35,6 @@ ghost use Rattle.rules.specs.Packed.{lettersBy};
 ghost use Rattle.rules.specs.Letters.{isBase};
 ghost use Rattle.places.specs.Looked.{Reads, Walks};
 ghost use Rattle.packed.specs.Halves.{InLetters};
-
-// How many letters there are: none where packed bytes aren't as many as half of them, rounded up.
-pub fn size_of(letters: &[u8], form: Form) -> usize
-    ensures { λ r. ⌜ r ≡ length (lettersBy form (now (letters .entry))) ⌝ }
-{
-    match form {
-        Form::Bytes => letters.len(),
-        Form::Packed(size) => {
-            if letters.len() == size / 2 + size % 2 {
-                return size;
-            }
-            0
-        }
-    }
-}
 
 // Whether each of some letters is one base.
 pub fn all_bases_by(letters: &[u8], form: Form) -> bool

@@ -1,8 +1,6 @@
 // "Four bits a base": letters two to a byte, each the sum of its bases, the first in the high half; and what reads a reference's letters, in either form.
-mod check;
 mod compare;
 mod forms;
-mod half;
 mod reading;
 mod stops;
 mod turned;
@@ -16,7 +14,7 @@ pub use forms::letter_at;
 pub use forms::prefix_by;
 pub use forms::same_by;
 pub use forms::set_at;
-pub use forms::size_of;
 pub use forms::suffix_by;
 pub use forms::turn_letters;
 pub use forms::write_residues;
+pub use halves::size::size_of;

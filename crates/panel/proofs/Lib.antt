@@ -1,3 +1,2 @@
--- Laws of the profile.
-pub mod Judging
+-- Laws of the answer under the profile.
 pub mod Answering

@@ -1,9 +1,9 @@
 // The answer to an edit under the profile: 1 to 10, then 40 to 43, then what the full module answers. The reference is checked once.
-use crate::profile::profile_refusal;
 use altseq::Ready;
 use altseq::answer_known;
 use packed::size_of;
 use positions::refusals::edit_refusal;
+use profile::profile_refusal;
 use reference::Checked;
 use reference::check_reference;
 use rules::Answer;

@@ -1,5 +1,4 @@
 // The panel profile: a stricter mode, whose answers are those of the full module.
 mod answer;
-mod profile;
 
 pub use answer::build_panel;

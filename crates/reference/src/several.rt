@@ -36,7 +36,13 @@ fn stops_early(letters: &[u8], form: Form, c: Cds, e: Exceptions, plain: bool) -
 }
 
 // 1 to 5, 6 or 28, or what is known of the reference from then on.
-pub fn know_reference(letters: &[u8], form: Form, cds: Cds, e: Exceptions, longest: usize) -> Checked
+pub fn know_reference(
+    letters: &[u8],
+    form: Form,
+    cds: Cds,
+    e: Exceptions,
+    longest: usize,
+) -> Checked
     requires { ⌜ longest < 4294967296 ⌝ }
     ensures { λ r. ⌜ r ≡ checkedOf longest form (lettersBy form (now (letters .entry))) cds e ⌝ }
 {

@@ -8,7 +8,7 @@ use Rattle.rules.specs.Trims.{commonPrefix}
 use Rattle.rules.specs.Altered.{part}
 use Rattle.rules.proofs.Over.{read-back}
 use Rattle.rules.specs.Packed.{lettersIn}
-use Rattle.packed.proofs.Halves.{length-of-part}
+use Rattle.halves.proofs.Halves.{length-of-part}
 use borrow.Author.Needs.{needs}
 use Rattle.packed.proofs.compare.block_prefix.Statement.{statement}
 use Rattle.packed.proofs.compare.block_prefix.Tie as tie

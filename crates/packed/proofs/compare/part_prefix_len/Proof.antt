@@ -8,7 +8,7 @@ use Rattle.rules.specs.Altered.{part}
 use Rattle.rules.proofs.Trims.{cp-le-l, cp-le-r}
 use Rattle.rules.specs.Packed.{lettersIn}
 use Rattle.rules.proofs.Packed.{length-letters}
-use Rattle.packed.proofs.Halves.{length-of-part}
+use Rattle.halves.proofs.Halves.{length-of-part}
 use Rattle.packed.proofs.Blocks.{block-short, block-whole}
 use borrow.Author.Needs.{needs}
 use Rattle.packed.proofs.compare.part_prefix_len.Statement.{statement}

@@ -3,7 +3,8 @@ use mathlib.Core.Path.{sym, ap, _∙_}
 use borrow.Author.Needs.{needs}
 use Rattle.rules.specs.Bytes.{all}
 use Rattle.rules.specs.Letters.{isLetter}
-use Rattle.packed.proofs.Readings.{bytes-is, packed-is, packed-count}
+use Rattle.halves.proofs.Sizes.{bytes-is, packed-is}
+use Rattle.packed.proofs.Readings.{packed-count}
 use Rattle.packed.proofs.forms.all_letters_by.Statement.{statement}
 use Rattle.packed.proofs.forms.all_letters_by.Tie as tie
 

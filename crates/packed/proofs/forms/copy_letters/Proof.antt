@@ -9,7 +9,8 @@ use Rattle.rules.specs.Bytes.{over}
 use Rattle.rules.specs.Altered.{part}
 use Rattle.rules.specs.Packed.{lettersBy}
 use Rattle.rules.proofs.Over.{copied-as}
-use Rattle.packed.proofs.Readings.{bytes-is, packed-fits, packed-part}
+use Rattle.halves.proofs.Sizes.{bytes-is}
+use Rattle.packed.proofs.Readings.{packed-fits, packed-part}
 use Rattle.packed.proofs.forms.copy_letters.Statement.{statement}
 use Rattle.packed.proofs.forms.copy_letters.Tie as tie
 

@@ -7,7 +7,8 @@ use borrow.Author.Needs.{needs}
 use lib.ListN.{length}
 use Rattle.rules.specs.Altered.{part}
 use Rattle.rules.specs.Translation.{exceptionList, beforeStop, wholeCodons, foldedTranslated}
-use Rattle.packed.proofs.Readings.{bytes-is, packed-fits, packed-part}
+use Rattle.halves.proofs.Sizes.{bytes-is}
+use Rattle.packed.proofs.Readings.{packed-fits, packed-part}
 use Rattle.packed.proofs.forms.first_stop_by.Statement.{statement}
 use Rattle.packed.proofs.forms.first_stop_by.Tie as tie
 

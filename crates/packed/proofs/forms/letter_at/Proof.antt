@@ -6,7 +6,8 @@ use native.Mathlib.Omega.{arith}
 use borrow.Author.Needs.{needs}
 use lib.ListN.{length, getD}
 use Rattle.rules.specs.Packed.{letterOf}
-use Rattle.packed.proofs.Readings.{bytes-is, packed-fits, packed-letter}
+use Rattle.halves.proofs.Sizes.{bytes-is}
+use Rattle.packed.proofs.Readings.{packed-fits, packed-letter}
 use Rattle.packed.proofs.forms.letter_at.Statement.{statement}
 use Rattle.packed.proofs.forms.letter_at.Tie as tie
 

@@ -6,7 +6,8 @@ use native.Mathlib.Omega.{arith}
 use borrow.Author.Needs.{needs}
 use lib.ListN.{length, getD}
 use Rattle.rules.specs.Letters.{letterSet}
-use Rattle.packed.proofs.Readings.{bytes-is, packed-fits, packed-set, set-some}
+use Rattle.halves.proofs.Sizes.{bytes-is}
+use Rattle.packed.proofs.Readings.{packed-fits, packed-set, set-some}
 use Rattle.packed.proofs.forms.set_at.Statement.{statement}
 use Rattle.packed.proofs.forms.set_at.Tie as tie
 

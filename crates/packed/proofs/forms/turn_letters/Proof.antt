@@ -10,7 +10,8 @@ use Rattle.rules.specs.Letters.{isLetter}
 use Rattle.rules.specs.Altered.{part}
 use Rattle.rules.specs.Complement.{reverseComplement}
 use Rattle.rules.proofs.Parts.{length-part, letters-part}
-use Rattle.packed.proofs.Readings.{bytes-is, packed-fits, packed-part}
+use Rattle.halves.proofs.Sizes.{bytes-is}
+use Rattle.packed.proofs.Readings.{packed-fits, packed-part}
 use Rattle.packed.proofs.forms.turn_letters.Statement.{statement}
 use Rattle.packed.proofs.forms.turn_letters.Tie as tie
 

@@ -11,7 +11,8 @@ use Rattle.rules.specs.Translation.{exceptionList, foldedTranslated}
 use Rattle.rules.specs.Packed.{lettersBy}
 use Rattle.rules.proofs.Parts.{length-part}
 use Rattle.places.specs.Looked.{Walks}
-use Rattle.packed.proofs.Readings.{bytes-is, packed-fits, packed-part}
+use Rattle.halves.proofs.Sizes.{bytes-is}
+use Rattle.packed.proofs.Readings.{packed-fits, packed-part}
 use Rattle.packed.proofs.forms.write_residues.Statement.{statement}
 use Rattle.packed.proofs.forms.write_residues.Tie as tie
 

@@ -11,7 +11,7 @@ use Rattle.rules.specs.Translation.{exceptionList, residueCount, foldedTranslat
 use Rattle.rules.specs.Packed.{lettersIn}
 use Rattle.excepted.specs.Exceptions.{exceptedFrom}
 use Rattle.excepted.proofs.Putting.{excepted-over}
-use Rattle.packed.proofs.Halves.{length-of-part}
+use Rattle.halves.proofs.Halves.{length-of-part}
 use Rattle.packed.proofs.reading.write_packed.Statement.{statement}
 use Rattle.packed.proofs.reading.write_packed.Tie as tie
 

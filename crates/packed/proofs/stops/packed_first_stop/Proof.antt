@@ -12,7 +12,7 @@ use Rattle.rules.specs.Translation.{exceptionList, excepted, beforeStop, wholeC
 use Rattle.rules.specs.Packed.{setAt, lettersIn}
 use Rattle.walks.specs.Walks.{residueAt}
 use Rattle.walks.proofs.Walks.{stopsFrom, stops-all, stops-later, stops-here, stops-none}
-use Rattle.packed.proofs.Halves.{length-of-part}
+use Rattle.halves.proofs.Halves.{length-of-part}
 use Rattle.packed.proofs.Codons.{codon-in}
 use Rattle.packed.proofs.stops.packed_first_stop.Statement.{statement}
 use Rattle.packed.proofs.stops.packed_first_stop.Tie as tie

@@ -14,7 +14,7 @@ use Rattle.rules.proofs.Parts.{length-part}
 use Rattle.rules.proofs.Complement.{length-complement}
 use Rattle.rules.specs.Packed.{lettersIn}
 use Rattle.rules.proofs.Packed.{length-letters}
-use Rattle.packed.proofs.Halves.{length-of-part}
+use Rattle.halves.proofs.Halves.{length-of-part}
 use Rattle.packed.proofs.Turning.{turned-none, turned-more, some-letters}
 use borrow.Author.Needs.{needs}
 use Rattle.packed.proofs.turned.write_turned.Statement.{statement}

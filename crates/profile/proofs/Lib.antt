@@ -1,0 +1,2 @@
+-- Laws of the profile's tests.
+pub mod Judging
