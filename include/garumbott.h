@@ -299,7 +299,7 @@ struct garumbott_stored {
  *   longest                      the longest edit in bases, 1 to 4,096, or 0 for 4,096: more new bases of a delins or an insertion are too many (10).
  *                                Deleted, copied and inverted bases aren't counted. Any other number is refused before all else (62)
  *   The base that a substitution names isn't part of a call: "8T>G" is answered as "8A>G" is, whatever the transcript has there. A host that
- *   minds calls garumbott_panel, or compares it with letters[cs + start - 2] once the edit isn't refused.
+ *   minds calls garumbott_panel, or compares it with letters[cs + start - 2], a byte each, once the edit isn't refused.
  * The buffers, each with its length:
  *   transcript                   gets the altered transcript (11)
  *   reference                    gets R (12)
@@ -681,9 +681,9 @@ static inline struct garumbott_length garumbott_write_stored_of(const struct gar
     return garumbott_write_stored(r->letters, r->letters_len, r->cs, r->ce, r->table, r->exceptions, r->exceptions_len, r->end, r->form, r->size, out, out_len);
 }
 
-/* Exactly what 24 asks for: the length of a reference's stored form, of a reference that isn't refused. letters_len is L. Three bytes and a content for each
- * field: the letters, cs and ce in two bytes each or, above 16,384 letters, in four, the table, the exceptions and the end where there are any; and the letters
- * beyond 65,535 and beyond 131,070 have a field of their own. */
+/* Exactly what 24 asks for: the length of a reference's stored form, of a reference that isn't refused. letters_len is L, so `size` of a packed one.
+ * Three bytes and a content for each field: the letters, cs and ce in two bytes each or, above 16,384 letters, in four, the table, the exceptions and
+ * the end where there are any; and the letters beyond 65,535 and beyond 131,070 have a field of their own. */
 static inline uint64_t garumbott_stored_room(uint64_t letters_len, uint64_t exceptions_len, uint64_t cds_end)
 {
     return letters_len + 14 + (letters_len > 16384 ? 4 : 0) + (letters_len > 65535 ? 3 : 0) + (letters_len > 131070 ? 3 : 0)
@@ -726,9 +726,10 @@ static inline struct garumbott_length garumbott_pack(const uint8_t *letters, uin
     return l;
 }
 
-/* Room that is enough for any edit of a kind with so many new bases, of a transcript of so many letters (which a packed one's letters_len isn't). Less may do: 11 and 12 ask for the altered length itself, and for a
- * residue of each of its codons from cs on. The numbers are those of a reference and an edit that aren't refused; garumbott_record with three
- * buffers of length 0 tells whether they are: it answers 11, 12 or Unknown to one that is accepted. */
+/* Room that is enough for any edit of a kind with so many new bases, of a transcript of so many letters (which a packed one's letters_len isn't).
+ * Less may do: 11 and 12 ask for the altered length itself, and for a residue of each of its codons from cs on. The numbers are those of a reference
+ * and an edit that aren't refused; garumbott_record with three buffers of length 0 tells whether they are: it answers 11, 12 or Unknown to one that
+ * is accepted. */
 static inline uint64_t garumbott_transcript_room(uint64_t letters, uint64_t kind, uint64_t bases_len)
 {
     return letters + (kind == GARUMBOTT_DUPLICATION ? letters : bases_len);
