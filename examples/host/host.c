@@ -1,6 +1,8 @@
-/* host [FILE [END]]: answers the edit lines of FILE, or of standard input, through the library. It reads and prints what the text program annotate
+/* host [FILE [END [SETTINGS]]]: answers the edit lines of FILE, or of standard input, through the library. It reads and prints what the text program annotate
  * does; here the lines are taken apart in C, and only the answers come from the library. Standard error gets the reason of each refusal.
  * END says how the reference's CDS ends, which its line can't: 0 at a stop, 1 without one, 2 in one or two bases of a codon. Left out, it is 0.
+ * SETTINGS is a file with the stored settings of a bench: whether its profile is on, by which names residues are printed, and the longest edit. The
+ * table is the reference line's.
  *
  *     ref CS CE TABLE LETTERS      first line: the reference
  *     8A>G  5del  4_6delinsTT      then an edit a line; positions 7, -2, *3
@@ -94,12 +96,14 @@ static bool read_reference(const struct line *line, struct garumbott_reference *
         && take_number(&s, &r->table) && take(&s, " ") && take_letters(&s, &r->letters, &r->letters_len) && *s == 0;
 }
 
-static bool read_edit(const struct line *line, struct garumbott_coding_edit *e)
+/* An edit, and the base that a substitution names. */
+static bool read_edit(const struct line *line, struct garumbott_coding_edit *e, uint64_t *base)
 {
     const char *s = line->text;
     const uint8_t *named;
     uint64_t named_len;
     memset(e, 0, sizeof *e);
+    *base = 0;
     if (!line->good || !take_position(&s, &e->start_star, &e->start)) return false;
     e->end_star = e->start_star;
     e->end = e->start;
@@ -116,13 +120,35 @@ static bool read_edit(const struct line *line, struct garumbott_coding_edit *e)
         e->kind = GARUMBOTT_INVERSION;
     } else if (take(&s, "=")) {
         e->kind = GARUMBOTT_IDENTITY;
-    } else { /* the base that a substitution names isn't looked at */
+    } else { /* only the profile looks at the base that a substitution names */
         e->kind = GARUMBOTT_SUBSTITUTION;
         if (!take_letters(&s, &named, &named_len) || named_len != 1 || !take(&s, ">")) return false;
+        *base = *named;
     }
     bool has_bases = e->kind == GARUMBOTT_DELINS || e->kind == GARUMBOTT_INSERTION || e->kind == GARUMBOTT_SUBSTITUTION;
     if (has_bases && !take_letters(&s, &e->bases, &e->bases_len)) return false;
     return *s == 0 && (e->kind != GARUMBOTT_SUBSTITUTION || e->bases_len == 1);
+}
+
+/* ---- settings ----------------------------------------------------------------------------------------------------------------------- */
+
+/* Without a store: no profile, names of one letter, and the library's own longest edit. */
+static struct garumbott_settings settings = {.width = 1};
+
+static bool read_settings(const char *path)
+{
+    uint8_t store[GARUMBOTT_SETTINGS_ROOM + 1]; /* a byte more than a store has, so that a longer file is seen */
+    FILE *in = fopen(path, "rb");
+    if (in == NULL) {
+        perror(path);
+        return false;
+    }
+    size_t len = fread(store, 1, sizeof store, in);
+    fclose(in);
+    settings = garumbott_read_settings(GARUMBOTT_SETTINGS_SECOND, store, len);
+    if (settings.refusal == 0) return true;
+    fprintf(stderr, "%s: refused %d: %s\n", path, (int)settings.refusal, settings.newer ? "its settings are of a newer version" : garumbott_refusal_words(settings.refusal));
+    return false;
 }
 
 /* ---- answers ------------------------------------------------------------------------------------------------------------------------ */
@@ -138,8 +164,12 @@ static void print_refused(const struct line *line, uint64_t number)
 
 static void print_part(const uint8_t *residues, uint64_t at, uint64_t len)
 {
+    static uint8_t names[3 * GARUMBOTT_ALTERED_ROOM];
     if (len == 0) {
         printf(" -");
+    } else if (settings.width == 3) {
+        struct garumbott_length n = garumbott_names3(residues + at, len, names, sizeof names);
+        printf(" %.*s", (int)n.len, (const char *)names);
     } else {
         printf(" %.*s", (int)len, (const char *)residues + at);
     }
@@ -176,7 +206,9 @@ static bool check_reference(const struct line *line, const struct garumbott_refe
     }
     struct garumbott_length n = garumbott_translate(r->letters + (r->cs - 1), r->ce + 1 - r->cs, r->table, r->end != GARUMBOTT_END_CUT_CODON,
                                                     r->exceptions, r->exceptions_len, reference, sizeof reference);
-    printf("reference %.*s\n", (int)n.len, (const char *)reference);
+    printf("reference");
+    print_part(reference, 0, n.len);
+    printf("\n");
     return true;
 }
 
@@ -185,6 +217,7 @@ static void run(FILE *in, uint64_t end)
     static struct line first, line;
     struct garumbott_reference r;
     struct garumbott_coding_edit e;
+    uint64_t named;
     if (!next_line(in, 1, &first)) return;
     if (!read_reference(&first, &r)) {
         print_refused(&first, GARUMBOTT_REFUSAL_LINE);
@@ -193,8 +226,9 @@ static void run(FILE *in, uint64_t end)
     r.end = end;
     if (!check_reference(&first, &r)) return;
     for (unsigned long n = 2; next_line(in, n, &line); n++) {
-        if (read_edit(&line, &e)) {
-            struct garumbott_answer a = garumbott_record_of(&r, &e, &buffers);
+        if (read_edit(&line, &e, &named)) {
+            e.longest = settings.longest;
+            struct garumbott_answer a = settings.profile ? garumbott_panel_of(&r, &e, named, &buffers) : garumbott_record_of(&r, &e, &buffers);
             print_answer(&line, &a);
         } else {
             print_refused(&line, GARUMBOTT_REFUSAL_LINE);
@@ -206,14 +240,15 @@ int main(int argc, char **argv)
 {
     FILE *in = argc > 1 ? fopen(argv[1], "rb") : stdin;
     uint64_t end = argc > 2 ? strtoull(argv[2], NULL, 10) : GARUMBOTT_END_STOP;
-    if (argc > 3) {
-        fprintf(stderr, "host: one file, or none for standard input, and how its reference ends\n");
+    if (argc > 4) {
+        fprintf(stderr, "host: one file, or none for standard input, how its reference ends, and a file with settings\n");
         return 1;
     }
     if (in == NULL) {
         perror(argv[1]);
         return 1;
     }
+    if (argc > 3 && !read_settings(argv[3])) return 1;
     run(in, end);
     if (ferror(in) || fflush(stdout) != 0 || ferror(stdout)) {
         perror("host");

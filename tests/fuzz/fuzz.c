@@ -85,9 +85,12 @@ static struct garumbott_reference ref;
 static struct garumbott_coding_edit edit;
 static size_t room[3];
 
+/* Whether letters are of A, C, G and T alone, as the panel profile wants them. */
+static int four_letters;
+
 static uint8_t letter(void)
 {
-    return (uint8_t)(one_in(12) ? "RYSWKMBDHVN"[below(11)] : "ACGT"[below(4)]);
+    return (uint8_t)(!four_letters && one_in(12) ? "RYSWKMBDHVN"[below(11)] : "ACGT"[below(4)]);
 }
 
 static uint8_t residue_at(const uint8_t *codon, uint64_t table)
@@ -105,6 +108,7 @@ static void make_reference(void)
     uint64_t codons = very ? below(43690 - 2) + 2 : big ? below(5461 - 2) + 2 : below(14) + 2, before = below(big || very ? 3 : 8), behind = end == GARUMBOTT_END_STOP ? below(8) : 0;
     uint64_t single = end != GARUMBOTT_END_STOP || !one_in(12);
     while (before + 3 * codons + rest + behind > GARUMBOTT_LONGEST) behind = 0, before = 0;
+    four_letters = one_in(3);
     memset(&ref, 0, sizeof ref);
     ref.table = below(3);
     ref.letters = letters;
@@ -117,7 +121,7 @@ static void make_reference(void)
         uint8_t *codon = letters + before + 3 * i;
         while (residue_at(codon, ref.table) == '*') codon[below(3)] = letter();
     }
-    if (end == GARUMBOTT_END_STOP) memcpy(letters + ref.ce - 3, ref.table == 2 && one_in(2) ? "AGR" : one_in(2) ? "TAA" : "TAR", 3);
+    if (end == GARUMBOTT_END_STOP) memcpy(letters + ref.ce - 3, ref.table == 2 && one_in(2) ? (four_letters ? "AGA" : "AGR") : four_letters || one_in(2) ? "TAA" : "TAR", 3);
     ref.exceptions = exceptions;
     uint64_t codon = 0, many = one_in(3) ? below(17) : 0;
     for (uint64_t i = 0; i < many; i++) {

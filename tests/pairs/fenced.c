@@ -30,6 +30,10 @@ static const uint8_t *bytes(const char *s)
 #define INS(at, bases) EDIT(GARUMBOTT_INSERTION, at, (at) + 1, bases)
 #define DEL(at, end) EDIT(GARUMBOTT_DELETION, at, end, "")
 #define DUP(at, end) EDIT(GARUMBOTT_DUPLICATION, at, end, "")
+#define LONGEST(longest_, kind_, start_, end_, bases_) \
+    {.kind = (kind_), .start = (start_), .end = (end_), .bases = (const uint8_t *)(bases_), .bases_len = sizeof(bases_) - 1, .longest = (longest_)}
+#define LONGEST_INS(longest, at, bases) LONGEST(longest, GARUMBOTT_INSERTION, at, (at) + 1, bases)
+#define LONGEST_DUP(longest, at, end) LONGEST(longest, GARUMBOTT_DUPLICATION, at, end, "")
 #define SAME(at) EDIT(GARUMBOTT_IDENTITY, at, at, "")
 #define REFERENCE(letters_, cs_, ce_, table_, exceptions_, end_) \
     {.letters = (const uint8_t *)(letters_), .letters_len = sizeof(letters_) - 1, .cs = (cs_), .ce = (ce_), .table = (table_), \
@@ -89,6 +93,12 @@ static const struct row {
     {"no cut worked out anew", &W, DEL(4, 4), INS(9, "TTAA"), 0, "GGATGCCAAATTAATGGTAACCTGAC", "MPN*", 0},
     {"read without exceptions", &SELENO, SAME(1), SUB(9, "G"), 0, "ATGTGAAAGTAA", "M*", 0},
     {"a cut codon", &CUT, SUB(1, "G"), SUB(7, "C"), 0, "GTGGCCC", "VAX", 0},
+    /* E12: each edit by its own longest edit */
+    {"4_5insAC, longest 1", &W, LONGEST_INS(1, 4, "AC"), DEL(9, 9), 10, NULL, NULL, 0},
+    {"4_5insAC, longest 2", &W, LONGEST_INS(2, 4, "AC"), DEL(9, 9), 0, "GGATGGACCCAATGGTAACCTGAC", "MDPMVT*", 0},
+    {"4_6dup, longest 1", &W, LONGEST_DUP(1, 4, 6), DEL(9, 9), 0, "GGATGGCCGCCAATGGTAACCTGAC", "MAANGNLX", 0},
+    {"a bad longest edit, before 7", &W, LONGEST_INS(4097, 4, "AC"), DEL(0, 0), 62, NULL, NULL, 0},
+    {"the other's longest edit isn't its own", &W, LONGEST_INS(1, 4, "A"), INS(9, "AC"), 0, "GGATGGACCAAAACTGGTAACCTGAC", "MDQNW*", 0},
 };
 
 /* Each number of a good call made too large, or wrong: its refusal, and no byte changed. */
@@ -119,6 +129,8 @@ static void wrong_numbers(void)
     EDIT_WITH(start, INT64_MIN, 7);
     EDIT_WITH(end, INT64_MAX, 7);
     EDIT_WITH(bases_len, 0, 10);
+    EDIT_WITH(longest, 4097, 62);
+    EDIT_WITH(longest, UINT64_MAX, 62);
     call("no room at all", &W, &e, &f, 0, 0, 11, NULL, NULL);
     call("no room for the protein", &W, &e, &f, 23, 6, 12, NULL, NULL);
     call("exactly the room", &W, &e, &f, 23, 7, 0, "GGATGCCGAAATGGTAACCTGAC", "MPKW*");
