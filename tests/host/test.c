@@ -194,18 +194,24 @@ static void edit_stored(const char *name, const struct garumbott_reference *refe
     static uint8_t form[LONGEST_FORM];
     uint64_t most = reference->letters_len > NARROW ? UINT32_MAX : UINT16_MAX;
     if (reference->cs > most || reference->ce > most || reference->table > 255 || reference->end > 255) return;
-    size_t len = store(form, reference), x = reference->exceptions_len, joined = reference->letters_len > FULL, room = joined ? reference->letters_len : 0;
+    size_t len = store(form, reference), x = reference->exceptions_len, joined = reference->letters_len > FULL;
     size_t letters = joined ? FULL : reference->letters_len;
     uint64_t refusal = x % 3 != 0 || reference->end > 2 ? GARUMBOTT_REFUSAL_FIELD : want->refusal <= 6 || want->refusal == GARUMBOTT_REFUSAL_END ? want->refusal : 0;
     for (int side = FENCE_END; side <= FENCE_START; side++) {
         const uint8_t *data = fence_fill(&fences[STORED], side, form, len);
+        size_t room = !joined ? 0 : reference->letters_len + (side == FENCE_END ? 0 : 7);
+        if (joined && refusal == 0) {
+            struct garumbott_stored less = garumbott_read_stored(data, len, fence_fill(&fences[JOINED], side, NULL, reference->letters_len - 1), reference->letters_len - 1),
+                                    short_of = {.refusal = GARUMBOTT_REFUSAL_JOINED_ROOM};
+            check(same_stored(&less, &short_of) && fence_check(&fences[JOINED], NULL, 0), name, "a byte too little for the joined letters");
+        }
         uint8_t *lent = room == 0 ? NULL : fence_fill(&fences[JOINED], side, NULL, room);
         struct garumbott_stored got = garumbott_read_stored(data, len, lent, room), no = {.refusal = refusal},
                                 good = {.cs = reference->cs, .ce = reference->ce, .table = reference->table, .letters_at = joined ? 0 : 3,
                                         .letters_len = reference->letters_len, .exceptions_at = x == 0 ? 0 : letters + (most == UINT16_MAX ? 17 : 10), .exceptions_len = x,
                                         .end = reference->end, .joined = joined};
         check(same_stored(&got, refusal == 0 ? &good : &no), name, "read_stored's answer");
-        if (lent != NULL) check(fence_check(&fences[JOINED], reference->letters, refusal == 0 ? room : 0), name, "joined letters");
+        if (lent != NULL) check(fence_check(&fences[JOINED], reference->letters, refusal == 0 ? reference->letters_len : 0), name, "joined letters");
         struct garumbott_reference found = garumbott_reference_at(&got, data, lent);
         check(found.end == got.end, name, "the end that garumbott_reference_at carries");
         struct garumbott_buffers b = {fence_fill(&fences[TRANSCRIPT], side, NULL, plenty[0]), plenty[0], fence_fill(&fences[REFERENCE], side, NULL, plenty[1]),
