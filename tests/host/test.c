@@ -982,12 +982,72 @@ static void one_letter_more(void)
     edit_stored("16,385 letters", &more, &nothing, &w, longest, protein, protein);
 }
 
+/* The longest pair, which GARUMBOTT_TRANSCRIPT_ROOM is too short for: all letters but two copied, and 4,096 bases put between these. Both orders, with exactly the room
+ * that 11 and 12 ask for, and a byte less. */
+static void library_pair(void)
+{
+    enum { COPIED = GARUMBOTT_LONGEST - 2, LEN = GARUMBOTT_LONGEST + COPIED + GARUMBOTT_MOST_BASES, RESIDUES = LEN / 3 };
+    static uint8_t t[LEN], p[RESIDUES], new_bases[GARUMBOTT_MOST_BASES];
+    struct garumbott_reference r = library_reference(GARUMBOTT_END_CUT_CODON);
+    struct garumbott_coding_edit copy = TWO(DUPLICATION, 1, COPIED), in = {.kind = GARUMBOTT_INSERTION, .start = COPIED + 1, .end = COPIED + 2, .bases = new_bases,
+                                                                          .bases_len = sizeof new_bases};
+    memset(new_bases, 'T', sizeof new_bases);
+    memcpy(t, all_letters, COPIED);
+    memcpy(t + COPIED, all_letters, COPIED + 1);
+    memset(t + 2 * COPIED + 1, 'T', sizeof new_bases);
+    t[LEN - 1] = all_letters[GARUMBOTT_LONGEST - 1];
+    memset(p, 'F', sizeof p); /* GTT TTT .. TTC behind what is copied */
+    memcpy(p, all_residues, CODONS);
+    memcpy(p + CODONS, all_residues, CODONS);
+    p[2 * CODONS] = 'V';
+    for (int i = 0; i < 4; i++) {
+        size_t room[2] = {i == 2 ? LEN - 1 : LEN, i == 3 ? RESIDUES - 1 : RESIDUES};
+        enum fence_side side = i % 2 == 0 ? FENCE_END : FENCE_START;
+        struct garumbott_buffers b = {.transcript = fence_fill(&fences[TRANSCRIPT], side, NULL, room[0]), .transcript_len = room[0],
+                                      .altered = fence_fill(&fences[ALTERED], side, NULL, room[1]), .altered_len = room[1]};
+        struct garumbott_paired want = {0}, got = i == 1 ? garumbott_pair_of(&r, &in, &copy, &b) : garumbott_pair_of(&r, &copy, &in, &b);
+        want.refusal = i == 2 ? 11 : i == 3 ? 12 : 0;
+        if (want.refusal == 0) want.transcript_len = LEN, want.altered_len = RESIDUES;
+        check(memcmp(&got, &want, sizeof got) == 0, "the longest pair", "answer");
+        check(fence_check(&fences[TRANSCRIPT], t, want.transcript_len) && fence_check(&fences[ALTERED], p, want.altered_len), "the longest pair", "what is written");
+    }
+    check(LEN <= GARUMBOTT_TRANSCRIPT_ROOM + GARUMBOTT_MOST_BASES, "the longest pair", "the header's word on its room");
+}
+
+/* The longest list, of editions that differ in every codon, and the longest form. */
+static void library_lists(void)
+{
+    static uint8_t list[GARUMBOTT_DIFFERENCES_ROOM], other[GARUMBOTT_LONGEST], form[LONGEST_FORM];
+    struct garumbott_reference r = library_reference(GARUMBOTT_END_CUT_CODON), s = r;
+    memset(other, 'A', sizeof other);
+    s.letters = other;
+    for (size_t i = 0; i < GARUMBOTT_REFERENCE_ROOM; i++) {
+        uint8_t entry[4] = {(uint8_t)((i + 1) >> 8), (uint8_t)(i + 1), all_residues[i], i == CODONS ? 'X' : 'K'};
+        memcpy(list + 4 * i, entry, 4);
+    }
+    size_t len = store(form, &r);
+    check(len == garumbott_stored_room(r.letters_len, 0, r.end), "the longest form", "garumbott_stored_room");
+    for (size_t less = 0; less < 2; less++) {
+        enum fence_side side = less == 0 ? FENCE_END : FENCE_START;
+        uint8_t *out = fence_fill(&fences[TRANSCRIPT], side, NULL, sizeof list - less);
+        struct garumbott_length got = garumbott_compare_of(&r, &s, out, sizeof list - less);
+        check(got.refusal == (less == 0 ? 0 : 50) && got.len == (less == 0 ? sizeof list : 0), "the longest list", "answer");
+        check(fence_check(&fences[TRANSCRIPT], list, got.len), "the longest list", "what is written");
+        out = fence_fill(&fences[TRANSCRIPT], side, NULL, len - less);
+        got = garumbott_write_stored_of(&r, out, len - less);
+        check(got.refusal == (less == 0 ? 0 : 24) && got.len == (less == 0 ? len : 0), "the longest form", "answer");
+        check(fence_check(&fences[TRANSCRIPT], form, got.len), "the longest form", "what is written");
+    }
+}
+
 static void library_limits(void)
 {
     fences = huge;
     plenty = library_room;
     library_copied();
     library_cut();
+    library_pair();
+    library_lists();
     one_letter_more();
     fences = large;
     plenty = whole_room;
@@ -2071,7 +2131,7 @@ int main(int argc, char **argv)
 {
     (void)argv;
     for (int i = 0; i < FENCES; i++) {
-        fence_make(&huge[i], i == TRANSCRIPT ? GARUMBOTT_TRANSCRIPT_ROOM : LONGEST_FORM);
+        fence_make(&huge[i], i == TRANSCRIPT ? GARUMBOTT_TRANSCRIPT_ROOM + GARUMBOTT_MOST_BASES : LONGEST_FORM);
         fence_make(&large[i], i == STORED ? 66000 : 40960);
         fence_make(&small[i], 256);
     }
