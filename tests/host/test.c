@@ -194,18 +194,24 @@ static void edit_stored(const char *name, const struct garumbott_reference *refe
     static uint8_t form[LONGEST_FORM];
     uint64_t most = reference->letters_len > NARROW ? UINT32_MAX : UINT16_MAX;
     if (reference->cs > most || reference->ce > most || reference->table > 255 || reference->end > 255) return;
-    size_t len = store(form, reference), x = reference->exceptions_len, joined = reference->letters_len > FULL, room = joined ? reference->letters_len : 0;
+    size_t len = store(form, reference), x = reference->exceptions_len, joined = reference->letters_len > FULL;
     size_t letters = joined ? FULL : reference->letters_len;
     uint64_t refusal = x % 3 != 0 || reference->end > 2 ? GARUMBOTT_REFUSAL_FIELD : want->refusal <= 6 || want->refusal == GARUMBOTT_REFUSAL_END ? want->refusal : 0;
     for (int side = FENCE_END; side <= FENCE_START; side++) {
         const uint8_t *data = fence_fill(&fences[STORED], side, form, len);
+        size_t room = !joined ? 0 : reference->letters_len + (side == FENCE_END ? 0 : 7);
+        if (joined && refusal == 0) {
+            struct garumbott_stored less = garumbott_read_stored(data, len, fence_fill(&fences[JOINED], side, NULL, reference->letters_len - 1), reference->letters_len - 1),
+                                    short_of = {.refusal = GARUMBOTT_REFUSAL_JOINED_ROOM};
+            check(same_stored(&less, &short_of) && fence_check(&fences[JOINED], NULL, 0), name, "a byte too little for the joined letters");
+        }
         uint8_t *lent = room == 0 ? NULL : fence_fill(&fences[JOINED], side, NULL, room);
         struct garumbott_stored got = garumbott_read_stored(data, len, lent, room), no = {.refusal = refusal},
                                 good = {.cs = reference->cs, .ce = reference->ce, .table = reference->table, .letters_at = joined ? 0 : 3,
                                         .letters_len = reference->letters_len, .exceptions_at = x == 0 ? 0 : letters + (most == UINT16_MAX ? 17 : 10), .exceptions_len = x,
                                         .end = reference->end, .joined = joined};
         check(same_stored(&got, refusal == 0 ? &good : &no), name, "read_stored's answer");
-        if (lent != NULL) check(fence_check(&fences[JOINED], reference->letters, refusal == 0 ? room : 0), name, "joined letters");
+        if (lent != NULL) check(fence_check(&fences[JOINED], reference->letters, refusal == 0 ? reference->letters_len : 0), name, "joined letters");
         struct garumbott_reference found = garumbott_reference_at(&got, data, lent);
         check(found.end == got.end, name, "the end that garumbott_reference_at carries");
         struct garumbott_buffers b = {fence_fill(&fences[TRANSCRIPT], side, NULL, plenty[0]), plenty[0], fence_fill(&fences[REFERENCE], side, NULL, plenty[1]),
@@ -1050,12 +1056,72 @@ static void one_letter_more(void)
     edit_stored("16,385 letters", &more, &nothing, &w, longest, protein, protein);
 }
 
+/* The longest pair, which GARUMBOTT_TRANSCRIPT_ROOM is too short for: all letters but two copied, and 4,096 bases put between these. Both orders, with exactly the room
+ * that 11 and 12 ask for, and a byte less. */
+static void library_pair(void)
+{
+    enum { COPIED = GARUMBOTT_LONGEST - 2, LEN = GARUMBOTT_LONGEST + COPIED + GARUMBOTT_MOST_BASES, RESIDUES = LEN / 3 };
+    static uint8_t t[LEN], p[RESIDUES], new_bases[GARUMBOTT_MOST_BASES];
+    struct garumbott_reference r = library_reference(GARUMBOTT_END_CUT_CODON);
+    struct garumbott_coding_edit copy = TWO(DUPLICATION, 1, COPIED), in = {.kind = GARUMBOTT_INSERTION, .start = COPIED + 1, .end = COPIED + 2, .bases = new_bases,
+                                                                          .bases_len = sizeof new_bases};
+    memset(new_bases, 'T', sizeof new_bases);
+    memcpy(t, all_letters, COPIED);
+    memcpy(t + COPIED, all_letters, COPIED + 1);
+    memset(t + 2 * COPIED + 1, 'T', sizeof new_bases);
+    t[LEN - 1] = all_letters[GARUMBOTT_LONGEST - 1];
+    memset(p, 'F', sizeof p); /* GTT TTT .. TTC behind what is copied */
+    memcpy(p, all_residues, CODONS);
+    memcpy(p + CODONS, all_residues, CODONS);
+    p[2 * CODONS] = 'V';
+    for (int i = 0; i < 4; i++) {
+        size_t room[2] = {i == 2 ? LEN - 1 : LEN, i == 3 ? RESIDUES - 1 : RESIDUES};
+        enum fence_side side = i % 2 == 0 ? FENCE_END : FENCE_START;
+        struct garumbott_buffers b = {.transcript = fence_fill(&fences[TRANSCRIPT], side, NULL, room[0]), .transcript_len = room[0],
+                                      .altered = fence_fill(&fences[ALTERED], side, NULL, room[1]), .altered_len = room[1]};
+        struct garumbott_paired want = {0}, got = i == 1 ? garumbott_pair_of(&r, &in, &copy, &b) : garumbott_pair_of(&r, &copy, &in, &b);
+        want.refusal = i == 2 ? 11 : i == 3 ? 12 : 0;
+        if (want.refusal == 0) want.transcript_len = LEN, want.altered_len = RESIDUES;
+        check(memcmp(&got, &want, sizeof got) == 0, "the longest pair", "answer");
+        check(fence_check(&fences[TRANSCRIPT], t, want.transcript_len) && fence_check(&fences[ALTERED], p, want.altered_len), "the longest pair", "what is written");
+    }
+    check(LEN <= GARUMBOTT_TRANSCRIPT_ROOM + GARUMBOTT_MOST_BASES, "the longest pair", "the header's word on its room");
+}
+
+/* The longest list, of editions that differ in every codon, and the longest form. */
+static void library_lists(void)
+{
+    static uint8_t list[GARUMBOTT_DIFFERENCES_ROOM], other[GARUMBOTT_LONGEST], form[LONGEST_FORM];
+    struct garumbott_reference r = library_reference(GARUMBOTT_END_CUT_CODON), s = r;
+    memset(other, 'A', sizeof other);
+    s.letters = other;
+    for (size_t i = 0; i < GARUMBOTT_REFERENCE_ROOM; i++) {
+        uint8_t entry[4] = {(uint8_t)((i + 1) >> 8), (uint8_t)(i + 1), all_residues[i], i == CODONS ? 'X' : 'K'};
+        memcpy(list + 4 * i, entry, 4);
+    }
+    size_t len = store(form, &r);
+    check(len == garumbott_stored_room(r.letters_len, 0, r.end), "the longest form", "garumbott_stored_room");
+    for (size_t less = 0; less < 2; less++) {
+        enum fence_side side = less == 0 ? FENCE_END : FENCE_START;
+        uint8_t *out = fence_fill(&fences[TRANSCRIPT], side, NULL, sizeof list - less);
+        struct garumbott_length got = garumbott_compare_of(&r, &s, out, sizeof list - less);
+        check(got.refusal == (less == 0 ? 0 : 50) && got.len == (less == 0 ? sizeof list : 0), "the longest list", "answer");
+        check(fence_check(&fences[TRANSCRIPT], list, got.len), "the longest list", "what is written");
+        out = fence_fill(&fences[TRANSCRIPT], side, NULL, len - less);
+        got = garumbott_write_stored_of(&r, out, len - less);
+        check(got.refusal == (less == 0 ? 0 : 24) && got.len == (less == 0 ? len : 0), "the longest form", "answer");
+        check(fence_check(&fences[TRANSCRIPT], form, got.len), "the longest form", "what is written");
+    }
+}
+
 static void library_limits(void)
 {
     fences = huge;
     plenty = library_room;
     library_copied();
     library_cut();
+    library_pair();
+    library_lists();
     one_letter_more();
     fences = large;
     plenty = whole_room;
@@ -2159,7 +2225,7 @@ int main(int argc, char **argv)
 {
     (void)argv;
     for (int i = 0; i < FENCES; i++) {
-        fence_make(&huge[i], i == TRANSCRIPT ? GARUMBOTT_TRANSCRIPT_ROOM : LONGEST_FORM);
+        fence_make(&huge[i], i == TRANSCRIPT ? GARUMBOTT_TRANSCRIPT_ROOM + GARUMBOTT_MOST_BASES : LONGEST_FORM);
         fence_make(&large[i], i == STORED ? 66000 : 40960);
         fence_make(&small[i], 256);
     }
