@@ -5,8 +5,11 @@ use rules::Cds;
 use rules::Exceptions;
 use rules::LONGEST;
 use sequences::all_letters;
+use translation::all_bases;
 ghost use mathlib.Core.Path.{_≡_};
 ghost use Prim.Native.Nat.{_+_};
+ghost use Rattle.rules.specs.Bytes.{all};
+ghost use Rattle.rules.specs.Letters.{isLetter};
 ghost use Rattle.rules.specs.Refusal.{limits};
 ghost use Rattle.rules.specs.Views.{referenceOf};
 ghost use Rattle.reference.specs.Known.{earlyRefusal};
@@ -29,6 +32,16 @@ fn size_of(a: usize, b: usize, c: usize) -> usize
     a + (b + c)
 }
 
+// Whether each letter is of the fifteen. Plain ones are, by a faster test.
+fn are_letters(s: &[u8]) -> bool
+    ensures { λ r. ⌜ r ≡ all isLetter (now (s .entry)) ⌝ }
+{
+    if all_bases(s) {
+        return true;
+    }
+    all_letters(s)
+}
+
 // The lowest of 1 to 5 that applies, or 0.
 pub(crate) fn early_refusal(a: &[u8], b: &[u8], c: &[u8], cds: Cds, e: Exceptions) -> usize
     ensures { λ r. ⌜ r ≡ earlyRefusal (limits .longest) (referenceOf (inParts (now (a .entry)) (now (b .entry)) (now (c .entry))) cds e) ⌝ }
@@ -37,7 +50,7 @@ pub(crate) fn early_refusal(a: &[u8], b: &[u8], c: &[u8], cds: Cds, e: Exception
     if size == 0 {
         return 1;
     }
-    if !(all_letters(a) & (all_letters(b) & all_letters(c))) {
+    if !(are_letters(a) & (are_letters(b) & are_letters(c))) {
         return 2;
     }
     if !are_bounds(size, cds) {
