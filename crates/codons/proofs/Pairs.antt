@@ -8,7 +8,7 @@ use native.Mathlib.Nat.{add-zero}
 use native.Mathlib.Omega.{arith}
 use lib.Dec.{eqb, lit<}
 use lib.ListN.{getD}
-use borrow.Author.Tests.{eq-eqb, ne-eqb}
+use borrow.Author.Tests.{eq-eqb, ne-eqb, eqb-true, eqb-false}
 use Rattle.rules.specs.Bytes.{if_then_else_}
 use Rattle.rules.specs.Codons.{residueX, codonRule}
 use Rattle.letters.specs.Sets.{baseSet}
@@ -88,31 +88,49 @@ bases-rule t a b c x y ha hb ex ey e =
     let second : (i * 4 + j) % 4 ≡ j = omega arith in
     rw (first, second, base-of a ha (sym ex ∙ and-left x y e), base-of b hb (sym ey ∙ and-right x y e))
 
--- two sets that aren't both bases, at the place first * 256 + second * 16 + third: as they are read, and by the rule
-abbrev leftOut : ℕ → Bool
-leftOut k = (isBaseSet (k / 256) && isBaseSet (k / 16 % 16)) || eqb (k % 16) 0
+-- whether two sets are read as the rule has it with each of the third sets 1 to n
+abbrev readRight : ℕ → ℕ → ℕ → Bool
+readRight t sets zero = true
+readRight t sets (suc n) =
+    elim (eqb (mixedRule t sets (suc n)) (codonRule t (sets / 16) (sets % 16) (suc n))) [ true ↦ readRight t sets n | false ↦ false ]
 
-abbrev mixedAt : ℕ → ℕ → ℕ
-mixedAt t k = if leftOut k then 0 else mixedRule t (k / 16) (k % 16)
+-- two that aren't both bases are with all fifteen, which antt computes of each code
+abbrev mixedRight : ℕ → ℕ → Bool
+mixedRight t sets = elim (isBaseSet (sets / 16) && isBaseSet (sets % 16)) [ true ↦ true | false ↦ readRight t sets 15 ]
 
-abbrev ruleAt : ℕ → ℕ → ℕ
-ruleAt t k = if leftOut k then 0 else codonRule t (k / 256) (k / 16 % 16) (k % 16)
-
-mixed-listed : (t : ℕ) → listed (mixedAt t) 0 4096 ≡ listed (ruleAt t) 0 4096
+mixed-listed : (t : ℕ) → listed (mixedRight t) 0 256 ≡ listed (λ (k : ℕ). true) 0 256
 unfolding codonRule pairRule mixedRule
 mixed-listed zero = refl
 mixed-listed (suc zero) = refl
 mixed-listed (suc (suc zero)) = refl
 mixed-listed (suc (suc (suc t))) = refl
 
+right-case : (b rest : Bool) → elim b [ true ↦ rest | false ↦ false ] ≡ true → (b ≡ true) × (rest ≡ true)
+right-case true rest e = (refl, e)
+right-case false rest e = (e, cc)
+
+right-each : (t sets n : ℕ) → readRight t sets n ≡ true → (c : ℕ) → 0 < c → c < suc n → mixedRule t sets c ≡ codonRule t (sets / 16) (sets % 16) c
+right-each t sets zero e c some h = absurd (omega arith)
+right-each t sets (suc n) e c some h =
+    let both = right-case (eqb (mixedRule t sets (suc n)) (codonRule t (sets / 16) (sets % 16) (suc n))) (readRight t sets n) e in
+    by (eqb c (suc n)) refl (both .0) (λ l. right-each t sets n (both .1) c some l)
+  where
+    by : (b : Bool) → eqb c (suc n) ≡ b → eqb (mixedRule t sets (suc n)) (codonRule t (sets / 16) (sets % 16) (suc n)) ≡ true
+        → (c < suc n → mixedRule t sets c ≡ codonRule t (sets / 16) (sets % 16) c) → mixedRule t sets c ≡ codonRule t (sets / 16) (sets % 16) c
+    by true is here before = rw (eqb-true c (suc n) is) (eqb-true (mixedRule t sets (suc n)) (codonRule t (sets / 16) (sets % 16) (suc n)) here)
+    by false is here before = before (omega (arith, eqb-false c (suc n) is))
+
+not-both : (both rest : Bool) → elim both [ true ↦ true | false ↦ rest ] ≡ true → both ≡ false → rest ≡ true
+not-both true rest e n = cc
+not-both false rest e n = e
+
 pub mixed-rule : (t a b c : ℕ) (x y : Bool) → a < 16 → b < 16 → (0 < c) × (c < 16) → x ≡ isBaseSet a → y ≡ isBaseSet b → x && y ≡ false
     → mixedRule t (a * 16 + b) c ≡ codonRule t a b c
 mixed-rule t a b c x y ha hb hc ex ey e =
-    let k : ℕ = a * 256 + b * 16 + c in
-    let pair : k / 16 ≡ a * 16 + b = omega arith in
-    let first : k / 256 ≡ a = omega arith in
-    let second : (a * 16 + b) % 16 ≡ b = omega arith in
-    let third : k % 16 ≡ c = omega arith in
-    let some : eqb c 0 ≡ false = ne-eqb c 0 (λ z. omega arith) in
-    let none : isBaseSet a && isBaseSet b ≡ false = rw (ex, ey) at e in
-    rw (pair, first, second, third, none, some) at (at-each 4096 0 (mixedAt t) (ruleAt t) (mixed-listed t) k (omega arith))
+    let sets : ℕ = a * 16 + b in
+    let first : sets / 16 ≡ a = omega arith in
+    let second : sets % 16 ≡ b = omega arith in
+    let none : isBaseSet (sets / 16) && isBaseSet (sets % 16) ≡ false = rw (first, second) (rw (ex, ey) at e) in
+    let right : readRight t sets 15 ≡ true =
+    not-both (isBaseSet (sets / 16) && isBaseSet (sets % 16)) (readRight t sets 15) (at-each 256 false (mixedRight t) (λ (k : ℕ). true) (mixed-listed t) sets (omega arith)) none in
+    right-each t sets 15 right c (hc .0) (hc .1) ∙ rw (first, second)

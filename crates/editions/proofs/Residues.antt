@@ -27,7 +27,7 @@ use Rattle.rules.proofs.Tests.{and-left, all-take, all-drop}
 use Rattle.rules.proofs.Translation.{length-translated, length-exceptions}
 use Rattle.rules.proofs.Reading.{restOf, whole-and-rest, length-whole, residue-at}
 use Rattle.rules.proofs.Reference.{length-cds}
-use Rattle.packed.proofs.Halves.{high-at, low-at}
+use Rattle.halves.proofs.Halves.{high-at, low-at}
 use Rattle.packed.proofs.Readings.{packed-fits, packed-set}
 use Rattle.codons.specs.Tables.{HoldsCode}
 use Rattle.reference.specs.Known.{Readable}

@@ -1,6 +1,6 @@
 -- `editions::codon::entry_of` meets its contract: each form has its own. Assumes nothing.
 use borrow.Author.Needs.{needs}
-use Rattle.packed.proofs.Readings.{bytes-is, packed-is}
+use Rattle.halves.proofs.Sizes.{bytes-is, packed-is}
 use Rattle.editions.proofs.codon.entry_of.Statement.{statement}
 use Rattle.editions.proofs.codon.entry_of.Tie as tie
 
