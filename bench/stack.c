@@ -20,14 +20,7 @@ static uint8_t *bottom;
 
 static void record(void) { sink += record_of(&ref, &edit, &buffers).refusal; }
 static void transcript(void) { sink += edit_of(&ref, &edit, &buffers).refusal; }
-static void check(void)
-{
-    struct garumbott_answer own = record_of(&ref, &edit, &buffers);
-    memcpy(text, rp + own.deleted_at, own.deleted_len);
-    memcpy(text + own.deleted_len, ap + own.inserted_at, own.inserted_len);
-    sink += own.deleted_len;
-}
-static uint64_t number, deleted_len, inserted_len;
+static uint64_t number, deleted_len, inserted_len;   /* the edit's own record, its residues in `text` */
 static void judge(void) { sink += check_of(&ref, &edit, number, text, deleted_len, text + deleted_len, inserted_len, &buffers).replays; }
 static void pair(void) { sink += pair_of(&ref, &edit, &other, &buffers).refusal; }
 static void compare(void)
@@ -136,6 +129,16 @@ static int make_edit(int k)
     return record_of(&ref, &edit, &buffers).refusal == 0;
 }
 
+static void keep_own(void)
+{
+    struct garumbott_answer own = record_of(&ref, &edit, &buffers);
+    number = own.number;
+    deleted_len = own.deleted_len;
+    inserted_len = own.inserted_len;
+    memcpy(text, rp + own.deleted_at, own.deleted_len);
+    memcpy(text + own.deleted_len, ap + own.inserted_at, own.inserted_len);
+}
+
 static void most(size_t *so_far, void (*call)(void))
 {
     size_t n = touched(call);
@@ -158,11 +161,7 @@ static void fill(size_t column[CALLS], uint64_t len)
             }
             most(&column[0], record);
             most(&column[1], transcript);
-            struct garumbott_answer own = record_of(&ref, &edit, &buffers);
-            number = own.number;
-            deleted_len = own.deleted_len;
-            inserted_len = own.inserted_len;
-            check();
+            keep_own();
             most(&column[2], judge);
             most(&column[3], pair);
         }
