@@ -155,9 +155,6 @@ static void answer(const struct garumbott_reference *reference, const struct lin
     }
 }
 
-/* The longest transcript that a text line names. */
-enum { TEXT_LONGEST = 16384 };
-
 /* R of a reference that isn't refused. Whether it is, an edit that changes nothing and has no room tells: it is Unknown or refused with 11 otherwise. */
 static uint64_t answer_reference(const struct garumbott_reference *r)
 {

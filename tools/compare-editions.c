@@ -3,8 +3,8 @@
  *
  *     compare-editions FIRST SECOND
  *
- * A file whose first four bytes are "ref " has a reference in text: its first line is `ref CS CE TABLE LETTERS`, as for annotate, and what stands behind that line
- * isn't looked at. Any other file is a stored reference. A stored one can't begin so: its first byte is a tag, at most 8, and 'r' is 114.
+ * A file whose first four bytes are "ref " has a reference in text: its first line is `ref CS CE TABLE LETTERS`, as for annotate, of at most 16,384 letters,
+ * and what stands behind that line isn't looked at. Any other file is a stored reference. A stored one can't begin so: its first byte is a tag, at most 8, and 'r' is 114.
  *
  * A difference is a line, NUMBER FIRST SECOND: the codon's number and how each edition reads it, - for an edition that hasn't got it. Standard error says how many
  * codons were compared and how many differ. Exit status: 0, or 1 where a file can't be read, a reference is refused or an answer can't be written. */
@@ -35,6 +35,7 @@ struct edition {
     const char *name;
     uint8_t *bytes; /* of the file, and behind them room for letters that stand in several fields */
     size_t len;
+    bool in_text;
     struct garumbott_reference reference;
 };
 
@@ -73,7 +74,8 @@ static void open_edition(struct edition *x, const char *name)
     memset(x, 0, sizeof *x);
     x->name = name;
     read_file(x);
-    if (x->len < 4 || memcmp(x->bytes, "ref ", 4) != 0) {
+    x->in_text = x->len >= 4 && memcmp(x->bytes, "ref ", 4) == 0;
+    if (!x->in_text) {
         read_stored(x);
     } else if (!read_line(x)) {
         fprintf(stderr, "compare-editions: %s: its first line isn't in the form: ref CS CE TABLE LETTERS\n", name);
@@ -82,6 +84,12 @@ static void open_edition(struct edition *x, const char *name)
 }
 
 /* ---- the differences ---------------------------------------------------------------------------------------------------------------- */
+
+/* The text program's limit, in 1's place. */
+static bool is_long_line(const struct edition *x)
+{
+    return x->in_text && x->reference.letters_len > TEXT_LONGEST;
+}
 
 static int shown(uint8_t residue)
 {
@@ -98,9 +106,11 @@ int main(int argc, char **argv)
     }
     open_edition(&first, argv[1]);
     open_edition(&second, argv[2]);
+    if (is_long_line(&first)) refused(first.name, GARUMBOTT_REFUSAL_LENGTH);
     struct garumbott_length n = garumbott_compare_of(&first.reference, &second.reference, list, sizeof list);
-    if (n.refusal > GARUMBOTT_OF_SECOND) refused(second.name, n.refusal - GARUMBOTT_OF_SECOND);
-    if (n.refusal != 0) refused(first.name, n.refusal);
+    if (n.refusal != 0 && n.refusal < GARUMBOTT_OF_SECOND) refused(first.name, n.refusal);
+    if (is_long_line(&second)) refused(second.name, GARUMBOTT_REFUSAL_LENGTH);
+    if (n.refusal != 0) refused(second.name, n.refusal - GARUMBOTT_OF_SECOND);
     for (const uint8_t *d = list; d != list + n.len; d += GARUMBOTT_DIFFERENCE_BYTES)
         printf("%d %c %c\n", d[0] * 256 + d[1], shown(d[2]), shown(d[3]));
     if (fflush(stdout) != 0 || ferror(stdout)) {

@@ -6,7 +6,8 @@
 #include <stdbool.h>
 #include <string.h>
 
-enum { LONGEST_LINE = 20480, MOST_DIGITS = 5 };
+/* TEXT_LONGEST: letters of a transcript that a text line names; more are refused with 1. */
+enum { LONGEST_LINE = 20480, MOST_DIGITS = 5, TEXT_LONGEST = 16384 };
 
 /* What is left of a line. Each function below takes its part from it, or answers false. */
 struct text {

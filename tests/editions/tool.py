@@ -87,13 +87,20 @@ def seen():
         for other, words in (("none", "there is no file {}"), ("crates", "{} is a folder")):
             expect(other, run(other, good), (1, b"", f"compare-editions: {words.format(other)}\n"))
             expect(f"{other}, second", run(good, other), (1, b"", f"compare-editions: {words.format(other)}\n"))
-        refused = [(b"ref 1 6 0 ATGAAA\n", 6), (b"ref 1 6 3 ATGTAA\n", 4), (b"ref 1 6 0 ATGUAA\n", 2), (b"ref 2 6 0 ATGTAA\n", 3), (b"", 22), (b"\1\0\6ATG", 20),
+        longest = b"ref 1 6 0 ATGTAA" + b"C" * 16378  # 16,384 letters, the text program's limit
+        expect("16,384 letters in text", run(write(f"{folder}/longest", longest), good)[0], 0)
+        refused = [(longest + b"C", 1), (b"ref 1 6 0 ATGAAA\n", 6), (b"ref 1 6 3 ATGTAA\n", 4), (b"ref 1 6 0 ATGUAA\n", 2), (b"ref 2 6 0 ATGTAA\n", 3), (b"", 22), (b"\1\0\6ATG", 20),
                    (b"\1\0\6ATGTAA", 22), (b"reference", 21), (stored(b"ATGTAA", 1, 6, 0, b"", b"\1"), 28), (stored(b"ATGTAA", 1, 6, 0, b"\0\7K"), 5)]
         for data, number in refused:
             bad = write(f"{folder}/bad", data)
             for first, second in ((bad, good), (good, bad)):
                 status, out, error = run(first, second)
                 expect(f"{data}, refused", (status, out, error.startswith(f"compare-editions: {bad} is refused with {number}: "), error.count("\n")), (1, b"", True, 1))
+        two = write(f"{folder}/two", b"ref 1 6 0 ATGAAA\n"), write(f"{folder}/bad", longest + b"C")
+        expect("the first's refusal before the second's 1", run(*two)[2].split(":")[1], f" {two[0]} is refused with 6")
+        os.mkfifo(f"{folder}/fifo")
+        with subprocess.Popen(["sh", "-c", f"cat {good} >{folder}/fifo"]):
+            expect("a named pipe", run(f"{folder}/fifo", good)[:2], (0, b""))
         for data in (b"ref ", b"ref 1 6 0 \n", b"ref 1 6 0 ATGTAA\r\n", b"ref 01 6 0 ATGTAA\n", b"ref 1 6 0 atgtaa\n", b"ref 1 6  0 ATGTAA\n", b"ref 1 6 0 ATGTAA " + b"C" * 30000):
             bad = write(f"{folder}/bad", data)
             for words in ((bad, good), (good, bad)):
