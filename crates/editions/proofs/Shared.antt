@@ -22,7 +22,7 @@ use Rattle.rules.specs.Editions.{codonLetters, codonResidue, isEqualCodon}
 use Rattle.rules.proofs.Trims.{cp-le-l, cp-le-r, cp-take}
 use Rattle.rules.proofs.Reading.{residue-at}
 use Rattle.rules.proofs.Reference.{length-cds}
-use Rattle.packed.proofs.Readings.{bytes-is}
+use Rattle.halves.proofs.Sizes.{bytes-is}
 use Rattle.editions.specs.declared.Edition.{Edition}
 use Rattle.editions.specs.Reading.{editionOf, baseAt, entryOf, Fits, Alike, AreEqual}
 use Rattle.editions.proofs.Letters.{same-letters}
