@@ -19,6 +19,7 @@ use rules::SHORT;
 use rules::SHORT_PROTEIN;
 use rules::Verdict;
 ghost use mathlib.Core.Path.{_≡_};
+ghost use Prim.Native.Nat.{_≤_};
 ghost use lib.ListN.{length};
 ghost use Rattle.rules.specs.Bytes.{over};
 ghost use Rattle.rules.specs.Refusal.{limits};
@@ -249,6 +250,43 @@ fn check_long(
     answer
 }
 
+// The answer to a proposed record of an edit of a reference of at most 16,384 letters. Its room for R and that of a long one lie in functions of their own, so that a call has but one of them.
+fn check_short(
+    letters: &[u8],
+    p: Proposed,
+    new: &[u8],
+    deleted: &[u8],
+    inserted: &[u8],
+    transcript: &mut [u8],
+    reference: &mut [u8],
+    altered: &mut [u8],
+) -> Check
+    requires { ⌜ length (lettersBy (p .asks .form) (now letters)) ≤ 16384 ⌝ }
+    ensures { λ r. ⌜ CheckAnswers
+        (checkOutcome limits (referenceOf (lettersBy (p .asks .form) (now (letters .entry))) (p .asks .cds) (p .asks .e)) (asked (p .asks .edit) (now (new .entry))) (proposed (p .number) (now (deleted .entry)) (now (inserted .entry))) (roomOf (now (transcript .entry)) (now (reference .entry)) (now (altered .entry))))
+        r (now (transcript .entry)) (now (transcript .exit)) (now (reference .entry)) (now (reference .exit)) (now (altered .entry)) (now (altered .exit)) ⌝ }
+{
+    let asks = p.asks;
+    let proposing = Proposing {
+        asks,
+        number: p.number,
+        room: reference.len(),
+    };
+    let mut protein = [0u8; SHORT_PROTEIN];
+    let answer = check_in(
+        letters,
+        proposing,
+        new,
+        deleted,
+        inserted,
+        &mut protein,
+        transcript,
+        altered,
+    );
+    copy_reference(answer, &protein, reference);
+    answer
+}
+
 // The answer to a proposed record of an edit of a reference: 1 to 5, 6 or 28, 7 to 10, 26 for an Unknown, 11, 12, 26 and 27, or whether it
 // replays and whether it is the shortest. Then the three buffers hold what the edit's own answer writes.
 pub fn check_altseq(
@@ -279,22 +317,14 @@ pub fn check_altseq(
             altered,
         );
     }
-    let proposing = Proposing {
-        asks,
-        number: p.number,
-        room: reference.len(),
-    };
-    let mut protein = [0u8; SHORT_PROTEIN];
-    let answer = check_in(
+    check_short(
         letters,
-        proposing,
+        p,
         new,
         deleted,
         inserted,
-        &mut protein,
         transcript,
+        reference,
         altered,
-    );
-    copy_reference(answer, &protein, reference);
-    answer
+    )
 }

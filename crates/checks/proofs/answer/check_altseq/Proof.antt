@@ -1,17 +1,11 @@
 -- `checks::answer::check_altseq` meets its contract. Assumes nothing.
 use native.Mathlib.Omega.{arith}
 use borrow.Author.Needs.{needs}
-use Rattle.rules.specs.Translation.{residueCount}
-use Rattle.checks.proofs.Whole.{copied}
 use Rattle.checks.proofs.answer.check_altseq.Statement.{statement}
 use Rattle.checks.proofs.answer.check_altseq.Tie as tie
 
-check-in-requires : tie.Need-check-in-requires
-unfolding residueCount
-check-in-requires c κs = λ h. omega (arith, h, c .before .before .before .before .size-of .ensures, c .before .before .before .if1 .left)
-
-returns-2 : tie.Need-returns-2
-returns-2 c = copied _ _ _ _ _ _ _ _ _ _ (c .before .before .before .before .before .before .before .before .before .before .check-in .ensures) (c .before .before .copy-reference .ensures)
+check-short-requires : tie.Need-check-short-requires
+check-short-requires c κs = omega (arith, c .before .before .before .before .size-of .ensures, c .before .before .before .if1 .left)
 
 pub check-altseq-spec : {M : Type 1} → statement M
 check-altseq-spec =
@@ -23,11 +17,8 @@ check-altseq-spec =
     (λ c. search needs)
     (λ c. search needs)
     (λ c. search needs)
-    (λ c. search needs)
-    check-in-requires
-    (λ c. search needs)
-    (λ c κs. search needs)
+    check-short-requires
     (λ c. search needs)
     (λ c. search needs)
     (λ c. search needs)
-    returns-2)
+    (λ c. search needs))
