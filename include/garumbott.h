@@ -146,8 +146,8 @@ extern "C" {
 #define GARUMBOTT_CHANGE_DELINS 9
 
 /* Refusals. 0 is none. */
-#define GARUMBOTT_REFUSAL_LENGTH 1           /* the transcript has no letter, or more than GARUMBOTT_LONGEST; packed: not as many bytes as L has; or no form */
-#define GARUMBOTT_REFUSAL_LETTER 2           /* a letter isn't one of ACGTRYSWKMBDHVN (plain translation: either case, and U too); packed: 0, or the spare half isn't */
+#define GARUMBOTT_REFUSAL_LENGTH 1           /* the transcript has no letter, or more than GARUMBOTT_LONGEST; packed: bytes that aren't half of L, rounded up; or an unknown form */
+#define GARUMBOTT_REFUSAL_LETTER 2           /* a letter isn't one of ACGTRYSWKMBDHVN (plain translation: either case, and U too); packed: a letter is 0, or the spare half isn't */
 #define GARUMBOTT_REFUSAL_BOUNDS 3           /* not 1 <= cs <= ce <= L, or ce-cs+1 not divisible by 3 (a cut codon: divisible), or below 6 */
 #define GARUMBOTT_REFUSAL_TABLE 4            /* the table isn't 0, 1 or 2 */
 #define GARUMBOTT_REFUSAL_EXCEPTIONS 5       /* too many exceptions, a codon number or a residue that is none, or codon numbers out of order */
@@ -780,9 +780,12 @@ static inline const char *garumbott_answer_name(uint64_t answer)
 }
 
 /* The words of what is refused of a reference, the first of two as well as the second. */
-#define GARUMBOTT_WORDS_LENGTH "the transcript's length L is 0 or above its limit: the library takes up to 131,072; the text program keeps 16,384"
+#define GARUMBOTT_WORDS_LENGTH \
+    "the transcript's length L is 0 or above its limit: the library takes up to 131,072; the text program keeps 16,384; " \
+    "or the byte count of a packed transcript isn't half of L, rounded up, or its form is unknown"
 #define GARUMBOTT_WORDS_LETTER \
-    "a letter is not of ACGTRYSWKMBDHVN, the fifteen of a reference and of a complement; plain translation takes either case, and U as T"
+    "a letter is not of ACGTRYSWKMBDHVN, the fifteen of a reference and of a complement; plain translation takes either case, and U as T; " \
+    "or a packed transcript has an empty letter set, or its spare half isn't zero"
 #define GARUMBOTT_WORDS_BOUNDS \
     "the bounds break a rule: 1 <= cs <= ce <= length, ce-cs+1 divisible by 3 (not divisible where the CDS ends in a cut codon) " \
     "and at least 6"
