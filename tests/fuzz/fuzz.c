@@ -1001,11 +1001,11 @@ static uint64_t plain_list(const struct garumbott_reference *a, const struct gar
 /* Two editions of small and middling references, both ways. */
 static void fuzz_compare(void)
 {
-    static uint8_t kept[sizeof letters], kept_exceptions[sizeof exceptions], list[GARUMBOTT_DIFFERENCES_ROOM];
+    static uint8_t kept_letters[sizeof letters], kept_exceptions[sizeof exceptions], list[GARUMBOTT_DIFFERENCES_ROOM];
     do make_reference(); while (ref.letters_len > 3000);
     if (one_in(6)) damage_reference();
     struct garumbott_reference first = ref;
-    memcpy(kept, letters, ref.letters_len);
+    memcpy(kept_letters, letters, ref.letters_len);
     memcpy(kept_exceptions, exceptions, ref.exceptions_len);
     if (one_in(3)) do make_reference(); while (ref.letters_len > 3000);
     else if (ref.letters_len != 0)
@@ -1013,7 +1013,7 @@ static void fuzz_compare(void)
     if (one_in(4)) ref.table = below(3);
     if (one_in(4)) ref.exceptions_len = 0;
     if (one_in(3)) damage_reference();
-    first.letters = kept;
+    first.letters = kept_letters;
     first.exceptions = kept_exceptions;
     struct garumbott_reference two[2] = {first, ref};
     uint64_t refusal[2] = {reference_refusal(&two[0]), reference_refusal(&two[1])};

@@ -109,6 +109,11 @@ wanted |= {"TABLE_STANDARD": 0, "TABLE_SELENOCYSTEINE": 1, "TABLE_VERTEBRATE_MIT
 wanted["TRANSCRIPT_ROOM"] = wanted["LONGEST"] + max(wanted["LONGEST"], wanted["MOST_BASES"])
 wanted["REFERENCE_ROOM"] = (wanted["LONGEST"] + 2) // 3
 wanted["ALTERED_ROOM"] = (wanted["TRANSCRIPT_ROOM"] + 2) // 3
+packed = text(f"{SPECS}/Packed.antt")
+for name, number in (("Bytes", r"zero"), ("Packed size", r"\(suc zero\)")):
+    if not re.search(rf"^formAt {number} size = {name}$", packed, re.M):
+        fail(f"formAt gives another form than {name}")
+wanted |= {"FORM_BYTES": 0, "FORM_PACKED": 1}
 editions = text(f"{SPECS}/Editions.antt")
 wanted["DIFFERENCE_BYTES"] = re.search(r"^differenceBytes d = (.*\[\])$", editions, re.M).group(1).count("∷")
 wanted["DIFFERENCES_ROOM"] = wanted["DIFFERENCE_BYTES"] * wanted["REFERENCE_ROOM"]

@@ -16,10 +16,23 @@
 
 enum { MOST = 1 << 18 };
 
+/* A byte of the input, or -1 behind its end. */
+static int next(void)
+{
+    static uint8_t held[1 << 16];
+    static size_t at, len;
+    if (at == len) {
+        at = 0;
+        len = fread(held, 1, sizeof held, stdin);
+        if (len == 0) return -1;
+    }
+    return held[at++];
+}
+
 static uint8_t byte(void)
 {
-    int c = getchar();
-    if (c == EOF) exit(2);
+    int c = next();
+    if (c < 0) exit(2);
     return (uint8_t)c;
 }
 
@@ -41,16 +54,17 @@ static int64_t signed_number(void)
 static const uint8_t *string(uint8_t *to, uint64_t *len)
 {
     *len = number();
-    if (*len > MOST || fread(to, 1, *len, stdin) != *len) exit(2);
+    if (*len > MOST) exit(2);
+    for (uint64_t i = 0; i < *len; i++) to[i] = byte();
     return to;
 }
 
 static void put(const void *numbers, size_t size)
 {
     const uint64_t *n = numbers;
-    for (size_t i = 0; i < size / sizeof *n; i++) {
-        for (int shift = 56; shift >= 0; shift -= 8) putchar((int)(n[i] >> shift & 255));
-    }
+    uint8_t bytes[256];
+    for (size_t i = 0; i < size; i++) bytes[i] = (uint8_t)(n[i / 8] >> (56 - i % 8 * 8));
+    fwrite(bytes, 1, size, stdout);
 }
 
 /* What the buffers hold before a call: it differs from place to place. */
@@ -177,7 +191,7 @@ static void others(void)
 
 int main(void)
 {
-    for (int c = getchar(); c != EOF; c = getchar()) {
+    for (int c = next(); c >= 0; c = next()) {
         if (c == 'p') pack();
         else if (c == 'o') others();
         else call();

@@ -190,11 +190,23 @@ FIRST = ("", 1)
 IDENTITY = account.Edit("identity", FIRST, FIRST)
 
 
-def short():
-    """Every reference of up to 5 letters, none of which has room for a CDS."""
-    for size in range(6):
-        for letters in map("".join, itertools.product(account.LETTERS, repeat=size)):
-            yield case(packed(letters), 1, size, 1, size, IDENTITY, room=(0, 0, 0))
+def short(command):
+    """Every reference of up to 5 letters, none of which has room for a CDS: the account holds the letters, and refuses all of a size alike, with 3."""
+    count = 0
+    for size in range(1, 6):
+        texts = list(map("".join, itertools.product(account.LETTERS, repeat=size)))
+        first = case(packed(texts[0]), 1, size, 1, size, IDENTITY, room=(0, 0, 0))
+        head, behind = string(first[0]), told(first)[1 + len(string(first[0])):]
+        want = expected(first)
+        if want[8:16] != number(3) or any(account.held(1, size, packed(letters)) != letters for letters in texts):
+            sys.exit(f"packed: the account of {size} letters differs from their packing")
+        for i in range(0, len(texts), 50000):
+            some = texts[i:i + 50000]
+            got = run(command, b"".join(b"r" + head[:8] + packed(letters) + behind for letters in some))
+            if got != want * len(some):
+                sys.exit(f"packed: a reference of {size} letters, of those from {some[0]} on: another answer than {want!r}")
+        count += len(texts)
+    print(f"packed: every reference of up to 5 letters: {count} calls of each function")
 
 
 def some_edits():
@@ -362,4 +374,5 @@ else:
     compare(sys.argv[1:], bytewise(), "every byte in each place, wrong sizes and forms")
     compare(sys.argv[1:], randomly(4000, 1), "random references in both forms")
     compare(sys.argv[1:], others(3000, 2), "two edits, the profile, two editions, a stored form", told_others, expected_others)
-    compare(sys.argv[1:], short(), "every reference of up to 5 letters")
+    compare(sys.argv[1:], [case(b"", 1, 0, 1, 0, IDENTITY, room=(0, 0, 0))], "no letter")
+    short(sys.argv[1:])

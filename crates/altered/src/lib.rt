@@ -1,5 +1,6 @@
 // The altered transcript read over its plan, without writing it.
-use codons::reader::read_codon;
+use codons::reader::read_by_plain;
+use codons::tables::plain_code;
 use edits::plans::Plan;
 use edits::plans::Source;
 use excepted::excepted_at;
@@ -110,7 +111,8 @@ pub fn residue_at(
     let a = set_at(letters, form, plan, new, at);
     let b = set_at(letters, form, plan, new, at + 1);
     let c = set_at(letters, form, plan, new, at + 2);
-    excepted_at(e, k + 1, read_codon(table, a, b, c))
+    let code = plain_code(table);
+    excepted_at(e, k + 1, read_by_plain(table, &code, a, b, c))
 }
 
 // How many first letters an edit leaves: those before it, and those equal behind them. The altered transcript has `made` bases, here and below.

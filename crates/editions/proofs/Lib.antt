@@ -1,4 +1,5 @@
 pub mod Letters
 pub mod Residues
+pub mod Shared
 pub mod Walking
 pub mod Comparing

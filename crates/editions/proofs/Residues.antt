@@ -115,7 +115,7 @@ module _ (size : ℕ) (bs : List ℕ) (c : Cds) (inside : Inside (unpacked size 
 
 -- an edition that was judged
 module _ (s : List ℕ) (x : Edition) (fits : Fits s x) where
-  bounds-of-cds : length (cds (editionOf s x)) ≡ x .cds .ce - (x .cds .cs - 1)
+  pub bounds-of-cds : length (cds (editionOf s x)) ≡ x .cds .ce - (x .cds .cs - 1)
   unfolding cdsSize
   bounds-of-cds =
       let b = fits .readable .sound .bounds in
@@ -163,6 +163,14 @@ module _ (residues : List ℕ) (es : List Exception) (entry n : ℕ) where
   pub by-whole : (entry ≡ 0 → ⊥) → (entry % 16 ≡ 0 → ⊥) → residueBy residues es entry n ≡ excepted es n (getD residues entry 0)
   unfolding residueBy
   by-whole some e = rw (ne-eqb entry 0 some, ne-eqb (entry % 16) 0 e)
+
+pub no-exceptions : (e : Exceptions) → e .count ≡ 0 → exceptionList e ≡ []
+unfolding exceptionList
+no-exceptions e h = rw h
+
+pub by-plain : (e : Exceptions) (n r : ℕ) → e .count ≡ 0 → excepted (exceptionList e) n r ≡ r
+unfolding excepted
+by-plain e n r h = rw (no-exceptions e h)
 
 -- the residue of codon i + 1 of letters
 module _ (t : ℕ) (es : List Exception) (u : List ℕ) (residues : List ℕ) (code : HoldsCode t residues) (good : all isLetter u ≡ true) (i entry : ℕ) (is : entry ≡ letterSet (getD u (i * 3) 0) * 256 + letterSet (getD u (i * 3 + 1) 0) * 16 + letterSet (getD u (i * 3 + 2) 0)) where
@@ -226,12 +234,18 @@ module _ (first second : List ℕ) (r s : Edition) (a b : List ℕ) (x : Reads f
       same-letters (editionOf first r) (editionOf second s) n (letters-of-cds first r (x .fits)) (letters-of-cds second s (y .fits)) one
       ∙ rw (is, are, entry-of first r (x .fits) n, entry-of second s (y .fits) n)
 
-  pub other-letters : (p ≡ q → ⊥) → false ≡ isEqualCodon (editionOf first r) (editionOf second s) n
+  pub other-letters : (p ≡ q → ⊥) → isEqualCodon (editionOf first r) (editionOf second s) n ≡ false
   unfolding isEqualCodon
   other-letters h = rw (letters-by, ne-eqb p q h)
 
-  pub same-residues : p ≡ q → (c d : ℕ) → c ≡ residueBy a (exceptionList (r .e)) p n → d ≡ residueBy b (exceptionList (s .e)) q n
-      → eqb c d ≡ isEqualCodon (editionOf first r) (editionOf second s) n
-  unfolding isEqualCodon
-  same-residues h c d e f =
-      rw (letters-by, eq-eqb p q h, e ∙ residue-of first r a x n p one is, f ∙ residue-of second s b y n q one are)
+  module _ (h : p ≡ q) (c d : ℕ) (e : c ≡ residueBy a (exceptionList (r .e)) p n) (f : d ≡ residueBy b (exceptionList (s .e)) q n) where
+    by-residues : isEqualCodon (editionOf first r) (editionOf second s) n ≡ eqb c d
+    unfolding isEqualCodon
+    by-residues =
+        rw (letters-by, eq-eqb p q h, e ∙ residue-of first r a x n p one is, f ∙ residue-of second s b y n q one are)
+
+    pub other-residues : (c ≡ d → ⊥) → isEqualCodon (editionOf first r) (editionOf second s) n ≡ false
+    other-residues k = by-residues ∙ ne-eqb c d k
+
+    pub same-residues : c ≡ d → isEqualCodon (editionOf first r) (editionOf second s) n ≡ true
+    same-residues k = by-residues ∙ eq-eqb c d k

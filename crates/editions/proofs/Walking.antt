@@ -3,7 +3,7 @@
 use mathlib.Core.Path.{_≡_, refl, sym, ap, _∙_}
 use mathlib.Core.Bool.{Bool, true, false}
 use mathlib.Core.List.{List, [], _∷_, _++_}
-use Prim.Native.Nat.{ℕ, zero, suc, _+_, _-_, _*_, _<_, _≤_}
+use Prim.Native.Nat.{ℕ, zero, suc, _+_, _-_, _*_, _<_, _≤_, min}
 use native.Mathlib.Omega.{arith}
 use lib.ListN.{length, take, drop, set, length-append, length-take, length-drop}
 use lib.Seq.{length-take-le, take-add, take-all, take-at, drop-at, drop-drop}
@@ -12,7 +12,7 @@ use Rattle.rules.specs.Bytes.{if_then_else_, each, over}
 use Rattle.rules.specs.Reference.{Reference}
 use Rattle.rules.specs.Editions.{isEqualCodon, Difference, differenceAt, differencesFrom, differenceBytes}
 use Rattle.rules.proofs.Over.{length-over, lent-on-by}
-use Rattle.editions.specs.Reading.{Skips}
+use Rattle.editions.specs.Reading.{AreEqual, Passes, Skips}
 
 -- four bytes stored at a buffer's start, the last two by what they are equal to
 pub put-four : (d : List ℕ) (w x y z v u : ℕ) → 4 ≤ length d → y ≡ v → z ≡ u → set (set (set (set d 0 w) 1 x) 2 y) 3 z ≡ over (w ∷ x ∷ v ∷ u ∷ []) d
@@ -39,6 +39,23 @@ module _ (r s : Reference) (past : ℕ) where
 
   pub skip-one : (m : ℕ) → m < past → isEqualCodon r s m ≡ true → left m ≡ left (m + 1)
   skip-one m h e = one-more m h ∙ rw e
+
+  -- and so are many
+  skip-many : (n k : ℕ) → ((m : ℕ) → n ≤ m → m < n + k → isEqualCodon r s m ≡ true) → n + k ≤ past → left n ≡ left (n + k)
+  skip-many n zero e h = let is : n ≡ n + 0 = omega arith in ap (λ (j : ℕ). left j) is
+  skip-many n (suc k) e h =
+      let is : n + k + 1 ≡ n + suc k = omega arith in
+      skip-many n k (λ m a b. e m a (omega arith)) (omega arith) ∙ skip-one (n + k) (omega arith) (e (n + k) (omega arith) (omega arith)) ∙ ap (λ (j : ℕ). left j) is
+
+  pub passed : (n k m : ℕ) → AreEqual r s n k → n ≤ past → m ≡ min (n + k) past → Passes r s n past m
+  unfolding AreEqual
+  passed n k m e h is =
+      let at : n + (m - n) ≡ m = omega arith in
+      record {
+        from = omega arith;
+        within = omega arith;
+        list = skip-many n (m - n) (λ j a b. e j a (omega arith)) (omega arith) ∙ ap (λ (j : ℕ). left j) at;
+      }
 
   take-one : (m : ℕ) → m < past → isEqualCodon r s m ≡ false → left m ≡ differenceAt r s m ∷ left (m + 1)
   take-one m h e = one-more m h ∙ rw e

@@ -7,6 +7,7 @@ use lib.Dec.{eqb, ltb}
 use lib.ListN.{length, getD}
 use Rattle.rules.specs.declared.Cds.{Cds}
 use Rattle.rules.specs.declared.Exception.{Exception}
+use Rattle.rules.specs.declared.Form.the-variants.{Bytes}
 use Rattle.rules.specs.Bytes.{if_then_else_, all, _↯_, firstOf, Result, unless}
 use Rattle.rules.specs.Letters.{letterSet, isLetter}
 use Rattle.rules.specs.Codons.{residueX}
@@ -19,7 +20,7 @@ use Rattle.codons.specs.Tables.{HoldsCode}
 use Rattle.reference.specs.Known.{Readable}
 use Rattle.editions.specs.declared.Edition.{Edition}
 
--- its letters are those of the bytes s, by their form
+-- the letters of an edition are those that the bytes s hold, by their form
 abbrev pub editionOf : List ℕ → Edition → Reference
 editionOf s x = referenceOf (lettersBy (x .form) s) (x .cds) (x .e)
 
@@ -55,7 +56,25 @@ pub record Reads (s : List ℕ) (x : Edition) (residues : List ℕ) : Type 0 whe
   pub fits : Fits s x
   pub code : HoldsCode (x .cds .table) residues
 
--- the codons from n on and before m are equal, and m isn't, unless it is `past`
+-- two editions whose codons of equal letters have equal residues, and whose letters are bytes
+pub record Alike (r s : Edition) : Type 0 where
+  pub bytes : r .form ≡ Bytes
+  pub also : s .form ≡ Bytes
+  pub table : r .cds .table ≡ s .cds .table
+  pub none : r .e .count ≡ 0
+  pub neither : s .e .count ≡ 0
+
+-- the k codons from n on are equal
+unfoldable pub AreEqual : Reference → Reference → ℕ → ℕ → Type 0
+AreEqual r s n k = (m : ℕ) → n ≤ m → m < n + k → isEqualCodon r s m ≡ true
+
+-- the codons from n on and before m are equal
+pub record Passes (r s : Reference) (n past m : ℕ) : Type 0 where
+  pub from : n ≤ m
+  pub within : m ≤ past
+  pub list : differencesFrom r s n (past - n) ≡ differencesFrom r s m (past - m)
+
+-- the same, and m isn't, unless it is `past`
 pub record Skips (r s : Reference) (n past m : ℕ) : Type 0 where
   pub from : n ≤ m
   pub within : m ≤ past

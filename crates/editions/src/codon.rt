@@ -103,5 +103,9 @@ pub(crate) fn residue_by(residues: &[u8; 4096], e: Exceptions, entry: usize, n: 
     if entry % 16 == 0 {
         return b'X';
     }
-    excepted_at(e, n, residues[entry])
+    let residue = residues[entry];
+    if e.count == 0 {
+        return residue;
+    }
+    excepted_at(e, n, residue)
 }

@@ -1,4 +1,5 @@
 // "Compare two editions of a transcript": the codons in which two references differ, counted, then written.
+mod alike;
 mod codon;
 mod walk;
 

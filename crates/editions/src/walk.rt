@@ -1,40 +1,17 @@
 // The codons of two CDS side by side, from one difference to the next.
 use crate::Edition;
+use crate::alike::pass_equal;
 use crate::codon::entry_of;
 use crate::codon::residue_by;
 ghost use mathlib.Core.Path.{_≡_};
 ghost use Prim.Native.Nat.{_-_, _<_, _≤_};
 ghost use lib.ListN.{length};
 ghost use Rattle.rules.specs.Bytes.{each, over};
-ghost use Rattle.rules.specs.Editions.{isEqualCodon, differenceAt, differencesFrom, differenceBytes};
+ghost use Rattle.rules.specs.Editions.{differenceAt, differencesFrom, differenceBytes};
 ghost use Rattle.editions.specs.Reading.{editionOf, Reads, Skips};
 
-// Whether codon n has the same letters and the same residue in both.
-fn is_equal(
-    first: &[u8],
-    r: Edition,
-    a: &[u8; 4096],
-    second: &[u8],
-    s: Edition,
-    b: &[u8; 4096],
-    n: usize,
-) -> bool
-    requires { ⌜ Reads (now first) r (now a) ⌝ }
-    requires { ⌜ Reads (now second) s (now b) ⌝ }
-    requires { ⌜ (1 ≤ n) × (n ≤ 65536) ⌝ }
-    ensures { λ t. ⌜ t ≡ isEqualCodon (editionOf (now (first .entry)) r) (editionOf (now (second .entry)) s) n ⌝ }
-{
-    let f = r.form;
-    let g = s.form;
-    let p = entry_of(first, f, r.cds, n);
-    let q = entry_of(second, g, s.cds, n);
-    if p != q {
-        return false;
-    }
-    residue_by(a, r.e, p, n) == residue_by(b, s.e, q, n)
-}
-
-// The first codon from n on, and before `past`, that isn't equal; where all are, `past`.
+// The first codon from n on, and before `past`, that has other letters or another residue; where none has, `past`.
+// Forms and bounds are copied once: a whole edition, with room for 16 exceptions, would be for every codon.
 fn next_difference(
     first: &[u8],
     r: Edition,
@@ -51,12 +28,21 @@ fn next_difference(
     requires { ⌜ past ≤ 65536 ⌝ }
     ensures { λ m. ⌜ Skips (editionOf (now (first .entry)) r) (editionOf (now (second .entry)) s) n past m ⌝ }
 {
+    let f = r.form;
+    let c = r.cds;
+    let g = s.form;
+    let d = s.cds;
     let mut m = n;
     while m < past {
-        if !is_equal(first, r, a, second, s, b, m) {
+        let p = entry_of(first, f, c, m);
+        let q = entry_of(second, g, d, m);
+        if p != q {
             return m;
         }
-        m += 1;
+        if residue_by(a, r.e, p, m) != residue_by(b, s.e, q, m) {
+            return m;
+        }
+        m = pass_equal(first, r, second, s, m + 1, past);
     }
     m
 }
@@ -104,9 +90,11 @@ fn put_difference(
     ensures { λ _. ⌜ now (out .exit) ≡ over (differenceBytes (differenceAt (editionOf (now (first .entry)) r) (editionOf (now (second .entry)) s) n)) (now (out .entry)) ⌝ }
 {
     let f = r.form;
+    let c = r.cds;
     let g = s.form;
-    let p = entry_of(first, f, r.cds, n);
-    let q = entry_of(second, g, s.cds, n);
+    let d = s.cds;
+    let p = entry_of(first, f, c, n);
+    let q = entry_of(second, g, d, n);
     out[0] = (n / 256) as u8;
     out[1] = (n % 256) as u8;
     out[2] = residue_by(a, r.e, p, n);

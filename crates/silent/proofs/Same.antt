@@ -17,10 +17,11 @@ use Rattle.rules.specs.Codons.{codon}
 use Rattle.rules.specs.Translation.{exceptionList, excepted, residuesFrom, throughStop, residueCount}
 use Rattle.rules.specs.Trims.{commonPrefix}
 use Rattle.rules.specs.Reference.{Reference, size, cdsSize, codons, cds, referenceProtein}
-use Rattle.rules.specs.Altered.{carried}
+use Rattle.rules.specs.Altered.{part, carried}
 use Rattle.rules.specs.Exceptions.{suffixBehind}
 use Rattle.rules.specs.Views.{referenceOf}
 use Rattle.rules.proofs.Trims.{same-self, same-is, same-lengths}
+use Rattle.rules.proofs.Parts.{length-part}
 use Rattle.rules.proofs.Translation.{length-exceptions}
 use Rattle.rules.proofs.Reading.{restOf, residue-at}
 use Rattle.rules.proofs.Reference.{accepted, length-cds, protein-read}
@@ -33,16 +34,10 @@ use Rattle.transcript.proofs.Transcripts.{length-goes-in}
 use Rattle.altered.proofs.Letters.{length-made, before-at}
 use Rattle.altered.proofs.Shares.{front-starts, back-starts}
 use Rattle.altered.specs.Over.{Makes}
+use Rattle.places.specs.Places.{codonAt}
 use Rattle.silent.proofs.Kept.{all-before, all-behind}
-use Rattle.silent.specs.Comparing.{codingBy, proteinWith, Compares, Placed}
-
--- none are counted, none are there
-no-exceptions : (e : Exceptions) → e .count ≡ 0 → exceptionList e ≡ []
-no-exceptions e h = by (exceptionList e) (length-exceptions e ∙ h)
-  where
-    by : {A : Type 0} (xs : List A) → length xs ≡ 0 → xs ≡ []
-    by [] k = refl
-    by (x ∷ xs) k = absurd (omega arith)
+use Rattle.silent.proofs.Stretches.{no-exceptions, part-at, codon-behind}
+use Rattle.silent.specs.Comparing.{codingBy, proteinWith, Compares, Placed, Stretch, ReadsAs, Sized, Held, Unexcepted, Alike}
 
 -- the transcript that a plan makes
 module _ (p : Plan) (s new : List ℕ) (m : Makes p s new) where
@@ -178,6 +173,74 @@ module _ (s : List ℕ) (c : Cds) (e moved : Exceptions) (R : List ℕ) (p : Pla
       let is = reference-at j (omega arith) ∙ sym (altered-at k j h l) in
       (omega arith, is, λ z. stopless (x .longest) r (x .accepted) once j (omega (arith, ap length (x .read))) (sym (ap (λ (m : List ℕ). getD m j 0) (x .read)) ∙ is ∙ z))))
       ∙ from-start
+
+  -- the reference's exceptions are few
+  pub few-own : e .count ≤ 16
+  few-own = omega (arith, length-exceptions e, accepted (x .longest) r (x .accepted) .few)
+
+  -- a codon that isn't R's last lies in the transcript
+  pub own-inside : (k n : ℕ) → k + n < length R → first + k * 3 + n * 3 ≤ length s
+  unfolding cdsSize size residueCount
+  own-inside k n h =
+      let b = accepted (x .longest) r (x .accepted) .bounds in
+      omega (arith, ap length (x .read), protein-read (x .longest) r (x .accepted) .counted, length-cds r b, b .first, b .inside)
+
+  -- n codons without exceptions from codon k on: R's part, and what the plan makes there
+  module _ (k n : ℕ) (few : k + n < length R) where
+    abbrev own : List ℕ
+    own = part k (k + n) R
+
+    length-own : length own ≡ n
+    length-own = length-part k (k + n) R (omega arith) ∙ omega arith
+
+    own-reads : Unexcepted (exceptionList e) k n → (i : ℕ) → i < n → getD own i 0 ≡ codonAt (c .table) (drop (first + k * 3) s) i
+    unfolding codonAt
+    own-reads clear i l =
+        part-at k (k + n) R i (omega arith) ∙ reference-at (k + i) (omega arith) ∙ clear .each i _ l ∙ sym (codon-behind (c .table) s first k i)
+
+    pub held : n ≤ 256 → Unexcepted (exceptionList e) k n → Held (c .table) s (first + k * 3) own
+    held short clear =
+        record {
+          code = codes;
+          few = omega (arith, length-own);
+          ends = omega (arith, length-own, own-inside k n few);
+          reads = record { each = λ i l. own-reads clear i (omega (arith, length-own)) };
+        }
+
+    pub in-stretch : (most size : ℕ) → Sized p (first + k * 3) most size → (size ≡ 0 → ⊥) → n ≤ size → k + n ≤ (p .length - first) / 3 → Stretch p (first + k * 3) (length own * 3) (length (carriedBy p s new))
+    in-stretch most size sized some less more =
+        record {
+          behind = sized .behind some;
+          inside = λ h. omega (arith, sized .inside h, length-own);
+          ends = omega (arith, length-own, x .long, in-transcript);
+        }
+
+    pub alike-of : Unexcepted (exceptionList moved) k n → k + n < (p .length - first) / 3 → (q : ℕ) → q ≤ length own → ReadsAs (c .table) (drop (first + k * 3) (carriedBy p s new)) own q → Alike c moved p s new R k q
+    unfolding codingBy
+    alike-of clear more q less reads =
+        record {
+          few = omega (arith, length-own);
+          more = omega (arith, length-own);
+          each = λ i l.
+              sym (part-at k (k + n) R i (omega (arith, length-own))) ∙ reads .each i l ∙ codon-behind (c .table) (carriedBy p s new) first k i
+              ∙ sym (clear .each i _ (omega (arith, length-own)));
+        }
+
+  -- the codons of a block are skipped
+  pub skips : (k n : ℕ) → k + n < (p .length - first) / 3 → k + n < length R
+      → ((i : ℕ) → i < n → getD R (k + i) 0 ≡ residueAt (c .table) (exceptionList moved) u R (k + i)) → left k ≡ left (k + n)
+  skips k zero more few each = let none : k ≡ k + 0 = omega arith in ap left none
+  skips k (suc n) more few each =
+      let next : k + n + 1 ≡ k + suc n = omega arith in
+      let alike = each n (omega arith) in
+      skips k n (omega arith) (omega arith) (λ i l. each i (omega arith))
+      ∙ same-on (c .table) (exceptionList moved) u R (k + n) (omega (arith, length-coding)) (omega arith) alike
+      (λ z. stopless (x .longest) r (x .accepted) once (k + n) (omega (arith, ap length (x .read))) (sym (ap (λ (m : List ℕ). getD m (k + n) 0) (x .read)) ∙ alike ∙ z))
+      ∙ ap left next
+
+  pub skipped : (k n : ℕ) → Alike c moved p s new R k n → left k ≡ left (k + n)
+  unfolding codonAt codingBy
+  skipped k n a = skips k n (a .more) (a .few) (a .each)
 
   -- a codon of R lies in the transcript
   own-codons : (j : ℕ) → j < length R → j ≤ length (drop first s) / 3

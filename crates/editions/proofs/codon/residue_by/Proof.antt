@@ -2,7 +2,7 @@
 use mathlib.Core.Path.{sym, _∙_}
 use borrow.Author.Needs.{needs}
 use Rattle.rules.specs.Translation.{exceptionList}
-use Rattle.editions.proofs.Residues.{by-none, by-cut, by-whole}
+use Rattle.editions.proofs.Residues.{by-none, by-cut, by-whole, by-plain}
 use Rattle.editions.proofs.codon.residue_by.Statement.{statement}
 use Rattle.editions.proofs.codon.residue_by.Tie as tie
 
@@ -18,8 +18,13 @@ returns-2 c =
 
 returns-3 : tie.Need-returns-3
 returns-3 c =
-    let a = c .before .before .before .before .args in
-    c .excepted-at .ensures ∙ sym (by-whole (a .residues .now) (exceptionList (a .e)) (a .entry) (a .n) (c .before .before .before .if1 .left) (c .before .before .if2 .left))
+    let a = c .before .before .before .before .before .args in
+    sym (by-whole (a .residues .now) (exceptionList (a .e)) (a .entry) (a .n) (c .before .before .before .before .if1 .left) (c .before .before .before .if2 .left) ∙ by-plain (a .e) (a .n) _ (c .if3 .taken))
+
+returns-4 : tie.Need-returns-4
+returns-4 c =
+    let a = c .before .before .before .before .before .before .args in
+    c .excepted-at .ensures ∙ sym (by-whole (a .residues .now) (exceptionList (a .e)) (a .entry) (a .n) (c .before .before .before .before .before .if1 .left) (c .before .before .before .before .if2 .left))
 
 pub residue-by-spec : {M : Type 1} → statement M
-residue-by-spec = tie.close (tie.spec returns returns-2 (λ c. search needs) (λ c κs. search needs) returns-3)
+residue-by-spec = tie.close (tie.spec returns returns-2 (λ c. search needs) returns-3 (λ c κs. search needs) returns-4)

@@ -11,34 +11,34 @@ use Rattle.editions.proofs.walk.put_difference.Tie as tie
 
 entry-of-requires : tie.Need-entry-of-requires
 entry-of-requires c κs =
-    let start = c .before .before .before in
+    let start = c .before .before .before .before .before in
     (inside-of (start .args .first .now) (start .args .r) (start .pre .0 .fits), (start .pre .1 .1 .0 .0, omega (arith, start .pre .1 .1 .0 .1)))
 
 entry-of-requires-2 : tie.Need-entry-of-requires-2
 entry-of-requires-2 c κs =
-    let start = c .before .before .before .before in
+    let start = c .before .before .before .before .before .before in
     (inside-of (start .args .second .now) (start .args .s) (start .pre .1 .0 .fits), (start .pre .1 .1 .0 .0, omega (arith, start .pre .1 .1 .0 .1)))
 
 slice-write-out-2 : tie.Need-slice-write-out-2
-slice-write-out-2 c = simp length-set (omega (arith, c .before .before .before .before .before .pre .1 .1 .1))
+slice-write-out-2 c = simp length-set (omega (arith, c .before .before .before .before .before .before .before .pre .1 .1 .1))
 
 residue-by-requires : tie.Need-residue-by-requires
 residue-by-requires c κs =
-    let start = c .before .before .before .before .before in
+    let start = c .before .before .before .before .before .before .before in
     (few-of (start .args .first .now) (start .args .r) (start .pre .0 .fits), c .before .entry-of .ensures .1)
 
 slice-write-out-3 : tie.Need-slice-write-out-3
-slice-write-out-3 c = simp length-set (omega (arith, c .before .before .before .before .before .before .pre .1 .1 .1))
+slice-write-out-3 c = simp length-set (omega (arith, c .before .before .before .before .before .before .before .before .pre .1 .1 .1))
 
 residue-by-requires-2 : tie.Need-residue-by-requires-2
 residue-by-requires-2 c κs =
-    let start = c .before .before .before .before .before .before in
+    let start = c .before .before .before .before .before .before .before .before in
     (few-of (start .args .second .now) (start .args .s) (start .pre .1 .0 .fits), c .before .entry-of2 .ensures .1)
 
 returns : tie.Need-returns
 unfolding differenceBytes differenceAt
 returns c =
-    let start = c .before .before .before .before .before .before .before in
+    let start = c .before .before .before .before .before .before .before .before .before in
     let a = start .args in
     let p = c .before .before .before .entry-of in
     let q = c .before .before .entry-of2 in

@@ -1,0 +1,160 @@
+// Codons that a plan makes held to R in blocks: letters of what goes in, or letters behind it, which lie side by side.
+use edits::no_exceptions;
+use edits::plans::Plan;
+use edits::plans::Source;
+use excepted::next_exception;
+use numbers::least;
+use packed::copy_letters;
+use packed::same_by;
+use packed::turn_letters;
+use rules::Exceptions;
+use rules::Form;
+use sequences::common_prefix_len;
+use translation::all_bases;
+use translation::write_translated;
+ghost use mathlib.Core.Path.{_≡_};
+ghost use mathlib.Core.Bool.{true};
+ghost use Prim.Native.Nat.{_+_, _*_, _≤_, _<_};
+ghost use lib.ListN.{length, drop};
+ghost use Rattle.rules.specs.Bytes.{all};
+ghost use Rattle.rules.specs.Letters.{isLetter};
+ghost use Rattle.rules.specs.Translation.{exceptionList};
+ghost use Rattle.rules.specs.Altered.{part};
+ghost use Rattle.rules.specs.Packed.{lettersBy};
+ghost use Rattle.edits.specs.Plans.{goesIn};
+ghost use Rattle.transcript.specs.Carrying.{Sourced, carriedBy};
+ghost use Rattle.altered.specs.Over.{Makes};
+ghost use Rattle.silent.specs.Comparing.{Sized, Stretch, ReadsAs, Unexcepted, Held};
+
+// Fills a buffer with letters of what goes in, from place i of it on.
+fn write_inside(letters: &[u8], form: Form, plan: Plan, new: &[u8], i: usize, out: &mut [u8])
+    requires { ⌜ Sourced plan (lettersBy form (now letters)) (now new) ⌝ }
+    requires { ⌜ i + length (now out) ≤ plan .kept ⌝ }
+    ensures { λ _. ⌜ now (out .exit) ≡ part i (i + length (now (out .entry))) (goesIn plan (lettersBy form (now (letters .entry))) (now (new .entry))) ⌝ }
+{
+    let source = plan.source;
+    let start = plan.start;
+    let end = plan.end;
+    let n = out.len();
+    match source {
+        Source::New => {
+            let last = i + n;
+            bytes::copy(&new[i..last], out);
+        }
+        Source::Copy => {
+            let first = start + i;
+            copy_letters(letters, form, first, first + n, out);
+        }
+        Source::Turned => {
+            let last = end - i;
+            turn_letters(letters, form, last - n, last, out);
+        }
+    }
+}
+
+// Fills a buffer with letters of the transcript that a plan makes, from a place on, which lie in what goes in or behind it.
+fn write_stretch(letters: &[u8], form: Form, plan: Plan, new: &[u8], at: usize, out: &mut [u8])
+    requires { ⌜ Makes plan (lettersBy form (now letters)) (now new) ⌝ }
+    requires { ⌜ Stretch plan at (length (now out)) (length (carriedBy plan (lettersBy form (now letters)) (now new))) ⌝ }
+    ensures { λ _. ⌜ now (out .exit) ≡ part at (at + length (now (out .entry))) (carriedBy plan (lettersBy form (now (letters .entry))) (now (new .entry))) ⌝ }
+{
+    let back = plan.from + plan.kept;
+    if at < back {
+        write_inside(letters, form, plan, new, at - plan.from, out);
+        return;
+    }
+    let first = at - back + plan.to;
+    copy_letters(letters, form, first, first + out.len(), out);
+}
+
+// How many first residues are those that a block of letters reads as.
+fn alike_read(block: &[u8], table: usize, own: &[u8]) -> usize
+    requires { ⌜ all isLetter (now block) ≡ true ⌝ }
+    requires { ⌜ length (now block) ≡ length (now own) * 3 ⌝ }
+    requires { ⌜ (table < 3) × (length (now own) ≤ 256) ⌝ }
+    ensures { λ r. ⌜ r ≤ length (now (own .entry)) ⌝ }
+    ensures each { λ r. ⌜ ReadsAs table (now (block .entry)) (now (own .entry)) r ⌝ }
+{
+    let n = own.len();
+    let plain = all_bases(block);
+    let mut residues = [0u8; 256];
+    write_translated(block, table, plain, no_exceptions(), &mut residues);
+    common_prefix_len(&residues[..n], own)
+}
+
+// How many first residues of R's part `own`, whose codons begin at a place, the codons that a plan makes from there on read as. Where the letters
+// are the reference's they aren't read.
+fn alike_in(
+    letters: &[u8],
+    form: Form,
+    table: usize,
+    plan: Plan,
+    new: &[u8],
+    at: usize,
+    own: &[u8],
+    block: &mut [u8],
+) -> usize
+    requires { ⌜ Makes plan (lettersBy form (now letters)) (now new) ⌝ }
+    requires { ⌜ Stretch plan at (length (now own) * 3) (length (carriedBy plan (lettersBy form (now letters)) (now new))) ⌝ }
+    requires { ⌜ Held table (lettersBy form (now letters)) at (now own) ⌝ }
+    requires { ⌜ length (now block) ≡ length (now own) * 3 ⌝ }
+    ensures { λ r. ⌜ r ≤ length (now (own .entry)) ⌝ }
+    ensures each { λ r. ⌜ ReadsAs table (drop at (carriedBy plan (lettersBy form (now (letters .entry))) (now (new .entry)))) (now (own .entry)) r ⌝ }
+{
+    write_stretch(letters, form, plan, new, at, block);
+    let n = block.len();
+    if same_by(letters, form, at, at + n, &block[..n]) {
+        return own.len();
+    }
+    alike_read(&block[..n], table, own)
+}
+
+// The same, with room for a block.
+pub(crate) fn alike_codons(
+    letters: &[u8],
+    form: Form,
+    table: usize,
+    plan: Plan,
+    new: &[u8],
+    at: usize,
+    own: &[u8],
+) -> usize
+    requires { ⌜ Makes plan (lettersBy form (now letters)) (now new) ⌝ }
+    requires { ⌜ Stretch plan at (length (now own) * 3) (length (carriedBy plan (lettersBy form (now letters)) (now new))) ⌝ }
+    requires { ⌜ Held table (lettersBy form (now letters)) at (now own) ⌝ }
+    ensures { λ r. ⌜ r ≤ length (now (own .entry)) ⌝ }
+    ensures each { λ r. ⌜ ReadsAs table (drop at (carriedBy plan (lettersBy form (now (letters .entry))) (now (new .entry)))) (now (own .entry)) r ⌝ }
+{
+    let n = own.len() * 3;
+    let mut block = [0u8; 768];
+    alike_in(letters, form, table, plan, new, at, own, &mut block[..n])
+}
+
+// How many codons from a place on, and at most `most`, lie in what goes in or behind it. None does before it, or across its end.
+pub(crate) fn stretch_codons(plan: Plan, at: usize, most: usize) -> usize
+    requires { ⌜ plan .from + plan .kept < 8589934592 ⌝ }
+    ensures { λ r. ⌜ Sized plan at most r ⌝ }
+{
+    if at < plan.from {
+        return 0;
+    }
+    let back = plan.from + plan.kept;
+    if at < back {
+        return least((back - at) / 3, most);
+    }
+    most
+}
+
+// How many of n codons behind the first k come before one with an exception, of either kind.
+pub(crate) fn clear_codons(e: Exceptions, moved: Exceptions, k: usize, n: usize) -> usize
+    requires { ⌜ (e .count ≤ 16) × (moved .count ≤ 16) ⌝ }
+    requires { ⌜ k + n < 4294967296 ⌝ }
+    ensures { λ r. ⌜ r ≤ n ⌝ }
+    ensures own { λ r. ⌜ Unexcepted (exceptionList e) k r ⌝ }
+    ensures moved { λ r. ⌜ Unexcepted (exceptionList moved) k r ⌝ }
+{
+    let past = k + n + 1;
+    let own = next_exception(e, k + 1, past);
+    let other = next_exception(moved, k + 1, past);
+    least(n, least(own, other) - (k + 1))
+}
