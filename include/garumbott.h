@@ -146,8 +146,8 @@ extern "C" {
 #define GARUMBOTT_CHANGE_DELINS 9
 
 /* Refusals. 0 is none. */
-#define GARUMBOTT_REFUSAL_LENGTH 1           /* the transcript has no letter, or more than GARUMBOTT_LONGEST; packed: not as many bytes as L has; or no form */
-#define GARUMBOTT_REFUSAL_LETTER 2           /* a letter isn't one of ACGTRYSWKMBDHVN (plain translation: either case, and U too); packed: 0, or the spare half isn't */
+#define GARUMBOTT_REFUSAL_LENGTH 1           /* the transcript has no letter, or more than GARUMBOTT_LONGEST; packed: bytes that aren't half of L, rounded up; or an unknown form */
+#define GARUMBOTT_REFUSAL_LETTER 2           /* a letter isn't one of ACGTRYSWKMBDHVN (plain translation: either case, and U too); packed: a letter is 0, or the spare half isn't */
 #define GARUMBOTT_REFUSAL_BOUNDS 3           /* not 1 <= cs <= ce <= L, or ce-cs+1 not divisible by 3 (a cut codon: divisible), or below 6 */
 #define GARUMBOTT_REFUSAL_TABLE 4            /* the table isn't 0, 1 or 2 */
 #define GARUMBOTT_REFUSAL_EXCEPTIONS 5       /* too many exceptions, a codon number or a residue that is none, or codon numbers out of order */
@@ -408,8 +408,8 @@ struct garumbott_answer garumbott_panel(const uint8_t *letters, uint64_t letters
  * accepted edits are answered the same.
  *
  * Refusals, the first that applies: 62, of either longest; 1 to 5; 6 or 28; the first edit's 7 to 10; the second's; 51; 52; 53; 11, a transcript buffer shorter than the pair's
- * length, which is letters_len plus both edits' length changes; 12, a protein buffer shorter than (pair's length - cs + 1) / 3, rounded up. Room that is
- * enough: garumbott_transcript_room of both edits, added, less letters_len, and garumbott_altered_room of that. GARUMBOTT_TRANSCRIPT_ROOM may be too
+ * length, which is L plus both edits' length changes; 12, a protein buffer shorter than (pair's length - cs + 1) / 3, rounded up. Room that is
+ * enough: garumbott_transcript_room of both edits, added, less L, and garumbott_altered_room of that. GARUMBOTT_TRANSCRIPT_ROOM may be too
  * short by up to GARUMBOTT_MOST_BASES, where nearly all of the longest transcript is copied and bases are inserted too. */
 struct garumbott_paired garumbott_pair(const uint8_t *letters, uint64_t letters_len, uint64_t cs, uint64_t ce, uint64_t table,
                                        const uint8_t *exceptions, uint64_t exceptions_len, uint64_t cds_end, uint64_t form, uint64_t size, uint64_t kind,
@@ -421,16 +421,16 @@ struct garumbott_paired garumbott_pair(const uint8_t *letters, uint64_t letters_
 
 /* ---- Editions ----------------------------------------------------------------------------------------------------------------------- */
 
-/* Compares two editions of a transcript, codon by codon, and lists what differs. The two references are each as in garumbott_record, of any table and end, each by
- * itself; they aren't asked to have anything in common.
+/* Compares two editions of a transcript, codon by codon, and lists what differs. The two references are each as in garumbott_record, of any table, end and form,
+ * each by itself; they aren't asked to have anything in common.
  *   out                          gets the list, four bytes a difference: the codon's number in two, high byte first, then its residue in the first
  *                                reference and in the second, 0 for one that has no such codon. The answer's len is in bytes, 4 for each
  *                                difference. GARUMBOTT_DIFFERENCES_ROOM is never too short, and neither is 4 bytes for each codon of the longer
  *                                CDS (50)
  * Codon n of one CDS stands beside codon n of the other; nothing is aligned. A codon is listed if its letters differ, or if it reads another residue, by its table or
  * an exception: "2 K K" tells of other letters with the same residue. Behind the end of the shorter CDS each codon of the longer one is listed. The one or two
- * bases of a cut codon count as a codon that reads 'X', and differ from a whole codon that begins with them. Bases outside the CDS, bounds, table and end are no
- * difference by themselves. The numbers rise, no codon is listed twice, none that is equal is listed, and the list is empty exactly if the two CDS
+ * bases of a cut codon count as a codon that reads 'X', and differ from a whole codon that begins with them. Bases outside the CDS, bounds, table, end and form
+ * are no difference by themselves. The numbers rise, no codon is listed twice, none that is equal is listed, and the list is empty exactly if the two CDS
  * have the same letters and residues. With the two references swapped the list is the same with its residues swapped.
  * ATGAAATAA and ATGAAGCCCTAA give "\0\2KK" "\0\3*P" "\0\4\0*".
  *
@@ -480,7 +480,7 @@ struct garumbott_stored garumbott_read_stored(const uint8_t *data, uint64_t data
  * garumbott_read_stored takes are written as they were, but for a tag 4 of length 0, which is left out.
  *
  * The form's length follows from the reference's numbers: garumbott_stored_room, below, tells it, exactly. The example's is 37.
- *     uint64_t room = garumbott_stored_room(r.letters_len, r.exceptions_len, r.end);
+ *     uint64_t room = garumbott_stored_room(r.letters_len, r.exceptions_len, r.end);   of packed letters: r.size in place of r.letters_len
  *     uint8_t *form = malloc(room);
  *     struct garumbott_length w = garumbott_write_stored_of(&r, form, room);   of a reference that isn't refused: w.len is room
  *
@@ -525,7 +525,7 @@ struct garumbott_length garumbott_write_stored(
 /* What garumbott_read_settings answers: the settings, or a refusal's number and every other number 0, but newer. */
 struct garumbott_settings {
     uint64_t refusal; /* GARUMBOTT_REFUSAL_.., or 0 */
-    uint64_t newer;   /* 1 beside refusal 60 where the store has a higher version than the reader knows, else 0 */
+    uint64_t newer;   /* 1 beside refusal 60 where the store has a higher version than the reader, of version 1 or 2, knows; else 0 */
     uint64_t version;
     uint64_t table;
     uint64_t profile;
@@ -533,8 +533,8 @@ struct garumbott_settings {
     uint64_t longest;
 };
 
-/* Reads settings as a reader does that knows the versions up to newest, GARUMBOTT_SETTINGS_FIRST or GARUMBOTT_SETTINGS_SECOND; any other reads nothing: 60. So a
- * host can ask what a bench that wasn't updated will make of a store. Refusals, the first that applies:
+/* Reads settings as a reader does that knows the versions up to newest, GARUMBOTT_SETTINGS_FIRST or GARUMBOTT_SETTINGS_SECOND; any other newest reads nothing: 60, and
+ * newer is 0 whatever the store has. So a host can ask what a bench that wasn't updated will make of a store. Refusals, the first that applies:
  *   60   the first field isn't tag 1 with one byte, or the version is 0, or above newest, which is marked as newer; nothing behind it is looked at
  *   61   a field is missing, cut off, extra (tag 5 in version 1 too), out of order or of wrong length, or bytes stand behind the last
  *   62   a content is out of range */
@@ -708,7 +708,9 @@ static inline struct garumbott_length garumbott_compare_of(const struct garumbot
 }
 
 /* Packs upper-case letters, two to a byte, for GARUMBOTT_FORM_PACKED. packed needs GARUMBOTT_PACKED_BYTES(letters_len) bytes. The first of these that
- * applies is given: 15, 2; a refusal changes no byte. */
+ * applies is given: 15, 2; a refusal changes no byte.
+ *     struct garumbott_length p = garumbott_pack(letters, letters_len, packed, packed_len);
+ *     r.letters = packed, r.letters_len = p.len, r.form = GARUMBOTT_FORM_PACKED, r.size = letters_len;   where p.refusal is 0 */
 #define GARUMBOTT_PACKED_BYTES(letters) ((letters) / 2 + (letters) % 2)
 
 static inline struct garumbott_length garumbott_pack(const uint8_t *letters, uint64_t letters_len, uint8_t *packed, uint64_t packed_len)
@@ -780,9 +782,12 @@ static inline const char *garumbott_answer_name(uint64_t answer)
 }
 
 /* The words of what is refused of a reference, the first of two as well as the second. */
-#define GARUMBOTT_WORDS_LENGTH "the transcript's length L is 0 or above its limit: the library takes up to 131,072; the text program keeps 16,384"
+#define GARUMBOTT_WORDS_LENGTH \
+    "the transcript's length L is 0 or above its limit: the library takes up to 131,072; the text program keeps 16,384; " \
+    "or the byte count of a packed transcript isn't half of L, rounded up, or its form is unknown"
 #define GARUMBOTT_WORDS_LETTER \
-    "a letter is not of ACGTRYSWKMBDHVN, the fifteen of a reference and of a complement; plain translation takes either case, and U as T"
+    "a letter is not of ACGTRYSWKMBDHVN, the fifteen of a reference and of a complement; plain translation takes either case, and U as T; " \
+    "or a packed transcript has an empty letter set, or its spare half isn't zero"
 #define GARUMBOTT_WORDS_BOUNDS \
     "the bounds break a rule: 1 <= cs <= ce <= length, ce-cs+1 divisible by 3 (not divisible where the CDS ends in a cut codon) " \
     "and at least 6"

@@ -1,5 +1,5 @@
 /* fuzz SECONDS SEED: for so long, and on 10,000 inputs at least, calls every entry point on random bytes, on good input and on damaged copies of
- * it, through fenced memory, and holds each answer to what can be told without a second account of the rules: no byte changes that shouldn't,
+ * it, packed letters too, through fenced memory, and holds each answer to what can be told without a second account of the rules: no byte changes that shouldn't,
  * every number is in its range, the answers of different entry points fit together, the altered transcript is what the edit makes of the letters, the codons
  * looked up are those that the edit doesn't leave alone, the record carried out on either protein gives the other, a proposed record gets its two answers by carrying it out on R, a longest
  * edit does to 10 what counting the new bases does, the panel profile answers as garumbott_record where its four tests, made plainly, pass, two edits of a haplotype make the letters that
@@ -48,7 +48,7 @@ static uint64_t strange(void)
 /* ---- checks ------------------------------------------------------------------------------------------------------------------------- */
 
 enum { REFUSALS = 160 };
-static unsigned long checks, faults, found[3], ends[3], begun, answers[5], classes[10], refusals[REFUSALS], verdicts[3], long_forms[2], profiled[2], kept[3], listed;
+static unsigned long checks, faults, found[3], ends[3], begun, answers[5], classes[10], refusals[REFUSALS], verdicts[3], long_forms[2], profiled[2], kept[3], listed, forms[2];
 static const char *doing = "";
 
 static void check(int good, const char *what)
@@ -76,6 +76,26 @@ static const uint8_t *lend(int which, enum fence_side side, const uint8_t *from,
 static int unchanged(int which, const uint8_t *lent)
 {
     return lent == NULL || fence_check(&fences[which], NULL, 0);
+}
+
+/* Lends a reference's letters as they are, or packed: a byte that is no letter is the empty set, and every answer is the same. */
+static void lend_letters(int which, enum fence_side side, const uint8_t *from, struct garumbott_reference *r)
+{
+    static const char sets[] = "ACMGRSVTWYHKDBN";
+    static uint8_t packed[GARUMBOTT_PACKED_BYTES(GARUMBOTT_LONGEST + 8)];
+    r->form = one_in(3) ? GARUMBOTT_FORM_PACKED : GARUMBOTT_FORM_BYTES;
+    r->size = r->form == GARUMBOTT_FORM_PACKED ? r->letters_len : strange();
+    forms[r->form]++;
+    if (r->form == GARUMBOTT_FORM_PACKED) {
+        memset(packed, 0, GARUMBOTT_PACKED_BYTES(r->size));
+        for (uint64_t i = 0; i < r->size; i++) {
+            const char *set = from[i] == 0 ? NULL : strchr(sets, from[i]);
+            if (set != NULL) packed[i / 2] = (uint8_t)(packed[i / 2] | (set - sets + 1) << (i % 2 == 0 ? 4 : 0));
+        }
+        from = packed;
+        r->letters_len = GARUMBOTT_PACKED_BYTES(r->size);
+    }
+    r->letters = lend(which, side, from, r->letters_len);
 }
 
 /* ---- input -------------------------------------------------------------------------------------------------------------------------- */
@@ -231,7 +251,7 @@ static void edit_call(int alone, enum fence_side side, const size_t size[3], str
     struct garumbott_reference r = ref;
     struct garumbott_coding_edit e = edit;
     struct garumbott_buffers b;
-    r.letters = lend(LETTERS, side, letters, ref.letters_len);
+    lend_letters(LETTERS, side, letters, &r);
     r.exceptions = lend(EXCEPTIONS, side, exceptions, ref.exceptions_len);
     e.bases = lend(BASES, side, bases, edit.bases_len);
     b.transcript = fence_fill(&fences[TRANSCRIPT], side, NULL, size[0]);
@@ -402,7 +422,7 @@ static void check_panel(const struct outcome *o, const struct outcome *wide)
     uint64_t net = edit.kind == GARUMBOTT_INSERTION ? edit.bases_len : edit.kind == GARUMBOTT_SUBSTITUTION ? 0 : (uint64_t)edit.end - (uint64_t)edit.start + 1, own = 0;
     if (behind_10) own = !four ? 40 : !kind || !inside ? 41 : net % 3 != 0 ? 42 : edit.kind == GARUMBOTT_SUBSTITUTION && named != letters[at] ? 43 : 0;
     if (own != 0) want = (struct garumbott_answer){.refusal = own};
-    r.letters = lend(LETTERS, side, letters, ref.letters_len);
+    lend_letters(LETTERS, side, letters, &r);
     r.exceptions = lend(EXCEPTIONS, side, exceptions, ref.exceptions_len);
     e.bases = lend(BASES, side, bases, edit.bases_len);
     struct garumbott_buffers b = {fence_fill(&fences[TRANSCRIPT], side, NULL, room[0]), room[0], fence_fill(&fences[REFERENCE], side, NULL, room[1]), room[1],
@@ -510,7 +530,7 @@ static void check_call(enum fence_side side, const size_t size[3], const struct 
 {
     struct garumbott_reference r = ref;
     struct garumbott_coding_edit e = edit;
-    r.letters = lend(LETTERS, side, letters, ref.letters_len);
+    lend_letters(LETTERS, side, letters, &r);
     r.exceptions = lend(EXCEPTIONS, side, exceptions, ref.exceptions_len);
     e.bases = lend(BASES, side, bases, edit.bases_len);
     const uint8_t *deleted = lend(DELETED, side, proposal.deleted, proposal.deleted_len), *inserted = lend(INSERTED, side, proposal.inserted, proposal.inserted_len);
@@ -648,7 +668,7 @@ static void pair_call(const struct carried *one, const struct carried *two, cons
     enum fence_side side = one_in(2) ? FENCE_END : FENCE_START;
     struct garumbott_reference r = ref;
     struct garumbott_coding_edit e = one->edit, f = two->edit;
-    r.letters = lend(LETTERS, side, letters, ref.letters_len);
+    lend_letters(LETTERS, side, letters, &r);
     r.exceptions = lend(EXCEPTIONS, side, exceptions, ref.exceptions_len);
     e.bases = lend(BASES, side, one->bases, e.bases_len);
     f.bases = lend(INSERTED, side, two->bases, f.bases_len);
@@ -950,7 +970,7 @@ static void fuzz_written(void)
     fences = n > 39000 || room_for > 39000 ? huge : n > 3000 || room_for > 3000 ? large : small;
     enum fence_side side = one_in(2) ? FENCE_END : FENCE_START;
     struct garumbott_reference r = ref;
-    r.letters = lend(LETTERS, side, letters, n);
+    lend_letters(LETTERS, side, letters, &r);
     r.exceptions = lend(EXCEPTIONS, side, exceptions, ref.exceptions_len);
     uint8_t *out = fence_fill(&fences[TRANSCRIPT], side, NULL, room_for);
     doing = "garumbott_write_stored";
@@ -1025,9 +1045,9 @@ static void fuzz_compare(void)
         uint64_t size = one_in(3) ? below(60) : one_in(2) && len != 0 ? len - 1 - below(4) : len;
         if (want == 0 && size < len) want = GARUMBOTT_REFUSAL_LIST;
         if (want != 0) len = 0;
-        r.letters = lend(LETTERS, side, r.letters, r.letters_len);
+        lend_letters(LETTERS, side, r.letters, &r);
         r.exceptions = lend(EXCEPTIONS, side, r.exceptions, r.exceptions_len);
-        s.letters = lend(BASES, side, s.letters, s.letters_len);
+        lend_letters(BASES, side, s.letters, &s);
         s.exceptions = lend(INSERTED, side, s.exceptions, s.exceptions_len);
         uint8_t *out = fence_fill(&fences[TRANSCRIPT], side, NULL, size);
         doing = "garumbott_compare";
@@ -1230,6 +1250,7 @@ int main(int argc, char **argv)
     printf("stored references with joined letters: %lu\n", long_forms[1]), check(long_forms[1] != 0, "no letters were joined");
     printf("edits that the profile accepts: %lu\n", profiled[1]), check(profiled[1] != 0, "the profile never accepts");
     printf("settings read: %lu, newer: %lu\n", kept[0], kept[1]), check(kept[0] != 0 && kept[1] != 0, "no settings were read, or none newer");
+    printf("packed letters: %lu, a byte each: %lu\n", forms[1], forms[0]), check(forms[0] != 0 && forms[1] != 0, "a form never came up");
     printf("lists of differences: %lu\n", listed), check(listed != 0, "no difference was listed");
     printf("R the beginning of A: %lu\n", begun), check(begun != 0, "R was never the beginning of A");
     for (int i = 1; i < 10; i++) printf("%s: %lu\n", garumbott_class_name((uint64_t)i), classes[i]), check(classes[i] != 0, "a class never came up");

@@ -2,13 +2,13 @@
  *
  * Input: a byte that says what follows.
  *   'p' letters, each string behind its length in eight bytes, high byte first as in every number: packs them.
- *   'r' an edit of a reference: its bytes, form, size, cs, ce, table, exceptions and end, kind, start_star, start, end_star, end, new bases, the room in each of
- *       the three buffers, and a proposal's number, deleted and inserted residues.
+ *   'r' an edit of a reference: its bytes, form, size, cs, ce, table, exceptions and end, kind, start_star, start, end_star, end, new bases, longest edit, the room
+ *       in each of the three buffers, and a proposal's number, deleted and inserted residues.
  *   'o' two edits of a reference, the base that the first names, and a second reference, both as for 'r', and the room of the buffers: of a transcript, R, A, a
  *       list of differences and a stored form.
  * Output: of 'p' what garumbott_pack answers into a buffer that has room, and one that is a byte too short, and the first buffer's bytes. Of 'r' what garumbott_record
- * answers and the three buffers, what garumbott_edit answers and the transcript's buffer, and what garumbott_check answers. Of 'o' what garumbott_pair, garumbott_panel,
- * garumbott_compare and garumbott_write_stored answer, each behind its buffers. */
+ * answers and the three buffers, what garumbott_edit answers and the transcript's buffer, and what garumbott_check answers and the three buffers. Of 'o' what
+ * garumbott_pair, garumbott_panel, garumbott_compare and garumbott_write_stored answer, each before its buffers. */
 #include "garumbott.h"
 #include <stdio.h>
 #include <stdlib.h>
@@ -110,6 +110,23 @@ static void edit_of(struct garumbott_coding_edit *e, uint8_t *new)
     e->end_star = number();
     e->end = signed_number();
     e->bases = string(new, &e->bases_len);
+    e->longest = number();
+}
+
+static void fill_all(const struct garumbott_buffers *b)
+{
+    fill(transcript, b->transcript_len);
+    fill(reference, b->reference_len);
+    fill(altered, b->altered_len);
+}
+
+/* A call's numbers, and all bytes of the three buffers. */
+static void put_all(const void *numbers, size_t size, const struct garumbott_buffers *b)
+{
+    put(numbers, size);
+    fwrite(transcript, 1, b->transcript_len, stdout);
+    fwrite(reference, 1, b->reference_len, stdout);
+    fwrite(altered, 1, b->altered_len, stdout);
 }
 
 static void call(void)
@@ -126,36 +143,16 @@ static void call(void)
     n = number();
     string(deleted, &deleted_len);
     string(inserted, &inserted_len);
-    fill(transcript, b.transcript_len);
-    fill(reference, b.reference_len);
-    fill(altered, b.altered_len);
+    fill_all(&b);
     struct garumbott_answer a = garumbott_record_of(&r, &e, &b);
-    put(&a, sizeof a);
-    fwrite(transcript, 1, b.transcript_len, stdout);
-    fwrite(reference, 1, b.reference_len, stdout);
-    fwrite(altered, 1, b.altered_len, stdout);
+    put_all(&a, sizeof a, &b);
     fill(transcript, b.transcript_len);
     a = garumbott_edit_of(&r, &e, &b);
     put(&a, sizeof a);
     fwrite(transcript, 1, b.transcript_len, stdout);
+    fill_all(&b);
     struct garumbott_checked c = garumbott_check_of(&r, &e, n, deleted, deleted_len, inserted, inserted_len, &b);
-    put(&c, sizeof c);
-}
-
-/* A call's numbers, and all bytes of the three buffers. */
-static void put_all(const void *numbers, size_t size, const struct garumbott_buffers *b)
-{
-    put(numbers, size);
-    fwrite(transcript, 1, b->transcript_len, stdout);
-    fwrite(reference, 1, b->reference_len, stdout);
-    fwrite(altered, 1, b->altered_len, stdout);
-}
-
-static void fill_all(const struct garumbott_buffers *b)
-{
-    fill(transcript, b->transcript_len);
-    fill(reference, b->reference_len);
-    fill(altered, b->altered_len);
+    put_all(&c, sizeof c, &b);
 }
 
 static void others(void)

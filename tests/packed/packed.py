@@ -28,10 +28,10 @@ def packed(letters):
     return bytes(sets[i] * 16 + sets[i + 1] for i in range(0, len(letters), 2))
 
 
-# A case: bytes, form, size, cs, ce, table, exceptions, end, edit, the room in each buffer, a proposal
+# A case: bytes, form, size, cs, ce, table, exceptions, end, edit, the room in each buffer, a proposal, the edit's longest edit
 
-def case(data, form, size, cs, ce, edit, room=(64, 24, 24), table=0, exceptions=(), end=0, proposal=(1, "", "")):
-    return data, form, size, cs, ce, table, exceptions, end, edit, room, proposal
+def case(data, form, size, cs, ce, edit, room=(64, 24, 24), table=0, exceptions=(), end=0, proposal=(1, "", ""), longest=0):
+    return data, form, size, cs, ce, table, exceptions, end, edit, room, proposal, longest
 
 
 def number(n):
@@ -48,22 +48,22 @@ def told_reference(c):
     return string(data) + number(form) + number(size) + number(cs) + number(ce) + number(table) + string(x) + number(end)
 
 
-def told_edit(edit):
+def told_edit(edit, longest=0):
     kind = account.KINDS.index(edit.kind) + 1 if edit.kind in account.KINDS else 8
     places = b"".join(number(sign == "*") + number(-n if sign == "-" else n) for sign, n in (edit.start, edit.end))
-    return number(kind) + places + string(edit.bases.encode())
+    return number(kind) + places + string(edit.bases.encode()) + number(longest)
 
 
 def told(c):
-    edit, room, proposal = c[8:]
-    return b"r" + told_reference(c) + told_edit(edit) + b"".join(map(number, room)) + number(proposal[0]) + string(proposal[1].encode()) + string(proposal[2].encode())
+    edit, room, proposal, longest = c[8:]
+    return b"r" + told_reference(c) + told_edit(edit, longest) + b"".join(map(number, room)) + number(proposal[0]) + string(proposal[1].encode()) + string(proposal[2].encode())
 
 
 # The other functions: a case as above, a second edit, the base that the first names, a second case for its reference, the room of a list and of a form
 
 def told_others(o):
     c, second, named, other, rooms = o
-    return b"o" + told_reference(c) + told_edit(c[8]) + told_edit(second) + number(named) + told_reference(other) + b"".join(map(number, c[9] + rooms))
+    return b"o" + told_reference(c) + told_edit(c[8], c[11]) + told_edit(second) + number(named) + told_reference(other) + b"".join(map(number, c[9] + rooms))
 
 
 def filled(room):
@@ -72,6 +72,12 @@ def filled(room):
 
 def written(text, room):
     return text.encode() + filled(room)[len(text):]
+
+
+def edited_reference(c):
+    """The reference of an edit, whose longest edit is judged before it."""
+    account.most_bases(c[11])
+    return checked_reference(c)
 
 
 def checked_reference(c):
@@ -108,15 +114,15 @@ def or_refused(answer, numbers, place=0):
 
 def expected_others(o):
     c, second, named, other, rooms = o
-    edit, room = c[8:10]
+    edit, room, _, longest = c[8:]
 
     def pair():
-        transcript, protein = account.paired(checked_reference(c), edit, second, (room[0], room[2]))
+        transcript, protein = account.paired(edited_reference(c), edit, second, (room[0], room[2]), (longest, 0))
         return [0, len(transcript), len(protein)], (transcript, "", protein)
 
     def panel():
-        ref = checked_reference(c)
-        return told_answer(ref, *account.answer(ref, edit, 0, named), room)
+        ref = edited_reference(c)
+        return told_answer(ref, *account.answer(ref, edit, longest, named), room)
 
     def compare():
         one = checked_reference(c)
@@ -139,25 +145,26 @@ def expected_others(o):
 
 
 def expected(c):
-    edit, room, proposal = c[8:]
+    edit, room, proposal, longest = c[8:]
     out = []
     for alone in (False, True):
         def answer():
-            ref = checked_reference(c)
-            record, altered = account.answer(ref, edit)
+            ref = edited_reference(c)
+            record, altered = account.answer(ref, edit, longest)
             if altered is None or not alone:
                 return told_answer(ref, record, altered, room)
             account.refuse(11, room[0] < len(altered.transcript))
             return [4, 0, int(altered.flag), len(altered.transcript)] + [0] * 10, (altered.transcript, "", "")
         n, texts = or_refused(answer, 14, 1)
         out.append(b"".join(map(number, n)) + buffers(texts, room[:1] if alone else room))
-    try:
-        ref = checked_reference(c)
-        (first, second), altered = account.checked(ref, edit, *proposal, room)
-        n = [0, int(first), int(second), len(altered.transcript), len(ref.protein), len(altered.protein)]
-    except account.Refused as refused:
-        n = [refused.number, 0, 0, 0, 0, 0]
-    return out[0] + out[1] + b"".join(map(number, n))
+
+    def check():
+        ref = edited_reference(c)
+        (first, second), altered = account.checked(ref, edit, *proposal, room, longest)
+        texts = altered.transcript, ref.protein, altered.protein
+        return [0, int(first), int(second)] + [len(t) for t in texts], texts
+    n, texts = or_refused(check, 6)
+    return out[0] + out[1] + b"".join(map(number, n)) + buffers(texts, room)
 
 
 def run(command, given):
@@ -235,7 +242,34 @@ def bytewise():
         for form in (0, 2, 3, 255, 256, 257, 2**32, 2**32 + 1, 2**64 - 1):
             yield case(data, form, size, cs, ce, IDENTITY)
             yield case(letters.encode(), form, size, cs, ce, IDENTITY)
+            yield case(data, form, size, cs, ce, IDENTITY, longest=4097)
             yield case(letters.encode(), form, 2**64 - 1, cs, ce, IDENTITY)
+
+
+def position(place, cs, ce):
+    """The position of a place, counted from 0."""
+    return ("*", place - ce + 1) if place >= ce else ("", place - cs + 2) if place >= cs - 1 else ("-", cs - 1 - place)
+
+
+def fitted(chance, reference, edit):
+    """Room in each buffer, plenty, exactly what an edit asks for or a byte less in one of them; and a proposal, the edit's own record or one near it."""
+    size = len(reference.letters)
+    plenty, nothing = (2 * size + 8, size // 3 + 2, size + 8), (1, "", "")
+    try:
+        ref = reference.check()
+        record, altered = account.answer(ref, edit)
+    except account.Refused:
+        return plenty, nothing
+    if altered is None:
+        return chance.choice((plenty, (0, 0, 0))), nothing
+    exact = [len(altered.transcript), len(ref.protein), -(-(len(altered.transcript) - ref.cs + 1) // 3)]
+    short = chance.randrange(8)
+    if short < 3 and exact[short]:
+        exact[short] -= 1
+    part = lambda protein, where: protein[where[0]:where[0] + where[1]]
+    own = record.number, part(ref.protein, record.deleted), part(altered.protein, record.inserted)
+    near = chance.choice((own, own, (own[0] + 1, own[1], own[2]), (own[0], own[1], own[2] + "W"), (own[0], own[1] + "x", own[2])))
+    return (plenty if short == 3 else tuple(exact)), near
 
 
 def randomly(count, seed):
@@ -251,20 +285,20 @@ def randomly(count, seed):
             letters = letters[:ce - 3] + chance.choice(("TAA", "TAG", "TGA", "TAR")) + letters[ce:]
         exceptions = sorted({(chance.randrange(1, codons), chance.choice("UKX")) for _ in range(chance.choice((0, 0, 1, 3)))}, key=lambda x: x[0])
         exceptions = [x for i, x in enumerate(exceptions) if i == 0 or exceptions[i - 1][0] != x[0]]
-        first = chance.randrange(1, ce - cs + 2)
-        last = min(ce - cs + 1, first + chance.randrange(8))
+        first = chance.randrange(cs - 1, ce) if chance.random() < 0.8 else chance.randrange(cs)
+        last = first + (chance.randrange(8) if chance.random() < 0.6 else chance.randrange(len(letters)))
+        last = last if last < len(letters) or chance.random() < 0.1 else len(letters) - 1
         kind = chance.choice(account.KINDS)
         if kind == "substitution":
             last = first
         if kind == "insertion":
             last = first + 1
         bases = "".join(chance.choice("ACGTACGTACGTRYN") for _ in range({"substitution": 1, "delins": 5, "insertion": 7}.get(kind, 0)))
-        start, stop = ("", first), (("", last) if last <= ce - cs + 1 else ("*", 1))
-        edit = account.Edit(kind, start, stop, bases)
-        room = (2 * len(letters) + 8, len(letters) // 3 + 2, len(letters) + 8)
-        table = chance.choice((0, 0, 0, 1, 2))
+        edit = account.Edit(kind, position(first, cs, ce), position(last, cs, ce), bases)
+        table, longest = chance.choice((0, 0, 0, 1, 2)), chance.choice((0, 0, 0, 0, 4, 5, 7, 4096, 4097))
+        room, proposal = fitted(chance, account.Reference(letters, cs, ce, table, exceptions, end), edit)
         for form, data in ((1, packed(letters)), (0, letters.encode())):
-            yield case(data, form, len(letters), cs, ce, edit, room, table, exceptions, end)
+            yield case(data, form, len(letters), cs, ce, edit, room, table, exceptions, end, proposal, longest)
 
 
 def others(count, seed):
@@ -284,6 +318,31 @@ def others(count, seed):
         named = chance.choice(b"ACGTACGTN") if c[8].kind == "substitution" else 0
         listed = chance.choice((0, 4, 4096))
         yield c, second, named, other, (listed, chance.choice((0, len(data), 4096)))
+
+
+def longest_ones(seed):
+    """References of the greatest lengths, in one form, with edits at their beginning, in their middle and near their end."""
+    chance = random.Random(seed)
+    for size in (65537, account.LONGEST - 1, account.LONGEST):
+        cs = 1 + size % 2
+        ce = cs - 1 + (size - 8) // 3 * 3
+        codons = [chance.choice(("GCC", "AAR", "TGG", "NNN", "CAY", "ATG")) for _ in range((ce - cs + 1) // 3 - 1)]
+        letters = "C" * (cs - 1) + "".join(codons) + "TAA" + "G" * (size - ce)
+        for kind, start, end, bases in (("substitution", 8, 8, "G"), ("inversion", 1000, ce - cs - 1000, ""), ("deletion", ce - cs - 9, ce - cs - 7, ""), ("duplication", 5, ce - cs, "")):
+            edit = account.Edit(kind, ("", start), ("", end), bases)
+            yield case(packed(letters), 1, size, cs, ce, edit, (account.LONGEST * 2, account.LONGEST // 3 + 1, account.LONGEST))
+
+
+def long_others(seed):
+    """The other functions on the longest of them, and on its other form with another letter."""
+    first = list(longest_ones(seed))[-4]
+    data, _, size, cs, ce = first[:5]
+    letters = bytearray(account.held(1, size, data).encode())
+    letters[70000] = ord("G") if letters[70000] != ord("G") else ord("C")
+    other = case(bytes(letters), 0, 0, cs, ce, IDENTITY)
+    behind = account.Edit("deletion", ("", ce - cs - 9), ("", ce - cs - 7))
+    yield first, behind, ord("A"), other, (4096, size + 64)
+    yield other[:8] + first[8:], behind, ord("A"), first, (4096, size + 64)
 
 
 def packing(command):
@@ -374,5 +433,7 @@ else:
     compare(sys.argv[1:], bytewise(), "every byte in each place, wrong sizes and forms")
     compare(sys.argv[1:], randomly(4000, 1), "random references in both forms")
     compare(sys.argv[1:], others(3000, 2), "two edits, the profile, two editions, a stored form", told_others, expected_others)
+    compare(sys.argv[1:], longest_ones(3), "transcripts of up to 131,072 letters")
+    compare(sys.argv[1:], long_others(3), "the others on the longest", told_others, expected_others)
     compare(sys.argv[1:], [case(b"", 1, 0, 1, 0, IDENTITY, room=(0, 0, 0))], "no letter")
     short(sys.argv[1:])

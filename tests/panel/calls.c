@@ -1,7 +1,7 @@
 /* Calls garumbott_panel as standard input says, and writes every answer and all bytes of the lent buffers to standard output, for panel.py.
  *
  * Input, each number a byte, each string behind its length: for a reference its letters, cs, ce, table and end, then the number of edits in two bytes, high
- * byte first; for an edit its kind, start_star, start, end_star, end, new bases, longest edit, the named base in two bytes, and the room in each of the three
+ * byte first; for an edit its kind, start_star, start, end_star, end, new bases, longest edit, the named base in eight bytes, and the room in each of the three
  * buffers. Output: for an edit what garumbott_panel answers, each number a byte, and the buffers; then 1 or 0, whether that is what garumbott_record answers and
  * writes, or a refusal of 40 to 43 where that isn't refused with 62 or 1 to 10. */
 #include "garumbott.h"
@@ -36,6 +36,13 @@ static uint64_t two_bytes(void)
 {
     uint64_t high = byte();
     return high * 256 + byte();
+}
+
+static uint64_t eight_bytes(void)
+{
+    uint64_t n = 0;
+    for (int i = 0; i < 8; i++) n = n << 8 | byte();
+    return n;
 }
 
 static const uint8_t *string(uint8_t *to, uint64_t *len)
@@ -77,7 +84,7 @@ int main(void)
             e.end = signed_byte();
             e.bases = string(bases, &e.bases_len);
             e.longest = byte();
-            uint64_t named = two_bytes();
+            uint64_t named = eight_bytes();
             struct garumbott_buffers b = {lent, 0, lent + TRANSCRIPT, 0, lent + TRANSCRIPT + REFERENCE, 0};
             b.transcript_len = byte();
             b.reference_len = byte();

@@ -44,7 +44,7 @@ def edits(letters, cs, ce):
     for kind, news in NEW.items():
         for start, end in itertools.product(places, repeat=2):
             near = places.index(end) - places.index(start)
-            if kind == "substitution" and abs(near) > 1 or kind == "insertion" and not -1 <= near <= 2 or near < -2:
+            if kind == "substitution" and abs(near) > 1 or kind == "insertion" and not -1 <= near <= 3 or near < -2:  # *1 is the third behind the last base
                 continue
             for new in news:
                 yield account.Edit(kind, start, end, new)
@@ -56,7 +56,7 @@ def named_bases(letters, cs, edit, turn):
     if edit.kind != "substitution" or edit.start[0] or not 0 <= at < len(letters):
         return [(65, 84, 0, 999)[turn % 4]]
     there = ord(letters[at])
-    return [there, there + 32, there + 256, 0] + [ord(base) for base in "ACGTN" if ord(base) != there]
+    return [there, there + 32, there + 256, there + 2**16, there + 2**32, there + 2**63, 0] + [ord(base) for base in "ACGTN" if ord(base) != there]
 
 
 def answered(ref, edit, longest, named, turn):
@@ -99,7 +99,7 @@ def blocks():
                 turn += 1
                 longest = (0, 0, 1, 3, 5)[turn % 5]
                 room, want = answered(ref, edit, longest, named, turn) if ref else (ends.PLENTY, no)
-                calls.append(ends.packed(edit) + bytes([longest]) + ends.two(named) + bytes(room))
+                calls.append(ends.packed(edit) + bytes([longest]) + named.to_bytes(8, "big") + bytes(room))
                 wants.append(want + b"\1")
                 said.append((letters, cs, ce, table, end, edit.kind, edit.start, edit.end, edit.bases, longest, named, room))
         for at in range(0, len(calls), 65535):

@@ -3,8 +3,9 @@
  *   w VERSION TABLE PROFILE WIDTH LONGEST ROOM        garumbott_write_settings: its two numbers, and all bytes of the buffer in hex
  *   e EDIT                                            an edit of the worked reference by garumbott_record, garumbott_edit, garumbott_panel (an A is named) and
  *                                                     garumbott_check (record 0 - -): answer, refusal and transcript_len of the first three, the refusal
- *                                                     of the fourth, and 1 where the refused ones left every byte of the buffers
- *   p EDIT EDIT                                       two edits by garumbott_pair: its three numbers, and that 1
+ *                                                     of the fourth, and 1 where the refused ones left every byte of the buffers; then the four
+ *                                                     refusals where the reference is refused with 1
+ *   p EDIT EDIT                                       two edits by garumbott_pair: its three numbers, and that 1; then the refusal likewise
  * where an EDIT is LONGEST KIND START END COUNT LETTER: COUNT new bases, all LETTER, with that longest edit. */
 #include "garumbott.h"
 #include <inttypes.h>
@@ -15,6 +16,7 @@
 enum { STORE = 24, TRANSCRIPT = 10000, PROTEIN = 4000, LINE = 400 };
 static uint8_t transcript[TRANSCRIPT], reference[PROTEIN], altered[PROTEIN], bases[2][5000];
 static const struct garumbott_reference worked = {.letters = (const uint8_t *)"GGATGGCCAAATGGTAACCTGAC", .letters_len = 23, .cs = 3, .ce = 17};
+static const struct garumbott_reference refused = {.form = 2};
 static const struct garumbott_buffers buffers = {transcript, sizeof transcript, reference, sizeof reference, altered, sizeof altered};
 
 static unsigned half(char c)
@@ -97,7 +99,9 @@ static void edit(const char *line)
     put_answer(garumbott_panel_of(&worked, &e, 'A', &buffers), &kept);
     struct garumbott_checked checked = garumbott_check_of(&worked, &e, 0, NULL, 0, NULL, 0, &buffers);
     kept &= checked.refusal == 0 || is_filled();
-    printf("%" PRIu64 " %d\n", checked.refusal, kept);
+    printf("%" PRIu64 " %d ", checked.refusal, kept);
+    printf("%" PRIu64 " %" PRIu64 " %" PRIu64 " %" PRIu64 "\n", garumbott_record_of(&refused, &e, &buffers).refusal, garumbott_edit_of(&refused, &e, &buffers).refusal,
+           garumbott_panel_of(&refused, &e, 'A', &buffers).refusal, garumbott_check_of(&refused, &e, 0, NULL, 0, NULL, 0, &buffers).refusal);
 }
 
 static void pair(const char *line)
@@ -105,7 +109,8 @@ static void pair(const char *line)
     struct garumbott_coding_edit e = edit_in(&line, bases[0]), f = edit_in(&line, bases[1]);
     fill();
     struct garumbott_paired p = garumbott_pair_of(&worked, &e, &f, &buffers);
-    printf("%" PRIu64 " %" PRIu64 " %" PRIu64 " %d\n", p.refusal, p.transcript_len, p.altered_len, p.refusal == 0 || is_filled());
+    printf("%" PRIu64 " %" PRIu64 " %" PRIu64 " %d ", p.refusal, p.transcript_len, p.altered_len, p.refusal == 0 || is_filled());
+    printf("%" PRIu64 "\n", garumbott_pair_of(&refused, &e, &f, &buffers).refusal);
 }
 
 int main(void)

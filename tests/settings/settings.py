@@ -77,6 +77,9 @@ def write_lines():
         for place in range(5):
             for n in LARGE:
                 yield settings[:place] + (n,) + settings[place + 1:], STORE
+            for room in (0, 15, 20):  # 60 and 62 before 63
+                yield settings[:place] + (9999,) + settings[place + 1:], room
+    yield (1, 0, 1, 3, 5), 0
 
 
 def write_answer(settings, room):
@@ -131,7 +134,12 @@ def edit_answer(*given):
         words.append("0")
     except account.Refused as refusal:
         words.append(str(refusal.number))
-    return " ".join(words) + " 1"
+    return " ".join(words) + " 1" + f" {before_all(longest)}" * 4
+
+
+def before_all(*longests):
+    """What is refused where the reference is refused with 1: 62 stands before it."""
+    return 62 if any(longest > 4096 for longest in longests) else 1
 
 
 # Pairs of edits, each with a longest edit of its own
@@ -149,13 +157,14 @@ def pair_lines():
 
 
 def pair_answer(first, second):
+    refused = before_all(first[0], second[0])
     try:
         for longest in (first[0], second[0]):
             account.most_bases(longest)
         transcript, protein = account.paired(WORKED, edit_of(*first), edit_of(*second), longest=(first[0], second[0]))
-        return f"0 {len(transcript)} {len(protein)} 1"
+        return f"0 {len(transcript)} {len(protein)} 1 {refused}"
     except account.Refused as refusal:
-        return f"{refusal.number} 0 0 1"
+        return f"{refusal.number} 0 0 1 {refused}"
 
 
 def plain(*words):
