@@ -2055,8 +2055,9 @@ static void *call_nothing(void *given)
     return given;
 }
 
-/* Of each kind: 131,072 letters, and 16,384, at a stop and cut short. */
-static struct garumbott_reference stacked[4];
+/* Of each kind: 131,072 letters, and 16,384, at a stop and cut short; and the same packed. */
+enum { STACKED = 8 };
+static struct garumbott_reference stacked[STACKED];
 
 static void make_stacked(void)
 {
@@ -2069,21 +2070,29 @@ static void make_stacked(void)
     stacked[1].letters = cut_short;
     stacked[2] = longest_reference();
     stacked[3] = endless_reference();
+    for (int i = 4; i < STACKED; i++) {
+        static uint8_t packed[4][GARUMBOTT_PACKED_BYTES(GARUMBOTT_LONGEST)];
+        struct garumbott_reference *r = &stacked[i];
+        *r = stacked[i - 4];
+        r->form = GARUMBOTT_FORM_PACKED;
+        r->size = r->letters_len;
+        r->letters_len = garumbott_pack(r->letters, r->size, packed[i - 4], sizeof packed[0]).len;
+        r->letters = packed[i - 4];
+        check(r->letters_len == GARUMBOTT_PACKED_BYTES(r->size), "stack", "letters not packed");
+    }
 }
 
 static void *call_record(void *given)
 {
     struct garumbott_buffers b = {on_t, sizeof on_t, on_r, sizeof on_r, on_a, sizeof on_a};
-    for (int i = 0; i < 4; i++) garumbott_record_of(&stacked[i], given, &b);
+    for (int i = 0; i < STACKED; i++) garumbott_record_of(&stacked[i], given, &b);
     return NULL;
 }
 
 static void *call_panel(void *given)
 {
     struct garumbott_buffers b = {on_t, sizeof on_t, on_r, sizeof on_r, on_a, sizeof on_a};
-    struct garumbott_reference r = longest_reference(), cut = endless_reference();
-    garumbott_panel_of(&r, given, 'A', &b);
-    garumbott_panel_of(&cut, given, 'A', &b);
+    for (int i = 0; i < STACKED; i++) garumbott_panel_of(&stacked[i], given, 'A', &b);
     return NULL;
 }
 
@@ -2093,7 +2102,7 @@ static void *call_check(void *given)
     static uint8_t residues[GARUMBOTT_ALTERED_ROOM];
     struct garumbott_buffers b = {on_t, sizeof on_t, on_r, sizeof on_r, on_a, sizeof on_a};
     memset(residues, 'A', sizeof residues);
-    for (int i = 0; i < 4; i++) {
+    for (int i = 0; i < STACKED; i++) {
         struct garumbott_reference excepted = stacked[i];
         excepted.exceptions = bytes("\0\2U\25\120U");
         excepted.exceptions_len = 6;
@@ -2106,7 +2115,7 @@ static void *call_check(void *given)
 static void *call_edit(void *given)
 {
     struct garumbott_buffers b = {on_t, sizeof on_t, on_r, sizeof on_r, on_a, sizeof on_a};
-    for (int i = 0; i < 4; i++) garumbott_edit_of(&stacked[i], given, &b);
+    for (int i = 0; i < STACKED; i++) garumbott_edit_of(&stacked[i], given, &b);
     return NULL;
 }
 
@@ -2116,7 +2125,7 @@ static void *call_pair(void *given)
     static uint8_t room[GARUMBOTT_TRANSCRIPT_ROOM + GARUMBOTT_MOST_BASES];
     static const struct garumbott_coding_edit behind = TWO_NEW(DELINS, 16000, 16001, "ACGTN");
     struct garumbott_buffers b = {room, sizeof room, NULL, 0, on_a, sizeof on_a};
-    for (int i = 0; i < 4; i++) {
+    for (int i = 0; i < STACKED; i++) {
         garumbott_pair_of(&stacked[i], given, &behind, &b);
         garumbott_pair_of(&stacked[i], &behind, given, &b);
     }
@@ -2126,7 +2135,7 @@ static void *call_pair(void *given)
 /* Two that differ in each codon, cut short and with exceptions. */
 static void *call_compare(void *given)
 {
-    for (int i = 0; i < 4; i++) {
+    for (int i = 0; i < STACKED; i++) {
         struct garumbott_reference r = stacked[i];
         r.exceptions = bytes("\0\2U");
         r.exceptions_len = 3;
@@ -2139,7 +2148,7 @@ static void *call_compare(void *given)
 static void *call_stored(void *given)
 {
     static uint8_t form[LONGEST_FORM], joined[GARUMBOTT_LONGEST];
-    for (int i = 0; i < 4; i++) {
+    for (int i = 0; i < STACKED; i++) {
         struct garumbott_reference r = stacked[i];
         r.exceptions = bytes("\0\2U");
         r.exceptions_len = 3;
