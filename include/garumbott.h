@@ -378,8 +378,8 @@ struct garumbott_checked garumbott_check(const uint8_t *letters, uint64_t letter
  * and deletions, duplications and insertions that change the length by a multiple of three, with both ends in the CDS; and the base that a substitution names must be
  * the one there. Whatever the profile accepts gets garumbott_record's answer, to the letter, in the buffers too, and it refuses nothing else than what is
  * listed. The parameters are garumbott_record's, and
- *   named                        the base that a substitution names, as a byte, 'A'; any number but that of the letter there differs (43). Not looked at in
- *                                other kinds
+ *   named                        the base that a substitution names, as a byte, 'A', in a packed transcript too; any number but that of the letter there
+ *                                differs (43). Not looked at in other kinds
  * Refusals: 62; 1 to 5; 6 or 28; 7 to 10; then the lowest of
  *   40   a letter of the transcript, in its untranslated parts too, or a new base is outside the four
  *   41   a delins, an inversion or an identity, or a position that is negative or a star, an insertion's right one too
@@ -543,7 +543,7 @@ struct garumbott_settings garumbott_read_settings(uint64_t newest, const uint8_t
 /* Writes settings in a version, 16 or 21 bytes. What is written is read back as the same settings, and what was read, written again, is the same bytes. Refusals,
  * the first that applies:
  *   60   the version isn't 1 or 2
- *   62   a content is out of range, or the version is 1 and longest isn't 4,096
+ *   62   a content is out of range, a longest of 0 too, which only a call takes for 4,096; or the version is 1 and longest isn't 4,096
  *   63   out is shorter than the store */
 struct garumbott_length garumbott_write_settings(uint64_t version, uint64_t table, uint64_t profile, uint64_t width, uint64_t longest,
                                                  uint8_t *out, uint64_t out_len);
