@@ -32,7 +32,7 @@ use Rattle.transcript.proofs.Transcripts.{length-goes-in, length-carried-by, co
 use Rattle.altered.specs.Over.{Makes}
 
 -- a letter of a reverse complement is that of the letter as far from the end
-complement-at : (s : List ℕ) (m i : ℕ) → m ≤ length s → i < m → getD (reverseComplement (take m s)) i 0 ≡ complement (getD s (m - 1 - i) 0)
+pub complement-at : (s : List ℕ) (m i : ℕ) → m ≤ length s → i < m → getD (reverseComplement (take m s)) i 0 ≡ complement (getD s (m - 1 - i) 0)
 complement-at s zero i h k = absurd (omega arith)
 complement-at s (suc m) zero h k =
     let last : m ≡ suc m - 1 - 0 = omega arith in
@@ -109,7 +109,7 @@ module _ (p : Plan) (letters new : List ℕ) (m : Makes p letters new) where
       ∙ getD-append-add (take (p .from) letters) (goesIn p letters new ++ drop (p .to) letters) (length (goesIn p letters new) + n) 0
       ∙ getD-append-add (goesIn p letters new) (drop (p .to) letters) n 0 ∙ getD-drop (p .to) letters n 0 ∙ ap (λ (j : ℕ). getD letters j 0) old)
 
-  letters-made : all isLetter (carriedBy p letters new) ≡ true
+  pub letters-made : all isLetter (carriedBy p letters new) ≡ true
   unfolding carriedBy carried goesIn
   letters-made =
       let old = m .source .letters-are in

@@ -1,15 +1,19 @@
 -- Laws of what a transcript and the one that a plan makes of it share: the beginning, and the ending behind it.
 -- Assumes nothing.
 use mathlib.Core.Path.{_≡_, refl, sym, ap, _∙_}
-use mathlib.Core.List.{List, _++_, append-assoc}
+use mathlib.Core.Bool.{Bool, true, false}
+use mathlib.Core.List.{List, [], _∷_, _++_, append-assoc, reverse, reverse-append}
 use Prim.Native.Nat.{ℕ, zero, suc, _+_, _-_, _≤_, _<_}
 use native.Mathlib.Omega.{arith}
-use lib.ListN.{length, take, drop, getD, length-append, length-take, length-drop, take-append-drop}
-use lib.Seq.{length-take-le, drop-drop, drop-at, drop-append-add, getD-drop}
+use lib.ListN.{length, take, drop, getD, length-append, length-take, length-drop, length-reverse, take-append-drop}
+use lib.Dec.{eqb}
+use lib.Seq.{length-take-le, take-take, take-add, take-at, drop-drop, drop-at, drop-append-add, getD-drop}
 use Rattle.rules.specs.Trims.{commonPrefix, commonSuffix}
-use Rattle.rules.specs.Altered.{carried}
+use Rattle.rules.specs.Bytes.{if_then_else_}
+use Rattle.rules.specs.Altered.{part, carried}
 use Rattle.rules.specs.Exceptions.{suffixBehind}
-use Rattle.rules.proofs.Trims.{cp-append, cs-append, cs-le-l, cs-le-r, cs-more-at, cs-stop-at}
+use Rattle.rules.proofs.Trims.{cp-take, cp-append, cs-append, cs-drop, cs-le-l, cs-le-r}
+use Rattle.rules.proofs.Parts.{length-part}
 use Rattle.edits.specs.declared.plans.Plan.{Plan}
 use Rattle.edits.specs.Plans.{goesIn}
 use Rattle.transcript.specs.Carrying.{carriedBy}
@@ -18,6 +22,43 @@ use Rattle.exceptions.specs.Moving.{Moves, Lengths, Shared}
 use Rattle.exceptions.proofs.Moving.{lengths-of}
 use Rattle.altered.specs.Over.{Makes}
 use Rattle.altered.proofs.Letters.{length-made}
+
+-- what two lists share within n first letters, they share
+pub short-front : (n : ℕ) (a b : List ℕ) → n ≤ length a → n ≤ length b → commonPrefix (take n a) (take n b) < n → commonPrefix a b ≡ commonPrefix (take n a) (take n b)
+unfolding commonPrefix
+short-front zero a b h k l = absurd (omega arith)
+short-front (suc n) [] b h k l = absurd (omega arith)
+short-front (suc n) (x ∷ a) [] h k l = absurd (omega arith)
+short-front (suc n) (x ∷ a) (y ∷ b) h k l = by (eqb x y) l (λ m. short-front n a b (omega arith) (omega arith) m)
+  where
+    by : (q : Bool) → (if q then suc (commonPrefix (take n a) (take n b)) else 0) < suc n → (commonPrefix (take n a) (take n b) < n → commonPrefix a b ≡ commonPrefix (take n a) (take n b))
+        → (if q then suc (commonPrefix a b) else 0) ≡ (if q then suc (commonPrefix (take n a) (take n b)) else 0)
+    by true m next = ap suc (next (omega arith))
+    by false m next = refl
+
+-- a block of n letters from place i on: they are shared up to the first that differs, or all are
+module _ (s t : List ℕ) (i n r : ℕ) (h : i + n ≤ length s) (k : i + n ≤ length t) (is : r ≡ commonPrefix (part i (i + n) s) (part i (i + n) t)) where
+  few : i + n - i ≡ n
+  few = omega arith
+
+  firsts : r ≡ commonPrefix (take n (drop i s)) (take n (drop i t))
+  unfolding part
+  firsts = is ∙ rw few
+
+  pub block-parts : r < n → commonPrefix (drop i s) (drop i t) ≡ r
+  block-parts l = short-front n (drop i s) (drop i t) (omega (arith, length-drop i s)) (omega (arith, length-drop i t)) (omega (arith, firsts)) ∙ sym firsts
+
+  pub block-shared : n ≤ r → commonPrefix (drop i s) (drop i t) ≡ n + commonPrefix (drop (i + n) s) (drop (i + n) t)
+  block-shared l =
+      let a = drop i s in
+      let b = drop i t in
+      let size : length (take n a) ≡ n = length-take-le n a (omega (arith, length-drop i s)) in
+      let equal : take n a ≡ take n b =
+      sym (take-take n n a (omega arith)) ∙ cp-take n (take n a) (take n b) (omega (arith, firsts)) ∙ take-take n n b (omega arith) in
+      ap (λ (l : List ℕ). commonPrefix l b) (sym (take-append-drop n a))
+      ∙ ap (commonPrefix (take n a ++ drop n a)) (sym (take-append-drop n b) ∙ ap (_++ drop n b) (sym equal))
+      ∙ cp-append (take n a) (drop n a) (drop n b)
+      ∙ rw (size, drop-drop n i s, drop-drop n i t)
 
 -- a shared ending counts whole
 cs-shared : (a b : List ℕ) (i : ℕ) → i ≤ length a → drop (length a - i) a ≡ drop (length b - i) b
@@ -35,20 +76,53 @@ cs-shared a b i h e =
 abbrev pub leftBack : ℕ → List ℕ → List ℕ → ℕ → ℕ
 leftBack p s t i = commonSuffix (take (length (drop p s) - i) (drop p s)) (take (length (drop p t) - i) (drop p t))
 
--- a turn of the loop from the end
-module _ (p : ℕ) (s t : List ℕ) (i : ℕ) (h : p + i < length s) (k : p + i < length t) where
-  back-at : (u : List ℕ) → p + i < length u → getD (drop p u) (length (drop p u) - 1 - i) 0 ≡ getD u (length u - 1 - i) 0
-  back-at u l =
-      let place : p + (length (drop p u) - 1 - i) ≡ length u - 1 - i = omega (arith, length-drop p u) in
-      getD-drop p u (length (drop p u) - 1 - i) 0 ∙ ap (λ (n : ℕ). getD u n 0) place
+-- what two lists share within n last letters, they share
+short-back : (xs ys zs ws : List ℕ) (n : ℕ) → length zs ≡ n → length ws ≡ n → commonSuffix zs ws < n → commonSuffix (xs ++ zs) (ys ++ ws) ≡ commonSuffix zs ws
+unfolding commonSuffix
+short-back xs ys zs ws n h k l =
+    let a : List ℕ = reverse zs ++ reverse xs in
+    let b : List ℕ = reverse ws ++ reverse ys in
+    let first : take n a ≡ reverse zs = take-at (reverse zs) (reverse xs) n (length-reverse zs ∙ h) in
+    let second : take n b ≡ reverse ws = take-at (reverse ws) (reverse ys) n (length-reverse ws ∙ k) in
+    let both : commonPrefix (take n a) (take n b) ≡ commonPrefix (reverse zs) (reverse ws) = rw (first, second) in
+    rw (reverse-append xs zs, reverse-append ys ws)
+    (short-front n a b (omega (arith, length-append (reverse zs) (reverse xs), length-reverse zs)) (omega (arith, length-append (reverse ws) (reverse ys), length-reverse ws)) (omega (arith, both)) ∙ both)
 
-  pub back-more : getD s (length s - 1 - i) 0 ≡ getD t (length t - 1 - i) 0 → leftBack p s t i ≡ suc (leftBack p s t (i + 1))
-  back-more e =
-      cs-more-at (drop p s) (drop p t) i (omega (arith, length-drop p s)) (omega (arith, length-drop p t)) (back-at s h ∙ e ∙ sym (back-at t k))
+-- a block of n letters before the last i: they are shared from the last up to one that differs, or all are
+module _ (p : ℕ) (s t : List ℕ) (i n r : ℕ) (h : p + i + n ≤ length s) (k : p + i + n ≤ length t)
+    (is : r ≡ commonSuffix (part (length s - (i + n)) (length s - (i + n) + n) s) (part (length t - (i + n)) (length t - (i + n) + n) t)) where
+  abbrev rest : List ℕ → List ℕ
+  rest u = take (length (drop p u) - (i + n)) (drop p u)
 
-  pub back-stop : (getD s (length s - 1 - i) 0 ≡ getD t (length t - 1 - i) 0 → ⊥) → leftBack p s t i ≡ zero
-  back-stop e =
-      cs-stop-at (drop p s) (drop p t) i (omega (arith, length-drop p s)) (omega (arith, length-drop p t)) (λ q. e (sym (back-at s h) ∙ q ∙ back-at t k))
+  abbrev last : List ℕ → List ℕ
+  last u = part (length u - (i + n)) (length u - (i + n) + n) u
+
+  length-last : (u : List ℕ) → p + i + n ≤ length u → length (last u) ≡ n
+  length-last u l = length-part (length u - (i + n)) (length u - (i + n) + n) u (omega arith) ∙ omega arith
+
+  split-last : (u : List ℕ) → p + i + n ≤ length u → take (length (drop p u) - i) (drop p u) ≡ rest u ++ last u
+  unfolding part
+  split-last u l =
+      let m : ℕ = length (drop p u) - (i + n) in
+      let whole : length (drop p u) - i ≡ m + n = omega (arith, length-drop p u) in
+      let place : p + m ≡ length u - (i + n) = omega (arith, length-drop p u) in
+      let few : length u - (i + n) + n - (length u - (i + n)) ≡ n = omega arith in
+      rw (whole, take-add m n (drop p u), drop-drop m p u, place, few)
+
+  both-split : leftBack p s t i ≡ commonSuffix (rest s ++ last s) (rest t ++ last t)
+  both-split = rw (split-last s h, split-last t k)
+
+  pub back-parts : r < n → leftBack p s t i ≡ r
+  back-parts l = both-split ∙ short-back (rest s) (rest t) (last s) (last t) n (length-last s h) (length-last t k) (omega (arith, is)) ∙ sym is
+
+  pub back-shared : n ≤ r → leftBack p s t i ≡ n + leftBack p s t (i + n)
+  back-shared l =
+      let none : length (last s) - n ≡ 0 = omega (arith, length-last s h) in
+      let none-2 : length (last t) - n ≡ 0 = omega (arith, length-last t k) in
+      let equal : last s ≡ last t =
+      ap (λ (m : ℕ). drop m (last s)) (sym none) ∙ cs-drop n (last s) (last t) (omega (arith, is)) ∙ ap (λ (m : ℕ). drop m (last t)) none-2 in
+      both-split ∙ ap (λ (l : List ℕ). commonSuffix (rest s ++ last s) (rest t ++ l)) (sym equal) ∙ cs-append (last s) (rest s) (rest t)
+      ∙ ap (_+ commonSuffix (rest s) (rest t)) (length-last s h)
 
 -- at its end
 pub back-within : (p : ℕ) (s t : List ℕ) (i : ℕ) → p + i ≤ length s → p + i ≤ length t → (p + i + leftBack p s t i ≤ length s) × (p + i + leftBack p s t i ≤ length t)

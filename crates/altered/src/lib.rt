@@ -1,4 +1,6 @@
 // The altered transcript read over its plan, without writing it.
+mod writing;
+
 use codons::reader::read_by_plain;
 use codons::tables::plain_code;
 use edits::plans::Plan;
@@ -7,7 +9,9 @@ use excepted::excepted_at;
 use exceptions::moved_all;
 use letters::letter_set;
 use numbers::least;
+use packed::prefix_by;
 use packed::size_of;
+use packed::suffix_by;
 use rules::Exceptions;
 use rules::Form;
 ghost use mathlib.Core.Path.{_≡_};
@@ -17,13 +21,15 @@ ghost use Rattle.rules.specs.Letters.{letterSet};
 ghost use Rattle.rules.specs.Codons.{codon};
 ghost use Rattle.rules.specs.Translation.{exceptionList, excepted};
 ghost use Rattle.rules.specs.Complement.{complement};
+ghost use Rattle.rules.specs.Altered.{part};
 ghost use Rattle.rules.specs.Packed.{lettersBy};
-ghost use Rattle.rules.specs.Trims.{commonPrefix};
+ghost use Rattle.rules.specs.Trims.{commonPrefix, commonSuffix};
 ghost use Rattle.rules.specs.Exceptions.{suffixBehind, movedAll};
 ghost use Rattle.exceptions.specs.Moving.{Given};
 ghost use Rattle.edits.specs.Plans.{goesIn};
 ghost use Rattle.transcript.specs.Carrying.{Sourced, carriedBy};
-ghost use Rattle.altered.specs.Over.{Makes};
+ghost use Rattle.altered.specs.Over.{Makes, Stretch, Within};
+pub use writing::write_stretch;
 
 // The complement of a letter, without a table.
 fn complement_of(b: u8) -> u8
@@ -115,24 +121,114 @@ pub fn residue_at(
     excepted_at(e, k + 1, read_by_plain(table, &code, a, b, c))
 }
 
-// How many first letters an edit leaves: those before it, and those equal behind them. The altered transcript has `made` bases, here and below.
+// How many letters from a place on, and at most `most`, lie in what goes in, or behind it.
+fn stretch_letters(plan: Plan, at: usize, most: usize) -> usize
+    requires { ⌜ plan .from + plan .kept < 8589934592 ⌝ }
+    ensures { λ r. ⌜ Within plan at most r ⌝ }
+{
+    let back = plan.from + plan.kept;
+    if at < back {
+        return least(back - at, most);
+    }
+    most
+}
+
+// How many first of n letters from a place on are the transcript's own. They are written to a block.
+fn alike_in(
+    letters: &[u8],
+    form: Form,
+    plan: Plan,
+    new: &[u8],
+    at: usize,
+    n: usize,
+    block: &mut [u8],
+) -> usize
+    requires { ⌜ Makes plan (lettersBy form (now letters)) (now new) ⌝ }
+    requires { ⌜ Stretch plan at n (length (carriedBy plan (lettersBy form (now letters)) (now new))) ⌝ }
+    requires { ⌜ at + n ≤ length (lettersBy form (now letters)) ⌝ }
+    requires { ⌜ length (now block) ≡ n ⌝ }
+    ensures { λ r. ⌜ r ≡ commonPrefix (part at (at + n) (lettersBy form (now (letters .entry)))) (part at (at + n) (carriedBy plan (lettersBy form (now (letters .entry))) (now (new .entry)))) ⌝ }
+{
+    write_stretch(letters, form, plan, new, at, block);
+    prefix_by(letters, form, at, at + n, &block[..n])
+}
+
+// The same, with room for a block.
+fn alike_letters(letters: &[u8], form: Form, plan: Plan, new: &[u8], at: usize, n: usize) -> usize
+    requires { ⌜ Makes plan (lettersBy form (now letters)) (now new) ⌝ }
+    requires { ⌜ Stretch plan at n (length (carriedBy plan (lettersBy form (now letters)) (now new))) ⌝ }
+    requires { ⌜ at + n ≤ length (lettersBy form (now letters)) ⌝ }
+    requires { ⌜ n ≤ 512 ⌝ }
+    ensures { λ r. ⌜ r ≡ commonPrefix (part at (at + n) (lettersBy form (now (letters .entry)))) (part at (at + n) (carriedBy plan (lettersBy form (now (letters .entry))) (now (new .entry)))) ⌝ }
+{
+    let mut block = [0u8; 512];
+    alike_in(letters, form, plan, new, at, n, &mut block[..n])
+}
+
+// How many first letters an edit leaves: those before it, and those equal behind them, in blocks, the first of them short. The altered transcript
+// has `made` bases, here and below.
 fn shared_front(letters: &[u8], form: Form, plan: Plan, new: &[u8], made: usize) -> usize
     requires { ⌜ Makes plan (lettersBy form (now letters)) (now new) ⌝ }
     requires { ⌜ made ≡ length (carriedBy plan (lettersBy form (now letters)) (now new)) ⌝ }
     ensures { λ r. ⌜ r ≡ commonPrefix (lettersBy form (now (letters .entry))) (carriedBy plan (lettersBy form (now (letters .entry))) (now (new .entry))) ⌝ }
 {
     let n = least(size_of(letters, form), made);
-    let mut i = plan.from;
+    let from = plan.from;
+    let mut i = from;
     while i < n {
-        if packed::letter_at(letters, form, i) != letter_at(letters, form, plan, new, i) {
-            return i;
+        let most = least(512, (i - from) * 4 + 16);
+        let step = stretch_letters(plan, i, least(most, n - i));
+        let found = alike_letters(letters, form, plan, new, i, step);
+        if found < step {
+            return i + found;
         }
-        i += 1;
+        i += step;
     }
     n
 }
 
-// How many last letters it leaves behind the prefix: those behind the edit, and those equal before them.
+// How many last of n letters from a place on are the transcript's last from another place on. They are written to a block.
+fn alike_back_in(
+    letters: &[u8],
+    form: Form,
+    plan: Plan,
+    new: &[u8],
+    at: usize,
+    old: usize,
+    n: usize,
+    block: &mut [u8],
+) -> usize
+    requires { ⌜ Makes plan (lettersBy form (now letters)) (now new) ⌝ }
+    requires { ⌜ Stretch plan at n (length (carriedBy plan (lettersBy form (now letters)) (now new))) ⌝ }
+    requires { ⌜ old + n ≤ length (lettersBy form (now letters)) ⌝ }
+    requires { ⌜ length (now block) ≡ n ⌝ }
+    ensures { λ r. ⌜ r ≡ commonSuffix (part old (old + n) (lettersBy form (now (letters .entry)))) (part at (at + n) (carriedBy plan (lettersBy form (now (letters .entry))) (now (new .entry)))) ⌝ }
+{
+    write_stretch(letters, form, plan, new, at, block);
+    suffix_by(letters, form, old, old + n, &block[..n])
+}
+
+// The same, with room for a block.
+fn alike_back(
+    letters: &[u8],
+    form: Form,
+    plan: Plan,
+    new: &[u8],
+    at: usize,
+    old: usize,
+    n: usize,
+) -> usize
+    requires { ⌜ Makes plan (lettersBy form (now letters)) (now new) ⌝ }
+    requires { ⌜ Stretch plan at n (length (carriedBy plan (lettersBy form (now letters)) (now new))) ⌝ }
+    requires { ⌜ old + n ≤ length (lettersBy form (now letters)) ⌝ }
+    requires { ⌜ n ≤ 512 ⌝ }
+    ensures { λ r. ⌜ r ≡ commonSuffix (part old (old + n) (lettersBy form (now (letters .entry)))) (part at (at + n) (carriedBy plan (lettersBy form (now (letters .entry))) (now (new .entry)))) ⌝ }
+{
+    let mut block = [0u8; 512];
+    alike_back_in(letters, form, plan, new, at, old, n, &mut block[..n])
+}
+
+// How many last letters it leaves behind the prefix: those behind the edit, and those equal before them, in blocks too, all of what goes in.
 fn shared_back(
     letters: &[u8],
     form: Form,
@@ -143,19 +239,22 @@ fn shared_back(
 ) -> usize
     requires { ⌜ Makes plan (lettersBy form (now letters)) (now new) ⌝ }
     requires { ⌜ made ≡ length (carriedBy plan (lettersBy form (now letters)) (now new)) ⌝ }
-    requires { ⌜ (prefix ≤ length (lettersBy form (now letters))) × (prefix ≤ made) ⌝ }
+    requires { ⌜ (plan .from ≤ prefix) × (prefix ≤ length (lettersBy form (now letters))) × (prefix ≤ made) ⌝ }
     ensures { λ r. ⌜ r ≡ suffixBehind prefix (lettersBy form (now (letters .entry))) (carriedBy plan (lettersBy form (now (letters .entry))) (now (new .entry))) ⌝ }
 {
     let size = size_of(letters, form);
     let n = least(size, made) - prefix;
-    let mut i = least(size - plan.to, n);
+    let first = least(size - plan.to, n);
+    let mut i = first;
     while i < n {
-        if packed::letter_at(letters, form, size - 1 - i)
-            != letter_at(letters, form, plan, new, made - 1 - i)
-        {
-            return i;
+        let most = least(512, (i - first) * 4 + 16);
+        let step = least(most, n - i);
+        let end = i + step;
+        let found = alike_back(letters, form, plan, new, made - end, size - end, step);
+        if found < step {
+            return i + found;
         }
-        i += 1;
+        i = end;
     }
     n
 }

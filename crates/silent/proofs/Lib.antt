@@ -1,4 +1,4 @@
 -- Laws that this crate's proofs cite.
 mod Kept
-mod Stretches
+mod Blocked
 pub mod Same

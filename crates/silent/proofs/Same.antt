@@ -33,11 +33,12 @@ use Rattle.transcript.specs.Carrying.{carriedBy}
 use Rattle.transcript.proofs.Transcripts.{length-goes-in}
 use Rattle.altered.proofs.Letters.{length-made, before-at}
 use Rattle.altered.proofs.Shares.{front-starts, back-starts}
-use Rattle.altered.specs.Over.{Makes}
+use Rattle.altered.proofs.Stretches.{part-at}
+use Rattle.altered.specs.Over.{Makes, Stretch}
 use Rattle.places.specs.Places.{codonAt}
 use Rattle.silent.proofs.Kept.{all-before, all-behind}
-use Rattle.silent.proofs.Stretches.{no-exceptions, part-at, codon-behind}
-use Rattle.silent.specs.Comparing.{codingBy, proteinWith, Compares, Placed, Stretch, ReadsAs, Sized, Held, Unexcepted, Alike}
+use Rattle.silent.proofs.Blocked.{no-exceptions, codon-behind}
+use Rattle.silent.specs.Comparing.{codingBy, proteinWith, Compares, Placed, ReadsAs, Sized, Held, Unexcepted, Alike}
 
 -- the transcript that a plan makes
 module _ (p : Plan) (s new : List ℕ) (m : Makes p s new) where

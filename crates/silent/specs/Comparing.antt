@@ -51,12 +51,6 @@ pub record Reused (p : Plan) (first count residues k r : ℕ) : Type 0 where
   pub behind : r < residues → p .from + p .kept ≤ first + k * 3
   pub place : r < residues → first + k * 3 + p .to ≡ first + r * 3 + (p .from + p .kept)
 
--- n letters from a place on lie in what goes in, or behind it
-pub record Stretch (p : Plan) (at n made : ℕ) : Type 0 where
-  pub behind : p .from ≤ at
-  pub inside : at < p .from + p .kept → at + n ≤ p .from + p .kept
-  pub ends : at + n ≤ made
-
 -- so many first residues are those of the first codons of s
 pub record ReadsAs (t : ℕ) (s residues : List ℕ) (n : ℕ) : Type 0 where
   pub each : (i : ℕ) → i < n → getD residues i 0 ≡ codonAt t s i

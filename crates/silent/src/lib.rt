@@ -99,7 +99,7 @@ fn alike_from(
 
 // Whether the protein that a plan makes, with the moved exceptions, is R: read from the first codon that the edit may change, to where the two
 // part or end, or to where the codons are the reference's again: then A is R exactly if they stand where they stood. Behind the first four
-// codons each turn skips a block of as many as were read before, and reads one by itself.
+// codons each turn skips a block of up to four times as many as were read before, and reads one by itself.
 pub fn keeps_protein(
     letters: &[u8],
     form: Form,
@@ -131,7 +131,7 @@ pub fn keeps_protein(
         if source < protein.len() {
             return source == k;
         }
-        let most = least(256, (k - start) / 4 * 4);
+        let most = least(256, (k - start) / 4 * 16);
         let j = k + alike_from(letters, form, x, protein, new, k, most);
         let r = residue_at(letters, form, c.table, plan, new, moved, first, j);
         if r != protein[j] {

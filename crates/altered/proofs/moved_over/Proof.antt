@@ -10,7 +10,7 @@ use Rattle.rules.proofs.Trims.{cp-le-l, cp-le-r}
 use Rattle.exceptions.proofs.Moving.{none-given}
 use Rattle.transcript.specs.Carrying.{carriedBy}
 use Rattle.altered.proofs.Letters.{length-made}
-use Rattle.altered.proofs.Shares.{shared-over, lengths-over}
+use Rattle.altered.proofs.Shares.{front-starts, shared-over, lengths-over}
 use Rattle.altered.proofs.moved_over.Statement.{statement}
 use Rattle.altered.proofs.moved_over.Tie as tie
 
@@ -45,7 +45,7 @@ shared-back-requires c κs =
     let made = length-made (a .plan) (lettersBy (a .form) (a .letters .now)) (a .new .now) (c .before .before .before .before .before .before .before .before .pre .0) in
     let size = c .before .before .before .size-of .ensures in
     let front = c .shared-front .ensures in
-    (c .before .before .before .before .before .before .before .before .pre .0, (omega (arith, made, size), (omega (arith, front, cp-le-l (lettersBy (a .form) (a .letters .now)) t), omega (arith, made, size, front, cp-le-r (lettersBy (a .form) (a .letters .now)) t))))
+    (c .before .before .before .before .before .before .before .before .pre .0, (omega (arith, made, size), (omega (arith, front, front-starts (a .plan) (lettersBy (a .form) (a .letters .now)) (a .new .now) (c .before .before .before .before .before .before .before .before .pre .0)), omega (arith, front, cp-le-l (lettersBy (a .form) (a .letters .now)) t), omega (arith, made, size, front, cp-le-r (lettersBy (a .form) (a .letters .now)) t))))
 
 moved-all-requires : tie.Need-moved-all-requires
 moved-all-requires c κs =

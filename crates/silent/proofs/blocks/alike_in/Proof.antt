@@ -9,7 +9,8 @@ use Rattle.rules.specs.Bytes.{same}
 use Rattle.rules.specs.Altered.{part}
 use Rattle.rules.specs.Packed.{lettersBy}
 use Rattle.transcript.specs.Carrying.{carriedBy}
-use Rattle.silent.proofs.Stretches.{written, same-read, block-letters, block-read}
+use Rattle.altered.proofs.Stretches.{block-letters}
+use Rattle.silent.proofs.Blocked.{written, same-read, block-read}
 use borrow.Author.Needs.{needs}
 use Rattle.silent.proofs.blocks.alike_in.Statement.{statement}
 use Rattle.silent.proofs.blocks.alike_in.Tie as tie
@@ -50,7 +51,7 @@ alike-read-requires c κs =
     let e = wrote .last .1 .1 .1 .1 .1 .0 in
     let held = start .pre .1 .1 .0 in
     let is = written (a .plan) s (a .new .now) (a .own .now) (a .block .now) e (a .at) (start .pre .1 .0) (start .pre .1 .1 .1) (wrote .ensures) in
-    (rw (is .block) (block-letters (a .plan) s (a .new .now) (start .pre .0) (a .at) (length (a .own .now) * 3) (start .pre .1 .0 .ends)), (ap length (take-length e) ∙ is .long, (held .code, held .few)))
+    (rw (is .block) (block-letters (a .plan) s (a .new .now) (start .pre .0) (a .at) (length (a .own .now) * 3)), (ap length (take-length e) ∙ is .long, (held .code, held .few)))
 
 returns-2 : tie.Need-returns-2
 returns-2 c =

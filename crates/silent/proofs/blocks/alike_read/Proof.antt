@@ -10,7 +10,7 @@ use Rattle.rules.specs.Bytes.{over}
 use Rattle.rules.specs.Translation.{residueCount, foldedTranslated}
 use Rattle.rules.proofs.Trims.{cp-le-r}
 use Rattle.places.proofs.Strict.{strict-letters}
-use Rattle.silent.proofs.Stretches.{plain-block, fits-read, prefix-read, no-exceptions}
+use Rattle.silent.proofs.Blocked.{plain-block, fits-read, prefix-read, no-exceptions}
 use borrow.Author.Needs.{needs}
 use Rattle.silent.proofs.blocks.alike_read.Statement.{statement}
 use Rattle.silent.proofs.blocks.alike_read.Tie as tie

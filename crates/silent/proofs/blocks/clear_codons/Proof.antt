@@ -2,7 +2,7 @@
 use Prim.Native.Nat.{_+_}
 use native.Mathlib.Omega.{arith}
 use Rattle.rules.specs.Translation.{exceptionList}
-use Rattle.silent.proofs.Stretches.{clear-next, next-ahead}
+use Rattle.silent.proofs.Blocked.{clear-next, next-ahead}
 use borrow.Author.Needs.{needs}
 use Rattle.silent.proofs.blocks.clear_codons.Statement.{statement}
 use Rattle.silent.proofs.blocks.clear_codons.Tie as tie

@@ -1,15 +1,15 @@
--- `silent::blocks::write_stretch` meets its contract. Assumes nothing.
+-- `altered::writing::write_stretch` meets its contract. Assumes nothing.
 use mathlib.Core.Path.{_≡_, sym, _∙_}
 use Prim.Native.Nat.{_+_, _-_}
 use native.Mathlib.Omega.{arith}
 use lib.ListN.{length}
 use Rattle.rules.specs.Altered.{part}
 use Rattle.rules.specs.Packed.{lettersBy}
 use Rattle.altered.proofs.Letters.{length-made}
-use Rattle.silent.proofs.Stretches.{filled, inside-part, behind-part, behind-long}
+use Rattle.altered.proofs.Stretches.{filled, inside-part, behind-part, behind-long}
 use borrow.Author.Needs.{needs}
-use Rattle.silent.proofs.blocks.write_stretch.Statement.{statement}
-use Rattle.silent.proofs.blocks.write_stretch.Tie as tie
+use Rattle.altered.proofs.writing.write_stretch.Statement.{statement}
+use Rattle.altered.proofs.writing.write_stretch.Tie as tie
 
 add-back : tie.Need-add-back
 add-back c =

@@ -1,4 +1,4 @@
--- `silent::blocks::write_inside` meets its contract. Assumes nothing.
+-- `altered::writing::write_inside` meets its contract. Assumes nothing.
 use mathlib.Core.Path.{_≡_, sym, _∙_}
 use Prim.Native.Nat.{_+_, _-_}
 use native.Mathlib.Omega.{arith}
@@ -9,10 +9,10 @@ use Rattle.rules.specs.Packed.{lettersBy}
 use Rattle.rules.proofs.Over.{copied-as}
 use Rattle.edits.specs.Plans.{goesIn}
 use Rattle.transcript.proofs.Transcripts.{new-fits, copy-fits, turned-fits}
-use Rattle.silent.proofs.Stretches.{filled, put-long, new-part, copy-part, copy-long, turned-part, turned-long}
+use Rattle.altered.proofs.Stretches.{filled, put-long, new-part, copy-part, copy-long, turned-part, turned-long}
 use borrow.Author.Needs.{needs}
-use Rattle.silent.proofs.blocks.write_inside.Statement.{statement}
-use Rattle.silent.proofs.blocks.write_inside.Tie as tie
+use Rattle.altered.proofs.writing.write_inside.Statement.{statement}
+use Rattle.altered.proofs.writing.write_inside.Tie as tie
 
 part-copy-end : tie.Need-part-copy-end
 part-copy-end c =
