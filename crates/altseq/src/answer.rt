@@ -1,5 +1,7 @@
 // "Refusal numbers": what an edit of a reference is answered, and what is written to the three buffers.
 use crate::carry::carry_out;
+use crate::room::SMALL;
+use crate::room::SMALL_PROTEIN;
 use crate::room::with_room;
 use edits::decision::Decision;
 use edits::decision::decide;
@@ -29,7 +31,7 @@ ghost use Rattle.rules.specs.Views.{bare, asked, referenceOf, roomOf};
 ghost use Rattle.reference.specs.Known.{HasRoom, Knows};
 ghost use Rattle.edits.specs.declared.plans.Plan.{Plan};
 ghost use Rattle.altseq.specs.Carried.{Carries};
-ghost use Rattle.altseq.specs.Decided.{decidedIn, decidedOutcome, Accepts, referenceIn, Copies};
+ghost use Rattle.altseq.specs.Decided.{decidedIn, decidedOutcome, besideOf, Accepts, referenceIn, Copies};
 
 // Zero lengths, no flag, and no codon looked up.
 fn unknown_report() -> Report
@@ -116,6 +118,45 @@ pub struct Ready {
     pub edit: Edit,
 }
 
+// What an edit of a checked reference is answered where a buffer for R has so much room: the altered transcript and A are written, R isn't.
+fn answer_beside(
+    letters: &[u8],
+    ready: Ready,
+    protein: &[u8],
+    new: &[u8],
+    reference: usize,
+    transcript: &mut [u8],
+    altered: &mut [u8],
+) -> Answer
+    requires { ⌜ Knows limits (lettersBy (ready .known .form) (now letters)) (ready .known) (ready .e) (now protein) ⌝ }
+    ensures { λ r. ⌜ r ≡ besideOf (lettersBy (ready .known .form) (now (letters .entry))) (ready .known) (ready .e) (ready .edit) (now (new .entry)) (record { transcript = length (now (transcript .entry)); reference = reference; altered = length (now (altered .entry)) }) .answer ⌝ }
+    ensures { λ _. ⌜ now (transcript .exit) ≡ over (besideOf (lettersBy (ready .known .form) (now (letters .entry))) (ready .known) (ready .e) (ready .edit) (now (new .entry)) (record { transcript = length (now (transcript .entry)); reference = reference; altered = length (now (altered .entry)) }) .transcript) (now (transcript .entry)) ⌝ }
+    ensures { λ _. ⌜ now (altered .exit) ≡ over (besideOf (lettersBy (ready .known .form) (now (letters .entry))) (ready .known) (ready .e) (ready .edit) (now (new .entry)) (record { transcript = length (now (transcript .entry)); reference = reference; altered = length (now (altered .entry)) }) .altered) (now (altered .entry)) ⌝ }
+{
+    let known = ready.known;
+    let e = ready.e;
+    let edit = ready.edit;
+    let decision = decide_in(
+        letters,
+        known,
+        edit,
+        new,
+        transcript.len(),
+        reference,
+        altered.len(),
+    );
+    answer_decided(
+        letters,
+        known,
+        e,
+        protein,
+        decision,
+        new,
+        transcript,
+        altered,
+    )
+}
+
 // The answer to an edit of a checked reference: refusals 7 to 12, Unknown, or a report of what the three buffers hold.
 pub fn answer_known(
     letters: &[u8],
@@ -131,25 +172,12 @@ pub fn answer_known(
         (outcome limits (referenceOf (lettersBy (ready .known .form) (now (letters .entry))) (ready .known .cds) (ready .e)) (asked (ready .edit) (now (new .entry))) (roomOf (now (transcript .entry)) (now (reference .entry)) (now (altered .entry))))
         r (now (transcript .entry)) (now (transcript .exit)) (now (reference .entry)) (now (reference .exit)) (now (altered .entry)) (now (altered .exit)) ⌝ }
 {
-    let known = ready.known;
-    let e = ready.e;
-    let edit = ready.edit;
-    let decision = decide_in(
+    let answer = answer_beside(
         letters,
-        known,
-        edit,
-        new,
-        transcript.len(),
-        reference.len(),
-        altered.len(),
-    );
-    let answer = answer_decided(
-        letters,
-        known,
-        e,
+        ready,
         protein,
-        decision,
         new,
+        reference.len(),
         transcript,
         altered,
     );
@@ -157,7 +185,7 @@ pub fn answer_known(
     answer
 }
 
-// The answer to an edit of a reference, with room for R.
+// The answer to an edit of a reference, with room for R. R is copied here, where the compiler can see that its room lies apart from the buffer.
 fn answer_in(
     letters: &[u8],
     asks: Question,
@@ -180,15 +208,17 @@ fn answer_in(
         Checked::Known(known) => {
             let residues = known.residues;
             let ready = Ready { known, e, edit };
-            answer_known(
+            let answer = answer_beside(
                 letters,
                 ready,
                 &protein[..residues],
                 new,
+                reference.len(),
                 transcript,
-                reference,
                 altered,
-            )
+            );
+            copy_reference(answer, &protein[..residues], reference);
+            answer
         }
     }
 }
@@ -218,8 +248,34 @@ fn answer_long(
     )
 }
 
+// The same of a short one.
+fn answer_short(
+    letters: &[u8],
+    asks: Question,
+    new: &[u8],
+    transcript: &mut [u8],
+    reference: &mut [u8],
+    altered: &mut [u8],
+) -> Answer
+    requires { ⌜ length (lettersBy (asks .form) (now letters)) ≤ 16384 ⌝ }
+    ensures { λ r. ⌜ Answers
+        (outcome limits (referenceOf (lettersBy (asks .form) (now (letters .entry))) (asks .cds) (asks .e)) (asked (asks .edit) (now (new .entry))) (roomOf (now (transcript .entry)) (now (reference .entry)) (now (altered .entry))))
+        r (now (transcript .entry)) (now (transcript .exit)) (now (reference .entry)) (now (reference .exit)) (now (altered .entry)) (now (altered .exit)) ⌝ }
+{
+    let mut protein = [0u8; SHORT_PROTEIN];
+    answer_in(
+        letters,
+        asks,
+        new,
+        &mut protein,
+        transcript,
+        reference,
+        altered,
+    )
+}
+
 // The answer to an edit of a reference: refusals 1 to 12, Unknown, or a report of what the three buffers hold. A short reference doesn't pay
-// for clearing the room of a long one.
+// for clearing the room of a long one, nor a small one for that of a short one.
 pub fn build_altseq(
     letters: &[u8],
     asks: Question,
@@ -233,10 +289,14 @@ pub fn build_altseq(
         r (now (transcript .entry)) (now (transcript .exit)) (now (reference .entry)) (now (reference .exit)) (now (altered .entry)) (now (altered .exit)) ⌝ }
 {
     let form = asks.form;
-    if SHORT < size_of(letters, form) {
+    let size = size_of(letters, form);
+    if SHORT < size {
         return answer_long(letters, asks, new, transcript, reference, altered);
     }
-    let mut protein = [0u8; SHORT_PROTEIN];
+    if SMALL < size {
+        return answer_short(letters, asks, new, transcript, reference, altered);
+    }
+    let mut protein = [0u8; SMALL_PROTEIN];
     answer_in(
         letters,
         asks,
