@@ -2,6 +2,7 @@
 // two parts.
 mod early;
 mod late;
+mod pieces;
 mod residues;
 
 use early::early_refusal;

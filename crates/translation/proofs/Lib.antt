@@ -1,2 +1,3 @@
 -- Laws of translation by loops.
 pub mod Answers
+pub mod Parts

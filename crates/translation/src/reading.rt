@@ -151,6 +151,18 @@ fn write_short(seq: &[u8], table: usize, out: &mut [u8])
     write_few(seq, table, &code, out);
 }
 
+// Writes the residues of letters by the table of 4,096. It has two callers, so that it stays a function of its own: neither makes room for the
+// table before it looks.
+fn write_long(seq: &[u8], table: usize, out: &mut [u8])
+    requires { ⌜ table < 3 ⌝ }
+    requires { ⌜ foldToLetters (now seq) ≡ true ⌝ }
+    requires { ⌜ residueCount (length (now seq)) ≤ length (now out) ⌝ }
+    ensures { λ _. ⌜ now (out .exit) ≡ over (foldedTranslated table [] (now (seq .entry))) (now (out .entry)) ⌝ }
+{
+    let residues = residues_by_number(table);
+    write_any(seq, table, &residues, out);
+}
+
 // Writes the residues of letters, without exceptions, to the buffer's start, the faster way where all letters are bases.
 pub(crate) fn write_letters(seq: &[u8], table: usize, plain: bool, out: &mut [u8])
     requires { ⌜ table < 3 ⌝ }
@@ -164,12 +176,11 @@ pub(crate) fn write_letters(seq: &[u8], table: usize, plain: bool, out: &mut [u8
     } else if seq.len() < FEW {
         write_short(seq, table, out);
     } else {
-        let residues = residues_by_number(table);
-        write_any(seq, table, &residues, out);
+        write_long(seq, table, out);
     }
 }
 
-// The same of letters some of which are no bases. A few of them don't enter the function above, which makes room for the table before it looks.
+// The same of letters some of which are no bases.
 pub(crate) fn write_mixed(seq: &[u8], table: usize, out: &mut [u8])
     requires { ⌜ table < 3 ⌝ }
     requires { ⌜ foldToLetters (now seq) ≡ true ⌝ }
@@ -179,6 +190,6 @@ pub(crate) fn write_mixed(seq: &[u8], table: usize, out: &mut [u8])
     if seq.len() < FEW {
         write_short(seq, table, out);
     } else {
-        write_letters(seq, table, false, out);
+        write_long(seq, table, out);
     }
 }

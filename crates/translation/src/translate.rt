@@ -1,6 +1,7 @@
 // Plain translation of a byte string, without and with exceptions.
 use crate::bases::all_fold_to_bases;
 use crate::bases::all_fold_to_letters;
+use crate::bases::are_letters;
 use crate::reading::write_bases;
 use crate::reading::write_letters;
 use crate::reading::write_mixed;
@@ -55,7 +56,8 @@ pub fn translate_cds(seq: &[u8], table: usize, full: bool, out: &mut [u8]) -> Wr
     Written::Refused(2)
 }
 
-// The same with exceptions, which are put over the residues of their codons.
+// The same with exceptions, which are put over the residues of their codons. It doesn't call the function above: with one caller in the library,
+// that becomes part of it, and a few letters take two thirds of the time.
 pub fn translate_cds_with_exceptions(
     seq: &[u8],
     table: usize,
@@ -72,11 +74,18 @@ pub fn translate_cds_with_exceptions(
     if !are_exceptions(e) {
         return Written::Refused(5);
     }
-    match translate_cds(seq, table, full, out) {
-        Written::Refused(n) => Written::Refused(n),
-        Written::Bytes(n) => {
-            put_exceptions(e, seq.len() / 3, out);
-            Written::Bytes(n)
-        }
+    if full & (0 < seq.len() % 3) {
+        return Written::Refused(14);
     }
+    let n = thirds(seq.len());
+    if out.len() < n {
+        return Written::Refused(15);
+    }
+    let end = seq.len() - seq.len() % 3;
+    let plain = all_fold_to_bases(&seq[..end]);
+    if !are_letters(&seq[..end], plain) {
+        return Written::Refused(2);
+    }
+    write_translated(seq, table, plain, e, out);
+    Written::Bytes(n)
 }

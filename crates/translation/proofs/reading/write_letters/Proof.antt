@@ -15,7 +15,6 @@ write-letters-spec =
     write-bases-requires
     (λ c κs. search needs)
     (λ c κs. search needs)
-    (λ c κs. search needs)
     (λ c. search needs)
     (λ c. search needs)
     (λ c. search needs)
