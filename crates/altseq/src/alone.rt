@@ -1,6 +1,4 @@
 // The altered transcript alone.
-use crate::room::SMALL;
-use crate::room::SMALL_PROTEIN;
 use edits::decision::Decision;
 use edits::decision::decide;
 use edits::plans::Plan;
@@ -16,7 +14,6 @@ use rules::SHORT;
 use rules::SHORT_PROTEIN;
 use transcript::write_transcript;
 ghost use mathlib.Core.Path.{_≡_};
-ghost use Prim.Native.Nat.{_≤_};
 ghost use lib.ListN.{length};
 ghost use Rattle.rules.specs.Bytes.{over};
 ghost use Rattle.rules.specs.Refusal.{limits};
@@ -88,21 +85,6 @@ fn transcribe_long(letters: &[u8], asks: Question, new: &[u8], transcript: &mut 
     transcribe_in(letters, asks, new, &mut protein, transcript)
 }
 
-// The same of a short one.
-fn transcribe_short(
-    letters: &[u8],
-    asks: Question,
-    new: &[u8],
-    transcript: &mut [u8],
-) -> Transcribed
-    requires { ⌜ length (lettersBy (asks .form) (now letters)) ≤ 16384 ⌝ }
-    ensures { λ r. ⌜ r ≡ edited limits (referenceOf (lettersBy (asks .form) (now (letters .entry))) (asks .cds) (asks .e)) (asked (asks .edit) (now (new .entry))) (length (now (transcript .entry))) .answer ⌝ }
-    ensures { λ _. ⌜ now (transcript .exit) ≡ over (edited limits (referenceOf (lettersBy (asks .form) (now (letters .entry))) (asks .cds) (asks .e)) (asked (asks .edit) (now (new .entry))) (length (now (transcript .entry))) .transcript) (now (transcript .entry)) ⌝ }
-{
-    let mut protein = [0u8; SHORT_PROTEIN];
-    transcribe_in(letters, asks, new, &mut protein, transcript)
-}
-
 // The altered transcript of an edit of a reference: refusals 1 to 11, Unknown, or what the buffer holds.
 pub fn build_transcript(
     letters: &[u8],
@@ -114,13 +96,9 @@ pub fn build_transcript(
     ensures { λ _. ⌜ now (transcript .exit) ≡ over (edited limits (referenceOf (lettersBy (asks .form) (now (letters .entry))) (asks .cds) (asks .e)) (asked (asks .edit) (now (new .entry))) (length (now (transcript .entry))) .transcript) (now (transcript .entry)) ⌝ }
 {
     let form = asks.form;
-    let size = size_of(letters, form);
-    if SHORT < size {
+    if SHORT < size_of(letters, form) {
         return transcribe_long(letters, asks, new, transcript);
     }
-    if SMALL < size {
-        return transcribe_short(letters, asks, new, transcript);
-    }
-    let mut protein = [0u8; SMALL_PROTEIN];
+    let mut protein = [0u8; SHORT_PROTEIN];
     transcribe_in(letters, asks, new, &mut protein, transcript)
 }

@@ -1,7 +1,5 @@
 // "Refusal numbers": what an edit of a reference is answered, and what is written to the three buffers.
 use crate::carry::carry_out;
-use crate::room::SMALL;
-use crate::room::SMALL_PROTEIN;
 use crate::room::with_room;
 use edits::decision::Decision;
 use edits::decision::decide;
@@ -248,34 +246,8 @@ fn answer_long(
     )
 }
 
-// The same of a short one.
-fn answer_short(
-    letters: &[u8],
-    asks: Question,
-    new: &[u8],
-    transcript: &mut [u8],
-    reference: &mut [u8],
-    altered: &mut [u8],
-) -> Answer
-    requires { ⌜ length (lettersBy (asks .form) (now letters)) ≤ 16384 ⌝ }
-    ensures { λ r. ⌜ Answers
-        (outcome limits (referenceOf (lettersBy (asks .form) (now (letters .entry))) (asks .cds) (asks .e)) (asked (asks .edit) (now (new .entry))) (roomOf (now (transcript .entry)) (now (reference .entry)) (now (altered .entry))))
-        r (now (transcript .entry)) (now (transcript .exit)) (now (reference .entry)) (now (reference .exit)) (now (altered .entry)) (now (altered .exit)) ⌝ }
-{
-    let mut protein = [0u8; SHORT_PROTEIN];
-    answer_in(
-        letters,
-        asks,
-        new,
-        &mut protein,
-        transcript,
-        reference,
-        altered,
-    )
-}
-
 // The answer to an edit of a reference: refusals 1 to 12, Unknown, or a report of what the three buffers hold. A short reference doesn't pay
-// for clearing the room of a long one, nor a small one for that of a short one.
+// for clearing the room of a long one.
 pub fn build_altseq(
     letters: &[u8],
     asks: Question,
@@ -289,14 +261,10 @@ pub fn build_altseq(
         r (now (transcript .entry)) (now (transcript .exit)) (now (reference .entry)) (now (reference .exit)) (now (altered .entry)) (now (altered .exit)) ⌝ }
 {
     let form = asks.form;
-    let size = size_of(letters, form);
-    if SHORT < size {
+    if SHORT < size_of(letters, form) {
         return answer_long(letters, asks, new, transcript, reference, altered);
     }
-    if SMALL < size {
-        return answer_short(letters, asks, new, transcript, reference, altered);
-    }
-    let mut protein = [0u8; SMALL_PROTEIN];
+    let mut protein = [0u8; SHORT_PROTEIN];
     answer_in(
         letters,
         asks,

@@ -8,11 +8,6 @@ ghost use Rattle.reference.specs.Bounds.{Bounded};
 ghost use Rattle.edits.specs.declared.plans.Plan.{Plan};
 ghost use Rattle.altseq.specs.Decided.{withRoom};
 
-// Of a transcript of at most so many bases R goes to the smallest of three rooms, and that room.
-pub(crate) const SMALL: usize = 4096;
-
-pub(crate) const SMALL_PROTEIN: usize = 1366;
-
 // What was decided, but 11 or 12 where what the edit writes has no room in the three buffers.
 pub(crate) fn with_room(
     decided: Decision,
