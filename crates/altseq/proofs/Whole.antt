@@ -53,19 +53,19 @@ room-for c n room h =
       altered = ltb-false (room .altered) (residueCount (n + 1 - c .cs)) (or-right short cut (twelve .0));
     }
 
-module _ (s : List ℕ) (k : Known) (e : Exceptions) (protein : List ℕ) (known : Knows limits s k e protein) (edit : Edit) (new t : List ℕ) (n : ℕ) (q : List ℕ) (d : Decision)
-    (is : d ≡ decidedIn (k .several) (bare s (k .cds)) (asked edit new) (record { transcript = length t; reference = n; altered = length q })) where
-  abbrev room : Room
-  room = record { transcript = length t; reference = n; altered = length q }
+module _ (s : List ℕ) (k : Known) (e : Exceptions) (protein : List ℕ) (known : Knows limits s k e protein) (edit : Edit) (new t p q : List ℕ) (d : Decision)
+    (is : d ≡ decidedIn (k .several) (bare s (k .cds)) (asked edit new) (roomOf t p q)) where
+  abbrev r : Reference
+  r = referenceOf s (k .cds) e
 
-  pub left : (x : Plan) → d ≡ decision.Goes x → (decisionOf (limits .most) (k .several) (bare s (k .cds)) (asked edit new) ≡ decision.Goes x) × (roomBy (k .cds) (x .length) room ≡ 0)
+  pub left : (x : Plan) → d ≡ decision.Goes x → (decisionOf (limits .most) (k .several) (bare s (k .cds)) (asked edit new) ≡ decision.Goes x) × (roomBy (k .cds) (x .length) (roomOf t p q) ≡ 0)
   unfolding decidedIn
-  left x h = room-left (k .cds) room (decisionOf (limits .most) (k .several) (bare s (k .cds)) (asked edit new)) x (sym is ∙ h)
+  left x h = room-left (k .cds) (roomOf t p q) (decisionOf (limits .most) (k .several) (bare s (k .cds)) (asked edit new)) x (sym is ∙ h)
 
   pub carries : (x : Plan) → d ≡ decision.Goes x → Carries s k e protein x new t q
   carries x h =
       let goes = left x h .0 in
-      let has = room-for (k .cds) (x .length) room (left x h .1) in
+      let room = room-for (k .cds) (x .length) (roomOf t p q) (left x h .1) in
       record {
         limits = limits;
         known = known;
@@ -73,14 +73,9 @@ module _ (s : List ℕ) (k : Known) (e : Exceptions) (protein : List ℕ) (known
         allowed = none-refused limits s k e protein known (asked edit new) x goes;
         is = plan-is limits s k e protein known (asked edit new) x goes;
         changes = not-unknown limits s k e protein known (asked edit new) x goes;
-        for-transcript = has .transcript;
-        for-altered = has .altered;
+        for-transcript = room .transcript;
+        for-altered = room .altered;
       }
-
-module _ (s : List ℕ) (k : Known) (e : Exceptions) (protein : List ℕ) (known : Knows limits s k e protein) (edit : Edit) (new t p q : List ℕ) (d : Decision)
-    (is : d ≡ decidedIn (k .several) (bare s (k .cds)) (asked edit new) (roomOf t p q)) where
-  abbrev r : Reference
-  r = referenceOf s (k .cds) e
 
   -- R of the answer
   pub protein-length : length (referenceProtein r) ≡ residueCount (cdsSize r)
@@ -107,7 +102,7 @@ module _ (s : List ℕ) (k : Known) (e : Exceptions) (protein : List ℕ) (known
             room = λ y w. let u : y ≡ unknownReport = cc (rw g at h) in omega (arith, ap (λ (y : Report). y .reference) u);
           }
       by (decision.Goes f) g =
-          let room = room-for (k .cds) (f .length) (roomOf t p q) (left s k e protein known edit new t (length p) q d is f g .1) in
+          let room = room-for (k .cds) (f .length) (roomOf t p q) (left f g .1) in
           record {
             there = λ y w. let u : y ≡ reportBy r f new = cc (rw g at h) in omega (arith, ap (λ (y : Report). y .reference) u, ap length (known .read));
             room = λ y w. let u : y ≡ reportBy r f new = cc (rw g at h) in omega (arith, ap (λ (y : Report). y .reference) u, protein-length, room .reference);
@@ -125,10 +120,6 @@ module _ (s : List ℕ) (k : Known) (e : Exceptions) (protein : List ℕ) (known
         holds-reference = hp ∙ ap (λ (l : List ℕ). over l p) (reference-is x h);
         holds-altered = hq;
       })
-
--- what is known of letters that are the same
-pub knows-of : (s u : List ℕ) (k : Known) (e : Exceptions) (protein : List ℕ) → s ≡ u → Knows limits u k e protein → Knows limits s k e protein
-knows-of s u k e protein is h = subst (λ (s : List ℕ). Knows limits s k e protein) (sym is) h
 
 -- the answer for a CDS that is known as another
 pub answers-cds : (s : List ℕ) (c d : Cds) (e : Exceptions) (a : Asked) (room : Room) (x : Answer) (t t′ p p′ q q′ : List ℕ) → c ≡ d

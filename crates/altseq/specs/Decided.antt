@@ -5,7 +5,6 @@ use mathlib.Core.Bool.{Bool}
 use mathlib.Core.List.{List, []}
 use lib.ListN.{length, take}
 use Rattle.rules.specs.declared.Cds.{Cds}
-use Rattle.rules.specs.declared.Edit.{Edit}
 use Rattle.rules.specs.declared.Exceptions.{Exceptions}
 use Rattle.rules.specs.declared.Report.{Report}
 use Rattle.rules.specs.declared.Answer.{Answer}
@@ -14,7 +13,7 @@ use Rattle.rules.specs.Bytes.{firstOf}
 use Rattle.rules.specs.Reference.{Reference, referenceProtein}
 use Rattle.rules.specs.Edit.{Asked}
 use Rattle.rules.specs.Refusal.{limits, Room, roomTests}
-use Rattle.rules.specs.Views.{cdsOf, bare, asked, referenceOf}
+use Rattle.rules.specs.Views.{cdsOf}
 use Rattle.rules.specs.Answer.{Outcome, writesNothing, unknownReport}
 use Rattle.reference.specs.declared.Known.{Known}
 use Rattle.reference.specs.Known.{Knows}
@@ -53,10 +52,6 @@ decidedOutcome r (decision.Goes p) new =
       reference = referenceProtein r;
       altered = proteinBy r p new;
     }
-
--- what an edit of a checked reference is answered, and what is written, with so much room
-abbrev pub besideOf : List ℕ → Known → Exceptions → Edit → List ℕ → Room → Outcome
-besideOf s k e edit new room = decidedOutcome (referenceOf s (k .cds) e) (decidedIn (k .several) (bare s (k .cds)) (asked edit new) room) new
 
 -- a reference that was checked at the library's limits
 pub record Accepts (s : List ℕ) (k : Known) : Type 0 where

@@ -29,7 +29,7 @@ ghost use Rattle.rules.specs.Views.{bare, asked, referenceOf, roomOf};
 ghost use Rattle.reference.specs.Known.{HasRoom, Knows};
 ghost use Rattle.edits.specs.declared.plans.Plan.{Plan};
 ghost use Rattle.altseq.specs.Carried.{Carries};
-ghost use Rattle.altseq.specs.Decided.{decidedIn, decidedOutcome, besideOf, Accepts, referenceIn, Copies};
+ghost use Rattle.altseq.specs.Decided.{decidedIn, decidedOutcome, Accepts, referenceIn, Copies};
 
 // Zero lengths, no flag, and no codon looked up.
 fn unknown_report() -> Report
@@ -116,45 +116,6 @@ pub struct Ready {
     pub edit: Edit,
 }
 
-// What an edit of a checked reference is answered where a buffer for R has so much room: the altered transcript and A are written, R isn't.
-fn answer_beside(
-    letters: &[u8],
-    ready: Ready,
-    protein: &[u8],
-    new: &[u8],
-    reference: usize,
-    transcript: &mut [u8],
-    altered: &mut [u8],
-) -> Answer
-    requires { ⌜ Knows limits (lettersBy (ready .known .form) (now letters)) (ready .known) (ready .e) (now protein) ⌝ }
-    ensures { λ r. ⌜ r ≡ besideOf (lettersBy (ready .known .form) (now (letters .entry))) (ready .known) (ready .e) (ready .edit) (now (new .entry)) (record { transcript = length (now (transcript .entry)); reference = reference; altered = length (now (altered .entry)) }) .answer ⌝ }
-    ensures { λ _. ⌜ now (transcript .exit) ≡ over (besideOf (lettersBy (ready .known .form) (now (letters .entry))) (ready .known) (ready .e) (ready .edit) (now (new .entry)) (record { transcript = length (now (transcript .entry)); reference = reference; altered = length (now (altered .entry)) }) .transcript) (now (transcript .entry)) ⌝ }
-    ensures { λ _. ⌜ now (altered .exit) ≡ over (besideOf (lettersBy (ready .known .form) (now (letters .entry))) (ready .known) (ready .e) (ready .edit) (now (new .entry)) (record { transcript = length (now (transcript .entry)); reference = reference; altered = length (now (altered .entry)) }) .altered) (now (altered .entry)) ⌝ }
-{
-    let known = ready.known;
-    let e = ready.e;
-    let edit = ready.edit;
-    let decision = decide_in(
-        letters,
-        known,
-        edit,
-        new,
-        transcript.len(),
-        reference,
-        altered.len(),
-    );
-    answer_decided(
-        letters,
-        known,
-        e,
-        protein,
-        decision,
-        new,
-        transcript,
-        altered,
-    )
-}
-
 // The answer to an edit of a checked reference: refusals 7 to 12, Unknown, or a report of what the three buffers hold.
 pub fn answer_known(
     letters: &[u8],
@@ -170,12 +131,25 @@ pub fn answer_known(
         (outcome limits (referenceOf (lettersBy (ready .known .form) (now (letters .entry))) (ready .known .cds) (ready .e)) (asked (ready .edit) (now (new .entry))) (roomOf (now (transcript .entry)) (now (reference .entry)) (now (altered .entry))))
         r (now (transcript .entry)) (now (transcript .exit)) (now (reference .entry)) (now (reference .exit)) (now (altered .entry)) (now (altered .exit)) ⌝ }
 {
-    let answer = answer_beside(
+    let known = ready.known;
+    let e = ready.e;
+    let edit = ready.edit;
+    let decision = decide_in(
         letters,
-        ready,
-        protein,
+        known,
+        edit,
         new,
+        transcript.len(),
         reference.len(),
+        altered.len(),
+    );
+    let answer = answer_decided(
+        letters,
+        known,
+        e,
+        protein,
+        decision,
+        new,
         transcript,
         altered,
     );
@@ -183,7 +157,7 @@ pub fn answer_known(
     answer
 }
 
-// The answer to an edit of a reference, with room for R. R is copied here, where the compiler can see that its room lies apart from the buffer.
+// The answer to an edit of a reference, with room for R.
 fn answer_in(
     letters: &[u8],
     asks: Question,
@@ -206,17 +180,15 @@ fn answer_in(
         Checked::Known(known) => {
             let residues = known.residues;
             let ready = Ready { known, e, edit };
-            let answer = answer_beside(
+            answer_known(
                 letters,
                 ready,
                 &protein[..residues],
                 new,
-                reference.len(),
                 transcript,
+                reference,
                 altered,
-            );
-            copy_reference(answer, &protein[..residues], reference);
-            answer
+            )
         }
     }
 }

@@ -1,5 +1,5 @@
 -- `altseq::answer::answer_in` meets its contract. Assumes nothing.
-use mathlib.Core.Path.{refl, sym, ap}
+use mathlib.Core.Path.{sym, ap}
 use native.Mathlib.Omega.{arith}
 use borrow.Author.Needs.{needs}
 use lib.Seq.{length-take-le}
@@ -8,17 +8,17 @@ use Rattle.rules.specs.Refusal.{limits}
 use Rattle.rules.specs.Views.{asked, referenceOf, roomOf}
 use Rattle.reference.proofs.Checking.{checked-refused, checked-accepted, protein-held, cds-known, form-known, residues-within, knows}
 use Rattle.altseq.proofs.Answering.{reference-refused}
-use Rattle.altseq.proofs.Whole.{copies, answers, knows-of, answers-cds}
+use Rattle.altseq.proofs.Whole.{answers-cds}
 use Rattle.rules.specs.Packed.{lettersBy}
 use Rattle.altseq.proofs.answer.answer_in.Statement.{statement}
 use Rattle.altseq.proofs.answer.answer_in.Tie as tie
 
 -- where the reference was checked
-abbrev checked-before : tie.After-answer-beside → tie.After-known-told2
-checked-before c = c .before .before .before .before
+abbrev checked-before : tie.After-answer-known → tie.After-known-told2
+checked-before c = c .before .before .before .before .before
 
-slice-reshare-prefix-answer-beside : tie.Need-slice-reshare-prefix-answer-beside
-slice-reshare-prefix-answer-beside c =
+slice-reshare-prefix-answer-known : tie.Need-slice-reshare-prefix-answer-known
+slice-reshare-prefix-answer-known c =
     let a = c .before .before .before .before .before .before .before .before .before .before .before .before .before .before .before .args in
     let x = c .before .before .before .before .before .check-reference in
     let k = c .before .known .given .0 .0 in
@@ -26,8 +26,8 @@ slice-reshare-prefix-answer-beside c =
     let held = protein-held (limits .longest) (lettersBy (a .asks .form) (a .letters .now)) (a .asks .cds) (a .asks .e) _ _ (ok .0) (x .ensures .1) in
     residues-within limits (a .asks .form) (lettersBy (a .asks .form) (a .letters .now)) (a .asks .cds) (a .asks .e) k (ok .0) (ok .1) _ _ held
 
-slice-aggregate-answer-beside : tie.Need-slice-aggregate-answer-beside
-slice-aggregate-answer-beside c =
+slice-aggregate-answer-known : tie.Need-slice-aggregate-answer-known
+slice-aggregate-answer-known c =
     let d = c .before in
     let a = d .before .before .before .before .before .before .before .before .before .before .before .before .before .before .before .args in
     let x = d .before .before .before .before .before .check-reference in
@@ -36,9 +36,9 @@ slice-aggregate-answer-beside c =
     let held = protein-held (limits .longest) (lettersBy (a .asks .form) (a .letters .now)) (a .asks .cds) (a .asks .e) _ _ (ok .0) (x .ensures .1) in
     sym (length-take-le (k .residues) _ (residues-within limits (a .asks .form) (lettersBy (a .asks .form) (a .letters .now)) (a .asks .cds) (a .asks .e) k (ok .0) (ok .1) _ _ held))
 
-answer-beside-requires : tie.Need-answer-beside-requires
-answer-beside-requires c κs =
-    let d = c .before .before .before in
+answer-known-requires : tie.Need-answer-known-requires
+answer-known-requires c κs =
+    let d = c .before .before .before .before in
     let a = d .before .before .before .before .before .before .before .before .before .before .before .before .before .before .before .args in
     let x = d .before .before .before .before .before .check-reference in
     let k = d .before .known .given .0 .0 in
@@ -46,40 +46,6 @@ answer-beside-requires c κs =
     let same = ap (λ (f : Form). lettersBy f (a .letters .now)) (form-known limits (a .asks .form) (lettersBy (a .asks .form) (a .letters .now)) (a .asks .cds) (a .asks .e) k (ok .0) (ok .1)) in
     let held = protein-held (limits .longest) (lettersBy (a .asks .form) (a .letters .now)) (a .asks .cds) (a .asks .e) _ _ (ok .0) (x .ensures .1) in
     rw same (knows limits (a .asks .form) (lettersBy (a .asks .form) (a .letters .now)) (a .asks .cds) (a .asks .e) k (ok .0) (ok .1) _ _ held (omega arith))
-
-slice-reshare-prefix-copy-reference : tie.Need-slice-reshare-prefix-copy-reference
-slice-reshare-prefix-copy-reference c =
-    let d = checked-before (c .before .before .before .before) in
-    let a = d .before .before .before .before .before .before .before .before .before .before .before .before .before .before .before .args in
-    let x = d .before .before .before .before .before .check-reference in
-    let k = d .before .known .given .0 .0 in
-    let ok = checked-accepted (limits .longest) (a .asks .form) (lettersBy (a .asks .form) (a .letters .now)) (a .asks .cds) (a .asks .e) (x .result) (x .ensures .0) k (d .before .known .given .1) in
-    let held = protein-held (limits .longest) (lettersBy (a .asks .form) (a .letters .now)) (a .asks .cds) (a .asks .e) _ _ (ok .0) (x .ensures .1) in
-    residues-within limits (a .asks .form) (lettersBy (a .asks .form) (a .letters .now)) (a .asks .cds) (a .asks .e) k (ok .0) (ok .1) _ _ held
-
-slice-aggregate-copy-reference : tie.Need-slice-aggregate-copy-reference
-slice-aggregate-copy-reference c =
-    let d = checked-before (c .before .before .before .before .before) in
-    let a = d .before .before .before .before .before .before .before .before .before .before .before .before .before .before .before .args in
-    let x = d .before .before .before .before .before .check-reference in
-    let k = d .before .known .given .0 .0 in
-    let ok = checked-accepted (limits .longest) (a .asks .form) (lettersBy (a .asks .form) (a .letters .now)) (a .asks .cds) (a .asks .e) (x .result) (x .ensures .0) k (d .before .known .given .1) in
-    let held = protein-held (limits .longest) (lettersBy (a .asks .form) (a .letters .now)) (a .asks .cds) (a .asks .e) _ _ (ok .0) (x .ensures .1) in
-    sym (length-take-le (k .residues) _ (residues-within limits (a .asks .form) (lettersBy (a .asks .form) (a .letters .now)) (a .asks .cds) (a .asks .e) k (ok .0) (ok .1) _ _ held))
-
-copy-reference-requires : tie.Need-copy-reference-requires
-copy-reference-requires c κs =
-    let answered = c .before .before .before .before .before .before in
-    let d = checked-before answered in
-    let a = d .before .before .before .before .before .before .before .before .before .before .before .before .before .before .before .args in
-    let x = d .before .before .before .before .before .check-reference in
-    let k = d .before .known .given .0 .0 in
-    let ok = checked-accepted (limits .longest) (a .asks .form) (lettersBy (a .asks .form) (a .letters .now)) (a .asks .cds) (a .asks .e) (x .result) (x .ensures .0) k (d .before .known .given .1) in
-    let same = ap (λ (f : Form). lettersBy f (a .letters .now)) (form-known limits (a .asks .form) (lettersBy (a .asks .form) (a .letters .now)) (a .asks .cds) (a .asks .e) k (ok .0) (ok .1)) in
-    let held = protein-held (limits .longest) (lettersBy (a .asks .form) (a .letters .now)) (a .asks .cds) (a .asks .e) _ _ (ok .0) (x .ensures .1) in
-    let known = knows-of _ _ k (a .asks .e) _ same (knows limits (a .asks .form) (lettersBy (a .asks .form) (a .letters .now)) (a .asks .cds) (a .asks .e) k (ok .0) (ok .1) _ _ held (omega arith)) in
-    let told = answered .answer-beside in
-    copies (lettersBy (k .form) (a .letters .now)) k (a .asks .e) _ known (a .asks .edit) (a .new .now) (a .transcript .now) (a .reference .now) (a .altered .now) _ refl (told .result) (told .ensures .0)
 
 returns : tie.Need-returns
 returns c =
@@ -91,20 +57,15 @@ returns c =
 
 returns-2 : tie.Need-returns-2
 returns-2 c =
-    let copied = c .before .before in
-    let answered = copied .before .before .before .before .before .before .before in
-    let d = checked-before answered in
+    let e = c .before .before .before .before .before .before in
+    let d = checked-before e in
     let a = d .before .before .before .before .before .before .before .before .before .before .before .before .before .before .before .args in
     let x = d .before .before .before .before .before .check-reference in
     let k = d .before .known .given .0 .0 in
     let ok = checked-accepted (limits .longest) (a .asks .form) (lettersBy (a .asks .form) (a .letters .now)) (a .asks .cds) (a .asks .e) (x .result) (x .ensures .0) k (d .before .known .given .1) in
     let same = ap (λ (f : Form). lettersBy f (a .letters .now)) (form-known limits (a .asks .form) (lettersBy (a .asks .form) (a .letters .now)) (a .asks .cds) (a .asks .e) k (ok .0) (ok .1)) in
-    let held = protein-held (limits .longest) (lettersBy (a .asks .form) (a .letters .now)) (a .asks .cds) (a .asks .e) _ _ (ok .0) (x .ensures .1) in
-    let known = knows-of _ _ k (a .asks .e) _ same (knows limits (a .asks .form) (lettersBy (a .asks .form) (a .letters .now)) (a .asks .cds) (a .asks .e) k (ok .0) (ok .1) _ _ held (omega arith)) in
-    let told = answered .answer-beside in
-    let all = answers (lettersBy (k .form) (a .letters .now)) k (a .asks .e) _ known (a .asks .edit) (a .new .now) (a .transcript .now) (a .reference .now) (a .altered .now) _ refl (told .result) _ _ _ (told .ensures .0) (told .ensures .1 .0) (told .ensures .1 .1) (copied .copy-reference .ensures) in
     answers-cds (lettersBy (a .asks .form) (a .letters .now)) (k .cds) (a .asks .cds) (a .asks .e) (asked (a .asks .edit) (a .new .now)) (roomOf (a .transcript .now) (a .reference .now) (a .altered .now)) _ (a .transcript .now) _ (a .reference .now) _ (a .altered .now) _
-    (cds-known limits (a .asks .form) (lettersBy (a .asks .form) (a .letters .now)) (a .asks .cds) (a .asks .e) k (ok .0) (ok .1)) (rw same at all)
+    (cds-known limits (a .asks .form) (lettersBy (a .asks .form) (a .letters .now)) (a .asks .cds) (a .asks .e) k (ok .0) (ok .1)) (rw same at (e .answer-known .ensures))
 
 pub answer-in-spec : {M : Type 1} → statement M
 answer-in-spec =
@@ -113,12 +74,9 @@ answer-in-spec =
     (λ c κs. search needs)
     (λ c. search needs)
     (λ c. search needs)
-    slice-reshare-prefix-answer-beside
-    slice-aggregate-answer-beside
-    answer-beside-requires
-    slice-reshare-prefix-copy-reference
-    slice-aggregate-copy-reference
-    copy-reference-requires
+    slice-reshare-prefix-answer-known
+    slice-aggregate-answer-known
+    answer-known-requires
     (λ c. search needs)
     returns
     (λ c. search needs)
