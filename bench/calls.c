@@ -165,15 +165,32 @@ static void silent_delins(uint64_t len, int other_letters)
 static const uint64_t lengths[] = {3000, 16384, 131072};
 enum { LENGTHS = sizeof lengths / sizeof *lengths };
 
+/* Whether the rows' letters are packed. */
+static int packing;
+static uint8_t packed[MOST / 2 + 1];
+
+static void pack(void)
+{
+    struct garumbott_length written = garumbott_pack(letters, ref.letters_len, packed, sizeof packed);
+    if (written.refusal)
+        fail("letters packed");
+    ref.form = GARUMBOTT_FORM_PACKED;
+    ref.size = ref.letters_len;
+    ref.letters = packed;
+    ref.letters_len = written.len;
+}
+
 static void head_checks(void)
 {
     if (pass == PASSES)
-        printf("\n%-58s%10s%10s%14s  %s\n", "a record checked, where that may be dear", "check", "record", "check/record", "answer");
+        printf("\n%-58s%10s%10s%14s  %s\n", packing ? "the same, letters packed" : "a record checked, where that may be dear", "check", "record", "check/record", "answer");
 }
 
 /* The edit's own record, handed back; a silent edit has none, and is refused (26). */
 static void row_check(const char *what, uint64_t len)
 {
+    if (packing)
+        pack();
     own = record_of(&ref, &edit, &buffers);
     memcpy(deleted, rp + own.deleted_at, own.deleted_len);
     memcpy(inserted, ap + own.inserted_at, own.inserted_len);
@@ -433,9 +450,11 @@ int main(void)
     printf("nanoseconds a call, the best of %d rounds, of slow calls %d\n", PASSES * ROUNDS, PASSES * FEWEST);
     for (pass = 1; pass <= PASSES; pass++) {
         at = 0;
-        head_checks();
-        for (unsigned k = 0; k < LENGTHS; k++)
-            checks(lengths[k]);
+        for (packing = 0; packing < 2; packing++) {
+            head_checks();
+            for (unsigned k = 0; k < LENGTHS; k++)
+                checks(lengths[k]);
+        }
         head_calls();
         calls();
     }
