@@ -1,65 +1,68 @@
--- `packed::stops::packed_first_stop` meets its contract. The invariant: the first stop from codon i on is the first. Assumes nothing.
-use mathlib.Core.Path.{_≡_, sym, ap, _∙_}
-use mathlib.Core.List.{List}
-use Prim.Native.Nat.{ℕ, _+_, _-_, _*_, _/_, _≤_, _<_}
+-- `packed::stops::packed_first_stop` meets its contract. The invariant: the first stop from codon i on is the first, and no exception stands
+-- between codon i and the next that is known. Assumes nothing.
+use mathlib.Core.Path.{_≡_, sym, _∙_}
+use Prim.Native.Nat.{_+_, _-_, _*_, _/_, _≤_, _<_}
 use native.Mathlib.Omega.{arith}
 use borrow.Author.Needs.{needs}
 use lib.ListN.{length}
-use Rattle.rules.specs.declared.Exceptions.{Exceptions}
 use Rattle.rules.specs.Altered.{part}
-use Rattle.rules.specs.Codons.{codonRule}
-use Rattle.rules.specs.Translation.{exceptionList, excepted, beforeStop, wholeCodons, foldedTranslated}
-use Rattle.rules.specs.Packed.{setAt, lettersIn}
-use Rattle.walks.specs.Walks.{residueAt}
+use Rattle.rules.specs.Translation.{exceptionList, beforeStop, wholeCodons, foldedTranslated}
+use Rattle.rules.specs.Packed.{lettersIn}
+use Rattle.excepted.specs.Exceptions.{Clear}
+use Rattle.excepted.proofs.Putting.{next-clear}
 use Rattle.walks.proofs.Walks.{stopsFrom, stops-all, stops-later, stops-here, stops-none}
 use Rattle.halves.proofs.Halves.{length-of-part}
-use Rattle.packed.proofs.Codons.{codon-in}
 use Rattle.packed.proofs.stops.packed_first_stop.Statement.{statement}
 use Rattle.packed.proofs.stops.packed_first_stop.Tie as tie
 
 abbrev Inv-loop : tie.InvT-loop
-Inv-loop packed first end table e residues whole i₀ i =
+Inv-loop packed first end table e residues whole next₀ i₀ next i =
     (i ≤ whole)
+    × Clear (exceptionList e) i next
     × (stopsFrom table (exceptionList e) (part first end (lettersIn packed)) i ≡ beforeStop (foldedTranslated table (exceptionList e) (wholeCodons (part first end (lettersIn packed)))))
 
 abbrev μ-loop : tie.MeasureT-loop
-μ-loop packed first end table e residues whole i₀ i = whole - i
+μ-loop packed first end table e residues whole next₀ i₀ next i = whole - i
 
--- the residue of the codon that is read
-read : (t : ℕ) (e : Exceptions) (bs : List ℕ) (first end i r v : ℕ) → i * 3 + 3 ≤ end - first → r ≡ codonRule t (setAt bs (first + i * 3)) (setAt bs (first + i * 3 + 1)) (setAt bs (first + i * 3 + 2)) → v ≡ excepted (exceptionList e) (i + 1) r
-    → v ≡ residueAt t (exceptionList e) (part first end (lettersIn bs)) i
-unfolding residueAt
-read t e bs first end i r v h is is′ =
-    is′ ∙ ap (excepted (exceptionList e) (i + 1)) (is ∙ codon-in t first end bs i (first + i * 3) (first + i * 3 + 1) (first + i * 3 + 2) h (omega arith) (omega arith) (omega arith))
+loop-holds : tie.Need-loop-holds Inv-loop μ-loop
+loop-holds c =
+    let a = c .before .before .before .args in
+    (omega arith, next-clear (exceptionList (a .e)) 0 ((a .end - a .first) / 3 + 1) (c .next-exception .result) (omega arith) (c .next-exception .ensures), stops-all (a .table) (exceptionList (a .e)) (part (a .first) (a .end) (lettersIn (a .packed .now))))
 
-packed-codon-requires : tie.Need-packed-codon-requires Inv-loop μ-loop
-packed-codon-requires c κs = (c .before .before .before .residues-of .ensures, omega (arith, c .before .before .before .before .before .pre .1))
+packed-turn-requires : tie.Need-packed-turn-requires Inv-loop μ-loop
+packed-turn-requires c κs =
+    let loop = c .before .before .loop in
+    let start = c .before .before .before .before .before .before in
+    (c .before .before .before .before .residues-of .ensures, (start .pre .1, (start .pre .0 .1, (omega arith, loop .inv .1))))
 
 loop-again : tie.Need-loop-again Inv-loop μ-loop
 loop-again c =
-    let a = c .before .before .before .before .before .before .before .before .args in
+    let start = c .before .before .before .before .before .before .before .before in
+    let a = start .args in
     let s = part (a .first) (a .end) (lettersIn (a .packed .now)) in
-    let loop = c .before .before .before .before .before .loop in
-    let long : length s ≡ a .end - a .first = length-of-part (a .first) (a .end) (a .packed .now) (c .before .before .before .before .before .before .before .before .pre .1 .1) in
-    let is = read (a .table) (a .e) (a .packed .now) (a .first) (a .end) (loop .i) _ _ (omega arith) (c .before .before .packed-codon .ensures) (c .before .excepted-at .ensures) in
-    (omega arith, sym (stops-later (a .table) (exceptionList (a .e)) s (loop .i) _ (omega arith) is (c .if2 .left)) ∙ loop .inv .1)
+    let long : length s ≡ a .end - a .first = length-of-part (a .first) (a .end) (a .packed .now) (start .pre .1 .1) in
+    let turn = c .before .packed-turn in
+    let loop = c .before .before .before .before .loop in
+    (omega arith, turn .ensures .1, sym (stops-later (a .table) (exceptionList (a .e)) s (loop .i) (turn .result .residue) (omega arith) (turn .ensures .0) (c .if2 .left)) ∙ loop .inv .2)
 
 returns : tie.Need-returns Inv-loop μ-loop
 returns c =
-    let a = c .before .before .before .before .args in
+    let start = c .before .before .before .before .before in
+    let a = start .args in
     let s = part (a .first) (a .end) (lettersIn (a .packed .now)) in
+    let long : length s ≡ a .end - a .first = length-of-part (a .first) (a .end) (a .packed .now) (start .pre .1 .1) in
     let loop = c .before .loop in
-    let long : length s ≡ a .end - a .first = length-of-part (a .first) (a .end) (a .packed .now) (c .before .before .before .before .pre .1 .1) in
-    omega (arith, stops-none (a .table) (exceptionList (a .e)) s (loop .i) (omega arith), loop .inv .1)
+    omega (arith, stops-none (a .table) (exceptionList (a .e)) s (loop .i) (omega arith), loop .inv .2)
 
 returns-2 : tie.Need-returns-2 Inv-loop μ-loop
 returns-2 c =
-    let a = c .before .before .before .before .before .before .before .before .args in
+    let start = c .before .before .before .before .before .before .before .before in
+    let a = start .args in
     let s = part (a .first) (a .end) (lettersIn (a .packed .now)) in
-    let loop = c .before .before .before .before .before .loop in
-    let long : length s ≡ a .end - a .first = length-of-part (a .first) (a .end) (a .packed .now) (c .before .before .before .before .before .before .before .before .pre .1 .1) in
-    let is = read (a .table) (a .e) (a .packed .now) (a .first) (a .end) (loop .i) _ _ (omega arith) (c .before .before .packed-codon .ensures) (c .before .excepted-at .ensures) in
-    sym (stops-here (a .table) (exceptionList (a .e)) s (loop .i) _ (omega arith) is (c .if2 .taken)) ∙ loop .inv .1
+    let long : length s ≡ a .end - a .first = length-of-part (a .first) (a .end) (a .packed .now) (start .pre .1 .1) in
+    let turn = c .before .packed-turn in
+    let loop = c .before .before .before .before .loop in
+    sym (stops-here (a .table) (exceptionList (a .e)) s (loop .i) (turn .result .residue) (omega arith) (turn .ensures .0) (c .if2 .taken)) ∙ loop .inv .2
 
 pub packed-first-stop-spec : {M : Type 1} → statement M
 packed-first-stop-spec =
@@ -69,12 +72,10 @@ packed-first-stop-spec =
     μ-loop
     (λ c κs. search needs)
     (λ c. search needs)
-    (λ c. (omega arith, stops-all (c .before .before .args .table) (exceptionList (c .before .before .args .e)) (part (c .before .before .args .first) (c .before .before .args .end) (lettersIn (c .before .before .args .packed .now)))))
-    (λ c. omega arith)
-    (λ c. omega arith)
-    packed-codon-requires
     (λ c. omega arith)
     (λ c κs. search needs)
+    loop-holds
+    packed-turn-requires
     (λ c. omega arith)
     (λ c. omega arith)
     loop-again
