@@ -43,7 +43,7 @@ fn put_exception(x: Exception, whole: usize, out: &mut [u8])
     requires { ⌜ whole ≤ length (now out) ⌝ }
     ensures { λ _. ⌜ now (out .exit) ≡ exceptedFrom (x ∷ []) 1 (take whole (now (out .entry))) ++ drop whole (now (out .entry)) ⌝ }
 {
-    let codon = x.codon;
+    let codon = x.codon as usize;
     if (1 <= codon) & (codon <= whole) {
         out[codon - 1] = x.residue;
     }
@@ -66,7 +66,7 @@ pub fn put_exceptions(e: Exceptions, whole: usize, out: &mut [u8])
 fn excepted_by(x: Exception, n: usize, r: u8) -> u8
     ensures { λ y. ⌜ y ≡ excepted (x ∷ []) n r ⌝ }
 {
-    if x.codon == n {
+    if x.codon as usize == n {
         return x.residue;
     }
     r
@@ -91,8 +91,9 @@ pub fn excepted_at(e: Exceptions, n: usize, r: u8) -> u8
 fn nearer_by(x: Exception, n: usize, next: usize) -> usize
     ensures { λ r. ⌜ r ≡ nearer x n next ⌝ }
 {
-    if (n <= x.codon) & (x.codon < next) {
-        return x.codon;
+    let codon = x.codon as usize;
+    if (n <= codon) & (codon < next) {
+        return codon;
     }
     next
 }

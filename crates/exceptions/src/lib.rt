@@ -37,7 +37,7 @@ fn moved_one(
     requires { ⌜ (1 ≤ x .codon) × (first + 3 * x .codon ≤ size) ⌝ }
     ensures { λ r. ⌜ ((old new : List ℕ) → Shared prefix suffix size made old new → leftOf r ≡ movedOne prefix first old new x) ⌝ }
 {
-    let at = first + 3 * (x.codon - 1);
+    let at = first + 3 * (x.codon as usize - 1);
     if at + 3 <= prefix {
         return Moved::To(x);
     }
@@ -49,7 +49,7 @@ fn moved_one(
         return Moved::Dropped;
     }
     Moved::To(Exception {
-        codon: (to - first) / 3 + 1,
+        codon: ((to - first) / 3 + 1) as u32,
         residue: x.residue,
     })
 }

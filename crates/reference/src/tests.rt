@@ -45,7 +45,8 @@ pub fn are_bounds(size: usize, c: Cds) -> bool
 fn is_exception(x: Exception, last: usize, most: usize) -> bool
     ensures { λ r. ⌜ r ≡ isException last most x ⌝ }
 {
-    (last < x.codon) & (x.codon <= most) & is_residue(x.residue)
+    let codon = x.codon as usize;
+    (last < codon) & (codon <= most) & is_residue(x.residue)
 }
 
 // At most 16, strictly rising, of `most` codons.
@@ -64,7 +65,7 @@ pub fn fit_exceptions(e: Exceptions, most: usize) -> bool
         if !is_exception(x, last, most) {
             return false;
         }
-        last = x.codon;
+        last = x.codon as usize;
         i += 1;
     }
     true

@@ -26,9 +26,10 @@ pub struct Edit {
     pub end: Position,
 }
 
-// A codon's number, from 1, and the residue that replaces the table's there.
+// A codon's number, from 1, and the residue that replaces the table's there. Four bytes hold every codon of a transcript; a call hands its
+// exceptions on often, so they are kept small.
 pub struct Exception {
-    pub codon: usize,
+    pub codon: u32,
     pub residue: u8,
 }
 
@@ -68,10 +69,14 @@ pub const LONGEST_PROTEIN: usize = 43691;
 
 pub const MOST: usize = 4096;
 
-// The longest transcript whose protein goes to the smaller of two rooms, and that room.
+// The longest transcripts whose proteins go to rooms smaller than that, and those rooms: a call clears the room that it takes.
 pub const SHORT: usize = 16384;
 
 pub const SHORT_PROTEIN: usize = 5462;
+
+pub const SMALL: usize = 4096;
+
+pub const SMALL_PROTEIN: usize = 1366;
 
 // The longest transcript, and the most new bases.
 pub struct Limits {

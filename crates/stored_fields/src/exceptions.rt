@@ -13,7 +13,7 @@ fn exception_at(s: &[u8], i: usize) -> Exception
     ensures { λ r. ⌜ r ≡ exceptionAt (now (s .entry)) i ⌝ }
 {
     Exception {
-        codon: two_bytes(s, i * 3),
+        codon: two_bytes(s, i * 3) as u32,
         residue: s[i * 3 + 2],
     }
 }

@@ -16,7 +16,7 @@ fn write_exception(e: Exception, out: &mut [u8]) -> usize
     ensures { λ r. ⌜ r ≡ 3 ⌝ }
     ensures { λ _. ⌜ now (out .exit) ≡ over (exceptionBytes e) (now (out .entry)) ⌝ }
 {
-    let codon = write_two(e.codon, out);
+    let codon = write_two(e.codon as usize, out);
     out[codon] = e.residue;
     codon + 1
 }

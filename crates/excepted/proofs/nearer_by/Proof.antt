@@ -1,4 +1,5 @@
 -- `translation::nearer_by` meets its contract. Assumes nothing.
+use borrow.Author.Needs.{needs}
 use Rattle.excepted.specs.Exceptions.{nearer}
 use Rattle.excepted.proofs.nearer_by.Statement.{statement}
 use Rattle.excepted.proofs.nearer_by.Tie as tie
@@ -14,4 +15,4 @@ returns-2 c =
     rw (c .if1 .left)
 
 pub nearer-by-spec : {M : Type 1} → statement M
-nearer-by-spec = tie.close (tie.spec returns returns-2)
+nearer-by-spec = tie.close (tie.spec (λ c. search needs) returns returns-2)
