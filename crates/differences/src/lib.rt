@@ -1,0 +1,141 @@
+// The codons of two CDS side by side, from one difference to the next.
+use alike::Edition;
+use alike::equal_codons;
+use entries::entry_of;
+use entries::residue_by;
+use numbers::least;
+ghost use mathlib.Core.Path.{_≡_};
+ghost use Prim.Native.Nat.{_-_, _<_, _≤_};
+ghost use lib.ListN.{length};
+ghost use Rattle.rules.specs.Bytes.{each, over};
+ghost use Rattle.rules.specs.Editions.{differenceAt, differencesFrom, differenceBytes};
+ghost use Rattle.alike.specs.Reading.{editionOf, Fits};
+ghost use Rattle.differences.specs.Walks.{Reads, Passes, Skips};
+
+// A codon from n on, at most `past`, before which all from n on are equal.
+fn pass_equal(first: &[u8], r: Edition, second: &[u8], s: Edition, n: usize, past: usize) -> usize
+    requires { ⌜ Fits (now first) r ⌝ }
+    requires { ⌜ Fits (now second) s ⌝ }
+    requires { ⌜ (1 ≤ n) × (n ≤ past) ⌝ }
+    requires { ⌜ past ≤ 65536 ⌝ }
+    ensures { λ m. ⌜ Passes (editionOf (now (first .entry)) r) (editionOf (now (second .entry)) s) n past m ⌝ }
+{
+    least(n + equal_codons(first, r, second, s, n), past)
+}
+
+// The first codon from n on, and before `past`, that has other letters or another residue; where none has, `past`.
+// Forms and bounds are copied once: a whole edition, with room for 16 exceptions, would be for every codon.
+fn next_difference(
+    first: &[u8],
+    r: Edition,
+    a: &[u8; 4096],
+    second: &[u8],
+    s: Edition,
+    b: &[u8; 4096],
+    n: usize,
+    past: usize,
+) -> usize
+    requires { ⌜ Reads (now first) r (now a) ⌝ }
+    requires { ⌜ Reads (now second) s (now b) ⌝ }
+    requires { ⌜ (1 ≤ n) × (n ≤ past) ⌝ }
+    requires { ⌜ past ≤ 65536 ⌝ }
+    ensures { λ m. ⌜ Skips (editionOf (now (first .entry)) r) (editionOf (now (second .entry)) s) n past m ⌝ }
+{
+    let f = r.form;
+    let c = r.cds;
+    let g = s.form;
+    let d = s.cds;
+    let mut m = n;
+    while m < past {
+        let p = entry_of(first, f, c, m);
+        let q = entry_of(second, g, d, m);
+        if p != q {
+            return m;
+        }
+        if residue_by(a, r.e, p, m) != residue_by(b, s.e, q, m) {
+            return m;
+        }
+        m = pass_equal(first, r, second, s, m + 1, past);
+    }
+    m
+}
+
+// How many codons before `past` aren't equal.
+pub fn count_differences(
+    first: &[u8],
+    r: Edition,
+    a: &[u8; 4096],
+    second: &[u8],
+    s: Edition,
+    b: &[u8; 4096],
+    past: usize,
+) -> usize
+    requires { ⌜ Reads (now first) r (now a) ⌝ }
+    requires { ⌜ Reads (now second) s (now b) ⌝ }
+    requires { ⌜ (1 ≤ past) × (past ≤ 65536) ⌝ }
+    ensures { λ k. ⌜ k ≡ length (differencesFrom (editionOf (now (first .entry)) r) (editionOf (now (second .entry)) s) 1 (past - 1)) ⌝ }
+    ensures few { λ k. ⌜ k < past ⌝ }
+{
+    let mut count = 0;
+    let mut n = next_difference(first, r, a, second, s, b, 1, past);
+    while n < past {
+        count += 1;
+        n = next_difference(first, r, a, second, s, b, n + 1, past);
+    }
+    count
+}
+
+// Writes a difference to the buffer's start: the codon's number in two bytes, high byte first, then both residues.
+fn put_difference(
+    first: &[u8],
+    r: Edition,
+    a: &[u8; 4096],
+    second: &[u8],
+    s: Edition,
+    b: &[u8; 4096],
+    n: usize,
+    out: &mut [u8],
+)
+    requires { ⌜ Reads (now first) r (now a) ⌝ }
+    requires { ⌜ Reads (now second) s (now b) ⌝ }
+    requires { ⌜ (1 ≤ n) × (n < 65536) ⌝ }
+    requires { ⌜ 4 ≤ length (now out) ⌝ }
+    ensures { λ _. ⌜ now (out .exit) ≡ over (differenceBytes (differenceAt (editionOf (now (first .entry)) r) (editionOf (now (second .entry)) s) n)) (now (out .entry)) ⌝ }
+{
+    let f = r.form;
+    let c = r.cds;
+    let g = s.form;
+    let d = s.cds;
+    let p = entry_of(first, f, c, n);
+    let q = entry_of(second, g, d, n);
+    out[0] = (n / 256) as u8;
+    out[1] = (n % 256) as u8;
+    out[2] = residue_by(a, r.e, p, n);
+    out[3] = residue_by(b, s.e, q, n);
+}
+
+// Writes each difference before `past` to the buffer's start, in rising number.
+pub fn write_differences(
+    first: &[u8],
+    r: Edition,
+    a: &[u8; 4096],
+    second: &[u8],
+    s: Edition,
+    b: &[u8; 4096],
+    past: usize,
+    out: &mut [u8],
+)
+    requires { ⌜ Reads (now first) r (now a) ⌝ }
+    requires { ⌜ Reads (now second) s (now b) ⌝ }
+    requires { ⌜ (1 ≤ past) × (past ≤ 65536) ⌝ }
+    requires { ⌜ length (each differenceBytes (differencesFrom (editionOf (now first) r) (editionOf (now second) s) 1 (past - 1))) ≤ length (now out) ⌝ }
+    ensures { λ _. ⌜ now (out .exit) ≡ over (each differenceBytes (differencesFrom (editionOf (now (first .entry)) r) (editionOf (now (second .entry)) s) 1 (past - 1))) (now (out .entry)) ⌝ }
+{
+    let mut at = 0;
+    let mut n = next_difference(first, r, a, second, s, b, 1, past);
+    while n < past {
+        put_difference(first, r, a, second, s, b, n, &mut out[at..]);
+        at += 4;
+        n = next_difference(first, r, a, second, s, b, n + 1, past);
+    }
+}
