@@ -1,9 +1,9 @@
--- `proposals::gives` meets its contract.
+-- `replays::gives` meets its contract.
 -- Assumes nothing.
 use borrow.Author.Needs.{needs}
-use Rattle.proposals.proofs.Laws.{replayed-at}
-use Rattle.proposals.proofs.gives.Statement.{statement}
-use Rattle.proposals.proofs.gives.Tie as tie
+use Rattle.replays.proofs.Replaying.{replayed-at}
+use Rattle.replays.proofs.gives.Statement.{statement}
+use Rattle.replays.proofs.gives.Tie as tie
 
 returns : tie.Need-returns
 returns c =

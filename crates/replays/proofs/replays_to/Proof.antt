@@ -1,9 +1,9 @@
--- `proposals::replays_to` meets its contract.
+-- `replays::replays_to` meets its contract.
 -- Assumes nothing.
 use borrow.Author.Needs.{needs}
 use Rattle.rules.specs.Check.{replays}
-use Rattle.proposals.proofs.replays_to.Statement.{statement}
-use Rattle.proposals.proofs.replays_to.Tie as tie
+use Rattle.replays.proofs.replays_to.Statement.{statement}
+use Rattle.replays.proofs.replays_to.Tie as tie
 
 returns : tie.Need-returns
 unfolding replays

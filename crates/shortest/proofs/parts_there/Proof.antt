@@ -1,11 +1,11 @@
--- `proposals::parts_there` meets its contract.
+-- `shortest::parts_there` meets its contract.
 -- Assumes nothing.
 use native.Mathlib.Omega.{arith}
 use borrow.Author.Needs.{needs}
 use Rattle.rules.proofs.Trims.{cp-le-l, cp-le-r}
-use Rattle.proposals.proofs.Laws.{begins-not, ending-within, leaves-by}
-use Rattle.proposals.proofs.parts_there.Statement.{statement}
-use Rattle.proposals.proofs.parts_there.Tie as tie
+use Rattle.shortest.proofs.Parting.{begins-not, ending-within, leaves-by}
+use Rattle.shortest.proofs.parts_there.Statement.{statement}
+use Rattle.shortest.proofs.parts_there.Tie as tie
 
 add-if1 : tie.Need-add-if1
 add-if1 c = let args = c .before .before .before .before .args in omega (arith, cp-le-l (args .reference .now) (args .altered .now))

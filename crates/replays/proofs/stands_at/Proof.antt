@@ -1,10 +1,10 @@
--- `proposals::stands_at` meets its contract.
+-- `replays::stands_at` meets its contract.
 -- Assumes nothing.
 use mathlib.Core.Path.{_∙_}
 use borrow.Author.Needs.{needs}
-use Rattle.proposals.proofs.Laws.{stands-there, stands-not}
-use Rattle.proposals.proofs.stands_at.Statement.{statement}
-use Rattle.proposals.proofs.stands_at.Tie as tie
+use Rattle.replays.proofs.Replaying.{stands-there, stands-not}
+use Rattle.replays.proofs.stands_at.Statement.{statement}
+use Rattle.replays.proofs.stands_at.Tie as tie
 
 returns : tie.Need-returns
 returns c =

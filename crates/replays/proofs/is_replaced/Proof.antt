@@ -1,12 +1,12 @@
--- `proposals::is_replaced` meets its contract.
+-- `replays::is_replaced` meets its contract.
 -- Assumes nothing.
 use mathlib.Core.Path.{sym}
 use native.Mathlib.Omega.{arith}
 use borrow.Author.Needs.{needs}
 use lib.Seq.{length-take-le}
-use Rattle.proposals.proofs.Laws.{too-short, three-parts}
-use Rattle.proposals.proofs.is_replaced.Statement.{statement}
-use Rattle.proposals.proofs.is_replaced.Tie as tie
+use Rattle.replays.proofs.Replaying.{too-short, three-parts}
+use Rattle.replays.proofs.is_replaced.Statement.{statement}
+use Rattle.replays.proofs.is_replaced.Tie as tie
 
 returns : tie.Need-returns
 returns c =
