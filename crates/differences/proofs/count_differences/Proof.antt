@@ -8,7 +8,7 @@ use native.Mathlib.Omega.{arith}
 use lib.ListN.{length}
 use Rattle.rules.specs.Editions.{isEqualCodon, Difference}
 use Rattle.alike.specs.Reading.{editionOf}
-use Rattle.differences.proofs.Walking.{left, counted, all-counted}
+use Rattle.skips.proofs.Walking.{left, counted, all-counted}
 use Rattle.differences.proofs.count_differences.Statement.{statement}
 use Rattle.differences.proofs.count_differences.Tie as tie
 

@@ -5,8 +5,8 @@ use borrow.Author.Needs.{needs}
 use lib.ListN.{length-set}
 use Rattle.rules.specs.Editions.{differenceAt, differenceBytes}
 use Rattle.alike.proofs.Judged.{inside-of, few-of}
-use Rattle.differences.proofs.Residues.{residue-of}
-use Rattle.differences.proofs.Walking.{put-four}
+use Rattle.skips.proofs.Residues.{residue-of}
+use Rattle.skips.proofs.Walking.{put-four}
 use Rattle.differences.proofs.put_difference.Statement.{statement}
 use Rattle.differences.proofs.put_difference.Tie as tie
 

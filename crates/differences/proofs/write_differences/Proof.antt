@@ -11,7 +11,7 @@ use Rattle.rules.specs.Bytes.{each, over}
 use Rattle.rules.specs.Editions.{isEqualCodon, differenceBytes}
 use Rattle.alike.specs.declared.Edition.{Edition}
 use Rattle.alike.specs.Reading.{editionOf}
-use Rattle.differences.proofs.Walking.{left, four-more, bytes-left, written-on, length-on, all-written}
+use Rattle.skips.proofs.Walking.{left, four-more, bytes-left, written-on, length-on, all-written}
 use Rattle.differences.proofs.write_differences.Statement.{statement}
 use Rattle.differences.proofs.write_differences.Tie as tie
 

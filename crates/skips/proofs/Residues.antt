@@ -29,7 +29,7 @@ use Rattle.alike.specs.declared.Edition.{Edition}
 use Rattle.alike.specs.Reading.{editionOf}
 use Rattle.alike.proofs.Letters.{set-some, set-small, same-letters}
 use Rattle.alike.proofs.Judged.{letters-of-cds, entry-of}
-use Rattle.differences.specs.Walks.{Reads}
+use Rattle.skips.specs.Walks.{Reads}
 
 -- the residue of codon i + 1 of letters
 module _ (t : ℕ) (es : List Exception) (u : List ℕ) (residues : List ℕ) (code : HoldsCode t residues) (good : all isLetter u ≡ true) (i entry : ℕ) (is : entry ≡ letterSet (getD u (i * 3) 0) * 256 + letterSet (getD u (i * 3 + 1) 0) * 16 + letterSet (getD u (i * 3 + 2) 0)) where

@@ -1,14 +1,14 @@
--- `differences::next_difference` meets its contract. The invariant: the differences from n on are those from m on.
+-- `skips::next_difference` meets its contract. The invariant: the differences from n on are those from m on.
 -- Assumes nothing.
 use mathlib.Core.Path.{_≡_, refl, sym, _∙_}
 use Prim.Native.Nat.{_-_, _≤_}
 use native.Mathlib.Omega.{arith}
 use Rattle.alike.specs.Reading.{editionOf}
 use Rattle.alike.proofs.Judged.{inside-of, few-of}
-use Rattle.differences.proofs.Residues.{other-letters, other-residues, same-residues}
-use Rattle.differences.proofs.Walking.{left, skip-one}
-use Rattle.differences.proofs.next_difference.Statement.{statement}
-use Rattle.differences.proofs.next_difference.Tie as tie
+use Rattle.skips.proofs.Residues.{other-letters, other-residues, same-residues}
+use Rattle.skips.proofs.Walking.{left, skip-one}
+use Rattle.skips.proofs.next_difference.Statement.{statement}
+use Rattle.skips.proofs.next_difference.Tie as tie
 
 abbrev Inv-loop : tie.InvT-loop
 Inv-loop first r a second s b n past f c g d m₀ m =

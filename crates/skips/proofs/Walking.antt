@@ -13,7 +13,7 @@ use Rattle.rules.specs.Reference.{Reference}
 use Rattle.rules.specs.Editions.{isEqualCodon, Difference, differenceAt, differencesFrom, differenceBytes}
 use Rattle.rules.proofs.Over.{length-over, lent-on-by}
 use Rattle.alike.specs.Reading.{AreEqual}
-use Rattle.differences.specs.Walks.{Passes, Skips}
+use Rattle.skips.specs.Walks.{Passes, Skips}
 
 -- four bytes stored at a buffer's start, the last two by what they are equal to
 pub put-four : (d : List ℕ) (w x y z v u : ℕ) → 4 ≤ length d → y ≡ v → z ≡ u → set (set (set (set d 0 w) 1 x) 2 y) 3 z ≡ over (w ∷ x ∷ v ∷ u ∷ []) d

@@ -1,10 +1,10 @@
--- `differences::pass_equal` meets its contract. Assumes nothing.
+-- `skips::pass_equal` meets its contract. Assumes nothing.
 use native.Mathlib.Omega.{arith}
 use borrow.Author.Needs.{needs}
 use Rattle.alike.specs.Reading.{editionOf}
-use Rattle.differences.proofs.Walking.{passed}
-use Rattle.differences.proofs.pass_equal.Statement.{statement}
-use Rattle.differences.proofs.pass_equal.Tie as tie
+use Rattle.skips.proofs.Walking.{passed}
+use Rattle.skips.proofs.pass_equal.Statement.{statement}
+use Rattle.skips.proofs.pass_equal.Tie as tie
 
 equal-codons-requires : tie.Need-equal-codons-requires
 equal-codons-requires c κs =
