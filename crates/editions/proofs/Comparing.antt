@@ -21,8 +21,9 @@ use Rattle.reference.specs.declared.Judged.{Judged}
 use Rattle.reference.specs.declared.Judged.the-variants.{Refused, Clear}
 use Rattle.reference.specs.Known.{judgedOf}
 use Rattle.reference.proofs.Judging.{was-refused, was-clear, readable, accepted-early}
-use Rattle.editions.specs.declared.Edition.{Edition}
-use Rattle.editions.specs.Reading.{editionOf, Fits, listing}
+use Rattle.alike.specs.declared.Edition.{Edition}
+use Rattle.alike.specs.Reading.{editionOf, Fits}
+use Rattle.editions.specs.Listing.{listing}
 
 -- no refusal of a reference is above 28
 few-numbers : (most : ℕ) (ts : List Test) → all (λ (t : Test). leb (t .number) most) ts ≡ true → firstOf ts ≤ most

@@ -1,19 +1,13 @@
 // "Compare two editions of a transcript": the codons in which two references differ, counted, then written.
-mod alike;
-mod codon;
-mod walk;
-
+pub use alike::Edition;
+use differences::count_differences;
+use differences::write_differences;
 use numbers::thirds;
 use reference::Judged;
 use reference::judge_reference;
-use rules::Cds;
-use rules::Exceptions;
-use rules::Form;
 use rules::LONGEST;
 use rules::Written;
 use tables::residues_of;
-use walk::count_differences;
-use walk::write_differences;
 ghost use mathlib.Core.Path.{_≡_};
 ghost use Prim.Native.Nat.{max};
 ghost use lib.ListN.{length};
@@ -21,14 +15,8 @@ ghost use Rattle.rules.specs.Bytes.{over};
 ghost use Rattle.rules.specs.Refusal.{limits};
 ghost use Rattle.rules.specs.Editions.{codonCount, compared};
 ghost use Rattle.rules.specs.Answer.{writtenOf, bytesOf};
-ghost use Rattle.editions.specs.Reading.{editionOf, Fits, listing};
-
-// The form of a reference's letters, its bounds, table, end and exceptions. The letters are lent beside them.
-pub struct Edition {
-    pub form: Form,
-    pub cds: Cds,
-    pub e: Exceptions,
-}
+ghost use Rattle.alike.specs.Reading.{editionOf, Fits};
+ghost use Rattle.editions.specs.Listing.{listing};
 
 // The number of codons of a CDS, a cut one counted.
 fn codon_count(letters: &[u8], x: Edition) -> usize

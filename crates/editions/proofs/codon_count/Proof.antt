@@ -1,7 +1,7 @@
 -- `editions::codon_count` meets its contract. Assumes nothing.
 use mathlib.Core.Path.{_∙_}
 use borrow.Author.Needs.{needs}
-use Rattle.editions.proofs.Residues.{count-of}
+use Rattle.alike.proofs.Judged.{count-of}
 use Rattle.editions.proofs.codon_count.Statement.{statement}
 use Rattle.editions.proofs.codon_count.Tie as tie
 

@@ -7,7 +7,7 @@ use lib.ListN.{length}
 use Rattle.rules.specs.Refusal.{limits, referenceRefusal}
 use Rattle.rules.specs.Editions.{compared}
 use Rattle.rules.proofs.Fills.{refuses}
-use Rattle.editions.specs.Reading.{editionOf}
+use Rattle.alike.specs.Reading.{editionOf}
 use Rattle.editions.proofs.Comparing.{refusal-small, first-refused, second-refused, neither-refused, fits-of, judged-refused, judged-clear}
 use Rattle.editions.proofs.compare.Statement.{statement}
 use Rattle.editions.proofs.compare.Tie as tie

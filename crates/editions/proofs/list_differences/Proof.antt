@@ -8,8 +8,9 @@ use lib.ListN.{length}
 use Rattle.rules.specs.Bytes.{over}
 use Rattle.rules.specs.Editions.{codonCount, listed}
 use Rattle.rules.proofs.Fills.{refuses, gives}
-use Rattle.editions.specs.Reading.{editionOf, listing}
-use Rattle.editions.proofs.Residues.{count-small}
+use Rattle.alike.specs.Reading.{editionOf}
+use Rattle.alike.proofs.Judged.{count-small}
+use Rattle.editions.specs.Listing.{listing}
 use Rattle.editions.proofs.Comparing.{all-differences, bytes-counted, no-room, has-room}
 use Rattle.editions.proofs.list_differences.Statement.{statement}
 use Rattle.editions.proofs.list_differences.Tie as tie

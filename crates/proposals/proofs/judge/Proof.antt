@@ -1,7 +1,7 @@
 -- `proposals::judge` meets its contract.
 -- Assumes nothing.
 use borrow.Author.Needs.{needs}
-use Rattle.proposals.specs.Proposed.{proposed}
+use Rattle.replays.specs.Proposed.{proposed}
 use Rattle.proposals.proofs.Laws.{both-no, first-yes}
 use Rattle.proposals.proofs.judge.Statement.{statement}
 use Rattle.proposals.proofs.judge.Tie as tie

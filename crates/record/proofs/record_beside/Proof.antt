@@ -2,8 +2,8 @@
 -- Assumes nothing.
 use native.Mathlib.Omega.{arith}
 use borrow.Author.Needs.{needs}
-use Rattle.record.proofs.Laws.{prefix-fits, ending-fits, is-empty, is-silent, is-changed}
-use Rattle.record.proofs.Shared.{shares-last}
+use Rattle.shares.proofs.Shared.{prefix-fits, ending-fits, shares-last}
+use Rattle.changes.proofs.Laws.{is-empty, is-silent, is-changed}
 use Rattle.record.proofs.record_beside.Statement.{statement}
 use Rattle.record.proofs.record_beside.Tie as tie
 

@@ -1,7 +1,7 @@
 -- `record::record_from` meets its contract: nothing is known to be shared.
 -- Assumes nothing.
 use borrow.Author.Needs.{needs}
-use Rattle.record.proofs.Shared.{shares-none}
+use Rattle.shares.proofs.Shared.{shares-none}
 use Rattle.record.proofs.record_from.Statement.{statement}
 use Rattle.record.proofs.record_from.Tie as tie
 

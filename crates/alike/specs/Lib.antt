@@ -1,0 +1,2 @@
+-- What only this crate's contracts want said.
+pub mod Reading

@@ -1,0 +1,2 @@
+-- Definitions that the contracts of the crate's functions cite.
+pub mod Seen
