@@ -1,12 +1,12 @@
 // "Positions and edits": what an accepted edit does, in numbers; the number of a silent record, and refusals 11 and 12.
 use crate::cut::Cut;
 use crate::cut::insert_stop_seq_end;
+use indexes::counted_of;
+use indexes::index_of;
 use numbers::least;
 use numbers::thirds;
 use packed::same_by;
 use packed::size_of;
-use positions::places::counted_of;
-use positions::places::index_of;
 use positions::refusals::is_duplication;
 use reference::Known;
 use rules::Cds;

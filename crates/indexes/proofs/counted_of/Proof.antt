@@ -1,8 +1,8 @@
--- `positions::places::counted_of` meets its contract. Assumes nothing.
+-- `indexes::counted_of` meets its contract. Assumes nothing.
 use borrow.Author.Needs.{needs}
 use Rattle.rules.specs.Position.{counted}
-use Rattle.positions.proofs.places.counted_of.Statement.{statement}
-use Rattle.positions.proofs.places.counted_of.Tie as tie
+use Rattle.indexes.proofs.counted_of.Statement.{statement}
+use Rattle.indexes.proofs.counted_of.Tie as tie
 
 returns : tie.Need-returns
 unfolding counted

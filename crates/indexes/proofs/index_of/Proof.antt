@@ -1,11 +1,11 @@
--- `positions::places::index_of` meets its contract. Assumes nothing.
+-- `indexes::index_of` meets its contract. Assumes nothing.
 use Prim.Native.Nat.{_+_, _-_, _≤_}
 use native.Mathlib.Omega.{arith}
 use borrow.Author.Needs.{needs}
 use Rattle.rules.specs.Position.{index}
-use Rattle.positions.proofs.Tests.{in-cds, in-star}
-use Rattle.positions.proofs.places.index_of.Statement.{statement}
-use Rattle.positions.proofs.places.index_of.Tie as tie
+use Rattle.indexes.proofs.Inside.{in-cds, in-star}
+use Rattle.indexes.proofs.index_of.Statement.{statement}
+use Rattle.indexes.proofs.index_of.Tie as tie
 
 plus : (c : tie.After-struct-known) → (1 ≤ c .before .before .p .given .0 .0) × (c .before .before .p .given .0 .0 ≤ c .before .before .before .before .args .c .ce + 1 - c .before .before .before .before .args .c .cs)
 plus c = let a = c .before .before .before .before .args in in-cds (a .c .cs) (a .c .ce) (a .p) _ (c .before .before .p .given .1) (c .before .before .before .before .pre .1)

@@ -9,7 +9,7 @@ ghost use Rattle.rules.specs.Position.{place, isOutside, index, isBefore, isBeh
 ghost use Rattle.reference.specs.Bounds.{Bounded};
 
 // 0; past the CDS; before base 1 of the transcript; star 0 or above 65,535.
-pub(crate) fn is_outside(p: Position, c: Cds) -> bool
+pub fn is_outside(p: Position, c: Cds) -> bool
     requires { ⌜ Bounded c ⌝ }
     ensures { λ r. ⌜ r ≡ isOutside (c .cs) (c .ce) p ⌝ }
 {
@@ -21,7 +21,7 @@ pub(crate) fn is_outside(p: Position, c: Cds) -> bool
 }
 
 // The place, counted from 0.
-pub(crate) fn place_of(p: Position, c: Cds) -> usize
+pub fn place_of(p: Position, c: Cds) -> usize
     requires { ⌜ Bounded c ⌝ }
     requires { ⌜ isOutside (c .cs) (c .ce) p ≡ false ⌝ }
     ensures { λ r. ⌜ r ≡ place (c .cs) (c .ce) p ⌝ }
@@ -47,7 +47,7 @@ pub fn index_of(p: Position, c: Cds, len: usize) -> usize
     }
 }
 
-pub(crate) fn is_before(p: Position) -> bool
+pub fn is_before(p: Position) -> bool
     ensures { λ r. ⌜ r ≡ isBefore p ⌝ }
 {
     match p {
@@ -57,7 +57,7 @@ pub(crate) fn is_before(p: Position) -> bool
     }
 }
 
-pub(crate) fn is_behind(p: Position) -> bool
+pub fn is_behind(p: Position) -> bool
     ensures { λ r. ⌜ r ≡ isBehind p ⌝ }
 {
     match p {

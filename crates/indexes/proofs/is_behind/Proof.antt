@@ -1,8 +1,8 @@
--- `positions::places::is_behind` meets its contract. Assumes nothing.
+-- `indexes::is_behind` meets its contract. Assumes nothing.
 use borrow.Author.Needs.{needs}
 use Rattle.rules.specs.Position.{isBehind}
-use Rattle.positions.proofs.places.is_behind.Statement.{statement}
-use Rattle.positions.proofs.places.is_behind.Tie as tie
+use Rattle.indexes.proofs.is_behind.Statement.{statement}
+use Rattle.indexes.proofs.is_behind.Tie as tie
 
 returns : tie.Need-returns
 unfolding isBehind

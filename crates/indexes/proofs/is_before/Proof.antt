@@ -1,8 +1,8 @@
--- `positions::places::is_before` meets its contract. Assumes nothing.
+-- `indexes::is_before` meets its contract. Assumes nothing.
 use borrow.Author.Needs.{needs}
 use Rattle.rules.specs.Position.{isBefore}
-use Rattle.positions.proofs.places.is_before.Statement.{statement}
-use Rattle.positions.proofs.places.is_before.Tie as tie
+use Rattle.indexes.proofs.is_before.Statement.{statement}
+use Rattle.indexes.proofs.is_before.Tie as tie
 
 returns : tie.Need-returns
 unfolding isBefore

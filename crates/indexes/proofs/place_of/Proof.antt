@@ -1,12 +1,12 @@
--- `positions::places::place_of` meets its contract: the number of a position that isn't outside is at least 1 and bounded, so no sum or difference
+-- `indexes::place_of` meets its contract: the number of a position that isn't outside is at least 1 and bounded, so no sum or difference
 -- leaves its type. Assumes nothing.
 use Prim.Native.Nat.{_+_, _-_, _≤_}
 use native.Mathlib.Omega.{arith}
 use borrow.Author.Needs.{needs}
 use Rattle.rules.specs.Position.{place}
-use Rattle.positions.proofs.Tests.{in-cds, in-front, in-star}
-use Rattle.positions.proofs.places.place_of.Statement.{statement}
-use Rattle.positions.proofs.places.place_of.Tie as tie
+use Rattle.indexes.proofs.Inside.{in-cds, in-front, in-star}
+use Rattle.indexes.proofs.place_of.Statement.{statement}
+use Rattle.indexes.proofs.place_of.Tie as tie
 
 plus : (c : tie.After-struct-known) → (1 ≤ c .before .before .p .given .0 .0) × (c .before .before .p .given .0 .0 ≤ c .before .before .before .before .args .c .ce + 1 - c .before .before .before .before .args .c .cs)
 plus c = let a = c .before .before .before .before .args in in-cds (a .c .cs) (a .c .ce) (a .p) _ (c .before .before .p .given .1) (c .before .before .before .before .pre .1)

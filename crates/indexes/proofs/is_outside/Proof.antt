@@ -1,8 +1,8 @@
--- `positions::places::is_outside` meets its contract. Assumes nothing.
+-- `indexes::is_outside` meets its contract. Assumes nothing.
 use borrow.Author.Needs.{needs}
 use Rattle.rules.specs.Position.{isOutside}
-use Rattle.positions.proofs.places.is_outside.Statement.{statement}
-use Rattle.positions.proofs.places.is_outside.Tie as tie
+use Rattle.indexes.proofs.is_outside.Statement.{statement}
+use Rattle.indexes.proofs.is_outside.Tie as tie
 
 returns : tie.Need-returns
 unfolding isOutside
