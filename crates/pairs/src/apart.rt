@@ -1,9 +1,9 @@
 // Whether two edits lie apart.
-use edits::plans::Range;
-use edits::plans::setup_incorporate;
 use positions::refusals::is_insertion;
 use rules::Cds;
 use rules::Edit;
+use spans::Range;
+use spans::setup_incorporate;
 ghost use Prim.Native.Nat.{ℕ};
 ghost use mathlib.Core.Path.{_≡_};
 ghost use mathlib.Core.List.{List};

@@ -1,5 +1,5 @@
 // Two plans carried out: the transcript of both, in five parts, and its protein. Nothing is refused here but for want of room.
-use edits::no_exceptions;
+use cuts::no_exceptions;
 use edits::plans::Plan;
 use numbers::thirds;
 use packed::copy_letters;

@@ -1,9 +1,9 @@
--- `edits::plans::room_refusal` meets its contract.
+-- `buffers::room_refusal` meets its contract.
 -- Assumes nothing.
-use Rattle.edits.proofs.Numbers.{no-transcript, no-reference, no-altered, room-enough}
+use Rattle.buffers.proofs.Rooms.{no-transcript, no-reference, no-altered, room-enough}
 use borrow.Author.Needs.{needs}
-use Rattle.edits.proofs.plans.room_refusal.Statement.{statement}
-use Rattle.edits.proofs.plans.room_refusal.Tie as tie
+use Rattle.buffers.proofs.room_refusal.Statement.{statement}
+use Rattle.buffers.proofs.room_refusal.Tie as tie
 
 returns : tie.Need-returns
 returns c = let args = c .before .before .args in no-transcript (args .c) (args .length) (record { transcript = args .transcript; reference = args .reference; altered = args .altered }) (c .if1 .taken)

@@ -1,4 +1,4 @@
--- `edits::cut::framed_codon` meets its contract. Assumes nothing.
+-- `cuts::framed_codon` meets its contract. Assumes nothing.
 use mathlib.Core.Path.{_≡_, ap, _∙_}
 use Prim.Native.Nat.{ℕ, _+_, _-_, _≤_}
 use native.Mathlib.Omega.{arith}
@@ -9,9 +9,9 @@ use Rattle.rules.specs.Letters.{letterSet}
 use Rattle.rules.specs.Altered.{part}
 use Rattle.rules.specs.Packed.{lettersBy}
 use Rattle.rules.proofs.Parts.{length-part}
-use Rattle.edits.proofs.Cuts.{part-at, part-first, codon-of-two, codon-of-one}
-use Rattle.edits.proofs.cut.framed_codon.Statement.{statement}
-use Rattle.edits.proofs.cut.framed_codon.Tie as tie
+use Rattle.cuts.proofs.Cuts.{part-at, part-first, codon-of-two, codon-of-one}
+use Rattle.cuts.proofs.framed_codon.Statement.{statement}
+use Rattle.cuts.proofs.framed_codon.Tie as tie
 
 set-at-requires : tie.Need-set-at-requires
 set-at-requires c κs =

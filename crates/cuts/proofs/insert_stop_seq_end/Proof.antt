@@ -1,4 +1,4 @@
--- `edits::cut::insert_stop_seq_end` meets its contract. Assumes nothing.
+-- `cuts::insert_stop_seq_end` meets its contract. Assumes nothing.
 use mathlib.Core.Path.{_≡_, _∙_, sym, ap}
 use Prim.Native.Nat.{ℕ, _+_, _-_, _≤_, _<_}
 use native.Mathlib.Omega.{arith}
@@ -7,11 +7,11 @@ use lib.ListN.{length, drop, length-drop}
 use Rattle.rules.specs.Altered.{part}
 use Rattle.rules.specs.Packed.{lettersBy}
 use Rattle.rules.proofs.Parts.{length-part}
-use Rattle.edits.specs.Cuts.{cutOf}
-use Rattle.edits.specs.declared.cut.Cut.{Cut}
-use Rattle.edits.proofs.Cuts.{part-behind, cuts-behind, cut-le, cut-short, cut-at-once, cut-later}
-use Rattle.edits.proofs.cut.insert_stop_seq_end.Statement.{statement}
-use Rattle.edits.proofs.cut.insert_stop_seq_end.Tie as tie
+use Rattle.cuts.specs.Cuts.{cutOf}
+use Rattle.cuts.specs.declared.Cut.{Cut}
+use Rattle.cuts.proofs.Cuts.{part-behind, cuts-behind, cut-le, cut-short, cut-at-once, cut-later}
+use Rattle.cuts.proofs.insert_stop_seq_end.Statement.{statement}
+use Rattle.cuts.proofs.insert_stop_seq_end.Tie as tie
 
 returns : tie.Need-returns
 returns c =

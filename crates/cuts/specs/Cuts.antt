@@ -8,7 +8,7 @@ use Rattle.rules.specs.Bytes.{all}
 use Rattle.rules.specs.Letters.{isLetter}
 use Rattle.rules.specs.Altered.{hasStop, cutAtStop}
 use Rattle.letters.specs.Sets.{isBase}
-use Rattle.edits.specs.declared.cut.Cut.{Cut}
+use Rattle.cuts.specs.declared.Cut.{Cut}
 
 -- the stop cut behind so many letters N: whether a `*` appears, and how many of the bytes stay
 unfoldable pub cutOf : ℕ → ℕ → List ℕ → Cut

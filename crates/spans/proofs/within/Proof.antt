@@ -1,10 +1,10 @@
--- `edits::plans::within` meets its contract.
+-- `spans::within` meets its contract.
 -- Assumes nothing.
 use native.Mathlib.Omega.{arith}
 use Rattle.rules.specs.Record.{within}
 use borrow.Author.Needs.{needs}
-use Rattle.edits.proofs.plans.within.Statement.{statement}
-use Rattle.edits.proofs.plans.within.Tie as tie
+use Rattle.spans.proofs.within.Statement.{statement}
+use Rattle.spans.proofs.within.Tie as tie
 
 returns : tie.Need-returns
 unfolding within

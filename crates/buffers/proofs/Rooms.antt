@@ -1,28 +1,13 @@
--- Laws of the silent number, and of refusals 11 and 12, with what the calls answer as variables.
+-- Laws of refusals 11 and 12, with what the calls answer as variables.
 -- Assumes nothing.
 use mathlib.Core.Path.{_≡_}
-use mathlib.Core.Bool.{Bool, true, false}
 use Prim.Native.Nat.{ℕ, _+_, _-_, _/_, _≤_, _<_}
 use native.Mathlib.Omega.{arith}
 use borrow.Author.Tests.{lt-ltb, le-ltb}
-use Rattle.rules.specs.declared.Kind.the-variants.{Duplication}
-use Rattle.rules.specs.declared.Edit.{Edit}
 use Rattle.rules.specs.Bytes.{firstOf}
 use Rattle.rules.specs.Translation.{residueCount}
-use Rattle.rules.specs.Position.{counted}
-use Rattle.rules.specs.Edit.{is}
-use Rattle.rules.specs.Record.{within, silentWithin}
 use Rattle.rules.specs.Refusal.{Room, roomTests}
 use Rattle.rules.specs.declared.Cds.{Cds}
-
-module _ (n : ℕ) (e : Edit) (duplicates : Bool) (told : duplicates ≡ is Duplication (e .kind)) (k : ℕ) where
-  pub silent-end : duplicates ≡ true → k ≡ counted (e .end) → within n (k / 3 + 1) ≡ silentWithin n e
-  unfolding silentWithin
-  silent-end h c = rw (← told, h, c)
-
-  pub silent-start : duplicates ≡ false → k ≡ counted (e .start) → within n ((k + 2) / 3) ≡ silentWithin n e
-  unfolding silentWithin
-  silent-start h c = rw (← told, h, c)
 
 thirds-of : (n k m : ℕ) → n ≡ m → k ≡ (n + 2) / 3 → residueCount m ≡ k
 unfolding residueCount

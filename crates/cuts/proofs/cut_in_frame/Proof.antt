@@ -1,4 +1,4 @@
--- `edits::cut::cut_in_frame` meets its contract. Assumes nothing.
+-- `cuts::cut_in_frame` meets its contract. Assumes nothing.
 use mathlib.Core.Path.{_≡_, sym, ap, _∙_}
 use Prim.Native.Nat.{ℕ, _-_, _/_, _≤_, _<_}
 use native.Mathlib.Omega.{arith}
@@ -7,9 +7,9 @@ use lib.ListN.{length}
 use Rattle.rules.specs.Altered.{part}
 use Rattle.rules.specs.Packed.{lettersBy}
 use Rattle.rules.proofs.Parts.{length-part}
-use Rattle.edits.proofs.Cuts.{cuts-read, cut-found-at, cut-nowhere}
-use Rattle.edits.proofs.cut.cut_in_frame.Statement.{statement}
-use Rattle.edits.proofs.cut.cut_in_frame.Tie as tie
+use Rattle.cuts.proofs.Cuts.{cuts-read, cut-found-at, cut-nowhere}
+use Rattle.cuts.proofs.cut_in_frame.Statement.{statement}
+use Rattle.cuts.proofs.cut_in_frame.Tie as tie
 
 first-stop-by-requires : tie.Need-first-stop-by-requires
 first-stop-by-requires c κs =

@@ -11,7 +11,7 @@ ghost use lib.ListN.{getD};
 ghost use Rattle.rules.specs.Altered.{part, framed};
 ghost use Rattle.rules.specs.Packed.{lettersBy};
 ghost use Rattle.packed.specs.Halves.{InLetters};
-ghost use Rattle.edits.specs.Cuts.{cutOf, Cuts};
+ghost use Rattle.cuts.specs.Cuts.{cutOf, Cuts};
 
 // Whether a `*` appears, and how many of the bases stay.
 pub struct Cut {
@@ -85,7 +85,7 @@ fn cut_in_frame(
 }
 
 // The cut of bases that go in behind `frame` bases of a codon, which count as letters N.
-pub(crate) fn insert_stop_seq_end(
+pub fn insert_stop_seq_end(
     letters: &[u8],
     form: Form,
     start: usize,

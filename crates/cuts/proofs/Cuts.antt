@@ -25,8 +25,8 @@ use Rattle.letters.specs.Sets.{isBase}
 use Rattle.letters.proofs.Sets.{letter-some}
 use Rattle.places.specs.Looked.{Reads}
 use Rattle.places.proofs.Strict.{strict-letters, strict-whole, whole-bases, bases-fold}
-use Rattle.edits.specs.declared.cut.Cut.{Cut}
-use Rattle.edits.specs.Cuts.{cutOf, Cuts}
+use Rattle.cuts.specs.declared.Cut.{Cut}
+use Rattle.cuts.specs.Cuts.{cutOf, Cuts}
 
 -- a letter of a part, and what is left behind its first n
 pub part-at : (start end i : ℕ) (s : List ℕ) → i < end - start → getD s (start + i) 0 ≡ getD (part start end s) i 0

@@ -1,12 +1,12 @@
--- `edits::plans::silent_number` meets its contract.
+-- `spans::silent_number` meets its contract.
 -- Assumes nothing.
 use mathlib.Core.Path.{_∙_, ap}
 use Prim.Native.Nat.{ℕ}
 use Rattle.rules.specs.Record.{within}
-use Rattle.edits.proofs.Numbers.{silent-end, silent-start}
+use Rattle.spans.proofs.Silent.{silent-end, silent-start}
 use borrow.Author.Needs.{needs}
-use Rattle.edits.proofs.plans.silent_number.Statement.{statement}
-use Rattle.edits.proofs.plans.silent_number.Tie as tie
+use Rattle.spans.proofs.silent_number.Statement.{statement}
+use Rattle.spans.proofs.silent_number.Tie as tie
 
 returns : tie.Need-returns
 returns c =
