@@ -1,4 +1,6 @@
-// Refusals 11 and 12: whether the three buffers have room for what an edit writes.
+// Refusals 11 and 12: whether the buffers have room for what an edit writes, or two.
+mod pair;
+
 use numbers::thirds;
 use rules::Cds;
 ghost use Prim.Native.Nat.{_+_, _-_, _≤_};
@@ -6,6 +8,7 @@ ghost use mathlib.Core.Path.{_≡_};
 ghost use Rattle.rules.specs.Bytes.{firstOf};
 ghost use Rattle.rules.specs.Refusal.{roomTests};
 ghost use Rattle.reference.specs.Bounds.{Bounded};
+pub use pair::pair_room_refusal;
 
 // 11 or 12 for an altered length and the room of the three buffers, or 0.
 pub fn room_refusal(

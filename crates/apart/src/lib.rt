@@ -1,4 +1,4 @@
-// Whether two edits lie apart.
+// Whether two edits of one reference lie apart.
 use positions::refusals::is_insertion;
 use rules::Cds;
 use rules::Edit;
@@ -10,7 +10,7 @@ ghost use mathlib.Core.List.{List};
 ghost use lib.ListN.{length};
 ghost use Rattle.rules.specs.Pair.{touchedFrom, touchedTo, areApart};
 ghost use Rattle.rules.specs.Views.{bare, asked};
-ghost use Rattle.pairs.specs.Apart.{Touching};
+ghost use Rattle.apart.specs.Apart.{Touching};
 
 // The bases that an edit touches: start to end, copied bases included; an insertion is its gap.
 fn touched(len: usize, c: Cds, edit: Edit) -> Range
@@ -31,7 +31,7 @@ fn touched(len: usize, c: Cds, edit: Edit) -> Range
 }
 
 // Whether at least one untouched base lies between two edits.
-pub(crate) fn are_apart(len: usize, c: Cds, edit: Edit, other: Edit) -> bool
+pub fn are_apart(len: usize, c: Cds, edit: Edit, other: Edit) -> bool
     requires { ⌜ Touching c len edit ⌝ }
     requires { ⌜ Touching c len other ⌝ }
     ensures { λ r. ⌜ ((s new bases : List ℕ) → length s ≡ len → r ≡ areApart (bare s c) (asked edit new) (asked other bases)) ⌝ }

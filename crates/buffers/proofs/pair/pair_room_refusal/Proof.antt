@@ -1,8 +1,8 @@
--- `pairs::carry::pair_room_refusal` meets its contract. Assumes nothing.
+-- `buffers::pair::pair_room_refusal` meets its contract. Assumes nothing.
 use borrow.Author.Needs.{needs}
-use Rattle.pairs.proofs.Rows.{no-transcript, no-altered, room-enough}
-use Rattle.pairs.proofs.carry.pair_room_refusal.Statement.{statement}
-use Rattle.pairs.proofs.carry.pair_room_refusal.Tie as tie
+use Rattle.buffers.proofs.PairRooms.{no-transcript, no-altered, room-enough}
+use Rattle.buffers.proofs.pair.pair_room_refusal.Statement.{statement}
+use Rattle.buffers.proofs.pair.pair_room_refusal.Tie as tie
 
 returns : tie.Need-returns
 returns c = let a = c .before .args in no-transcript (a .c .cs) (a .length) (record { transcript = a .transcript; altered = a .altered }) (c .if1 .taken)

@@ -26,10 +26,10 @@ use Rattle.positions.proofs.Tests.{edit-allowed, edit-indexes}
 use Rattle.edits.specs.declared.plans.Plan.{Plan}
 use Rattle.edits.specs.Plans.{planOf}
 use Rattle.edits.proofs.Planning.{bare-plan}
-use Rattle.pairs.specs.declared.decision.Joint.{Joint}
-use Rattle.pairs.specs.declared.decision.Joint.the-variants.{Refused, Both}
-use Rattle.pairs.specs.Apart.{Touching}
-use Rattle.pairs.specs.Joints.{earlyPair, jointBy, jointOf}
+use Rattle.joints.specs.declared.Joint.{Joint}
+use Rattle.joints.specs.declared.Joint.the-variants.{Refused, Both}
+use Rattle.apart.specs.Apart.{Touching}
+use Rattle.joints.specs.Joints.{earlyPair, jointBy, jointOf}
 
 -- the tests look at no exception
 module _ (s : List ℕ) (c : Cds) (e : Exceptions) where

@@ -1,8 +1,8 @@
--- `pairs::apart::touched` meets its contract. Assumes nothing.
+-- `apart::touched` meets its contract. Assumes nothing.
 use borrow.Author.Needs.{needs}
-use Rattle.pairs.proofs.Ranges.{gap-from, gap-to, range-from, range-to}
-use Rattle.pairs.proofs.apart.touched.Statement.{statement}
-use Rattle.pairs.proofs.apart.touched.Tie as tie
+use Rattle.apart.proofs.Ranges.{gap-from, gap-to, range-from, range-to}
+use Rattle.apart.proofs.touched.Statement.{statement}
+use Rattle.apart.proofs.touched.Tie as tie
 
 returns : tie.Need-returns
 returns c =

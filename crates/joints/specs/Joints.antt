@@ -12,8 +12,8 @@ use Rattle.reference.specs.declared.Known.{Known}
 use Rattle.reference.specs.Known.{knownOf, Checks}
 use Rattle.edits.specs.declared.plans.Plan.{Plan}
 use Rattle.edits.specs.Plans.{planOf}
-use Rattle.pairs.specs.declared.decision.Joint.{Joint}
-use Rattle.pairs.specs.declared.decision.Joint.the-variants.{Refused, Both}
+use Rattle.joints.specs.declared.Joint.{Joint}
+use Rattle.joints.specs.declared.Joint.the-variants.{Refused, Both}
 
 -- what is known of a checked reference, its exceptions not at hand
 pub record Knowing (s : List ℕ) (k : Known) : Type 0 where

@@ -1,9 +1,9 @@
--- `pairs::apart::are_apart` meets its contract. Assumes nothing.
+-- `apart::are_apart` meets its contract. Assumes nothing.
 use borrow.Author.Needs.{needs}
 use Rattle.rules.specs.Views.{bare, asked}
-use Rattle.pairs.proofs.Ranges.{apart-is}
-use Rattle.pairs.proofs.apart.are_apart.Statement.{statement}
-use Rattle.pairs.proofs.apart.are_apart.Tie as tie
+use Rattle.apart.proofs.Ranges.{apart-is}
+use Rattle.apart.proofs.are_apart.Statement.{statement}
+use Rattle.apart.proofs.are_apart.Tie as tie
 
 returns : tie.Need-returns
 returns c =

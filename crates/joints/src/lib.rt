@@ -1,6 +1,6 @@
 // What is decided of two edits of a checked reference: 7 to 10 of the first, then of the second, 51 to 53, or what each does. Nothing is written
 // here.
-use crate::apart::are_apart;
+use apart::are_apart;
 use edits::plans::Plan;
 use edits::plans::plan_of;
 use packed::size_of;
@@ -14,7 +14,7 @@ ghost use Rattle.rules.specs.declared.Exceptions.{Exceptions};
 ghost use Rattle.rules.specs.Packed.{lettersBy};
 ghost use Rattle.rules.specs.Views.{asked, referenceOf};
 ghost use Rattle.reference.specs.Known.{knownOf, Checks};
-ghost use Rattle.pairs.specs.Joints.{Knowing, earlyPair, jointOf};
+ghost use Rattle.joints.specs.Joints.{Knowing, earlyPair, jointOf};
 
 // The two edits, and the most new bases of each. The new bases are lent beside them.
 pub struct Edits {
@@ -58,13 +58,7 @@ fn early_refusal(letters: &[u8], known: Known, edits: Edits, new: &[u8], other: 
 }
 
 // What each of two edits does, where none of 7 to 10 and of 51 to 53 applies.
-pub(crate) fn decide_pair(
-    letters: &[u8],
-    known: Known,
-    edits: Edits,
-    new: &[u8],
-    other: &[u8],
-) -> Joint
+pub fn decide_pair(letters: &[u8], known: Known, edits: Edits, new: &[u8], other: &[u8]) -> Joint
     requires { ⌜ Knowing (lettersBy (known .form) (now letters)) known ⌝ }
     requires { ⌜ (edits .most < 4294967296) × (edits .other < 4294967296) ⌝ }
     ensures { λ r. ⌜ ((e : Exceptions) → known ≡ knownOf (known .form) (lettersBy (known .form) (now (letters .entry))) (known .cds) e → r ≡ jointOf (edits .most) (edits .other) (referenceOf (lettersBy (known .form) (now (letters .entry))) (known .cds) e) (asked (edits .first) (now (new .entry))) (asked (edits .second) (now (other .entry)))) ⌝ }

@@ -1,12 +1,12 @@
--- `pairs::decision::decide_pair` meets its contract. Assumes nothing.
+-- `joints::decide_pair` meets its contract. Assumes nothing.
 use mathlib.Core.Path.{_≡_, sym, _∙_}
 use borrow.Author.Needs.{needs}
 use Rattle.rules.specs.Packed.{lettersBy}
 use Rattle.rules.specs.Views.{bare, asked, referenceOf}
 use Rattle.edits.proofs.Planning.{planned}
-use Rattle.pairs.proofs.Joining.{tests-bare, plan-bare, none-early, joint-early, joint-stopped, joint-both}
-use Rattle.pairs.proofs.decision.decide_pair.Statement.{statement}
-use Rattle.pairs.proofs.decision.decide_pair.Tie as tie
+use Rattle.joints.proofs.Joining.{tests-bare, plan-bare, none-early, joint-early, joint-stopped, joint-both}
+use Rattle.joints.proofs.decide_pair.Statement.{statement}
+use Rattle.joints.proofs.decide_pair.Tie as tie
 
 early-refusal-requires : tie.Need-early-refusal-requires
 early-refusal-requires c κs = c .before .before .before .pre .0 .checks

@@ -1,11 +1,11 @@
--- `pairs::decision::early_refusal` meets its contract. Assumes nothing.
+-- `joints::early_refusal` meets its contract. Assumes nothing.
 use mathlib.Core.Path.{_≡_, sym, _∙_}
 use borrow.Author.Needs.{needs}
 use Rattle.rules.specs.Packed.{lettersBy}
 use Rattle.rules.specs.Views.{asked, referenceOf}
-use Rattle.pairs.proofs.Joining.{touching, tests-bare, early-first, early-second, early-pair, fifty-one, fifty-two, neither}
-use Rattle.pairs.proofs.decision.early_refusal.Statement.{statement}
-use Rattle.pairs.proofs.decision.early_refusal.Tie as tie
+use Rattle.joints.proofs.Joining.{touching, tests-bare, early-first, early-second, early-pair, fifty-one, fifty-two, neither}
+use Rattle.joints.proofs.early_refusal.Statement.{statement}
+use Rattle.joints.proofs.early_refusal.Tie as tie
 
 returns : tie.Need-returns
 returns c =
