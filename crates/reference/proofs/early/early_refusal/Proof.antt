@@ -1,4 +1,4 @@
--- `reference::tests::early_refusal` meets its contract. Assumes nothing.
+-- `reference::early::early_refusal` meets its contract. Assumes nothing.
 use mathlib.Core.Path.{_≡_, sym, ap, _∙_}
 use mathlib.Core.Bool.{Bool, true, false, not}
 use Prim.Native.Nat.{_≤_, _<_}
@@ -13,8 +13,8 @@ use Rattle.rules.proofs.Reference.{bounds-of}
 use Rattle.rules.proofs.Tests.{or-left}
 use Rattle.reference.specs.Known.{judgedBy, earlyOf}
 use Rattle.reference.proofs.Testing.{early-by, fits-are}
-use Rattle.reference.proofs.tests.early_refusal.Statement.{statement}
-use Rattle.reference.proofs.tests.early_refusal.Tie as tie
+use Rattle.reference.proofs.early.early_refusal.Statement.{statement}
+use Rattle.reference.proofs.early.early_refusal.Tie as tie
 
 all-bases-by-requires : tie.Need-all-bases-by-requires
 all-bases-by-requires c κs =

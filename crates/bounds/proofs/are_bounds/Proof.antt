@@ -1,9 +1,9 @@
--- `reference::tests::are_bounds` meets its contract. Assumes nothing.
+-- `bounds::are_bounds` meets its contract. Assumes nothing.
 use native.Mathlib.Omega.{arith}
 use borrow.Author.Needs.{needs}
-use Rattle.reference.proofs.Testing.{no-bounds, bounds-are, bounds-left}
-use Rattle.reference.proofs.tests.are_bounds.Statement.{statement}
-use Rattle.reference.proofs.tests.are_bounds.Tie as tie
+use Rattle.bounds.proofs.Testing.{no-bounds, bounds-are, bounds-left}
+use Rattle.bounds.proofs.are_bounds.Statement.{statement}
+use Rattle.bounds.proofs.are_bounds.Tie as tie
 
 returns : tie.Need-returns
 returns c = λ s is. no-bounds s (c .before .before .before .before .args .c) (rw is (c .if1 .taken))

@@ -1,4 +1,4 @@
--- `reference::several::know_reference` meets its contract. Assumes nothing.
+-- `known::know_reference` meets its contract. Assumes nothing.
 use native.Mathlib.Omega.{arith}
 use borrow.Author.Needs.{needs}
 use Rattle.rules.specs.Bytes.{all}
@@ -7,12 +7,12 @@ use Rattle.rules.specs.Packed.{lettersBy}
 use Rattle.rules.specs.Views.{referenceOf}
 use Rattle.rules.proofs.Reference.{protein-read}
 use Rattle.letters.specs.Sets.{isBase}
 use Rattle.reference.specs.Known.{judgedOf}
 use Rattle.reference.proofs.Judging.{was-refused, was-clear, readable, accepted-early}
 use Rattle.reference.proofs.Checking.{check-refused, check-known}
-use Rattle.reference.proofs.FirstStop.{known-is}
-use Rattle.reference.proofs.several.know_reference.Statement.{statement}
-use Rattle.reference.proofs.several.know_reference.Tie as tie
+use Rattle.known.proofs.FirstStop.{known-is}
+use Rattle.known.proofs.know_reference.Statement.{statement}
+use Rattle.known.proofs.know_reference.Tie as tie
 
 stops-early-requires : tie.Need-stops-early-requires
 unfolding judgedOf

@@ -1,4 +1,4 @@
--- `reference::tests::fit_exceptions` meets its contract. The invariant: those left, behind the last one's codon, tell of all.
+-- `bounds::fit_exceptions` meets its contract. The invariant: those left, behind the last one's codon, tell of all.
 -- Assumes nothing.
 use mathlib.Core.Path.{_≡_, refl, sym, _∙_}
 use Prim.Native.Nat.{_-_, _≤_}
@@ -6,9 +6,9 @@ use native.Mathlib.Omega.{arith}
 use borrow.Author.Needs.{needs}
 use lib.ListN.{length, take, drop, length-map}
 use Rattle.rules.specs.Reference.{areRising}
-use Rattle.reference.proofs.Testing.{rising-on, rising-off, rising-end, too-many, few-rising}
-use Rattle.reference.proofs.tests.fit_exceptions.Statement.{statement}
-use Rattle.reference.proofs.tests.fit_exceptions.Tie as tie
+use Rattle.bounds.proofs.Testing.{rising-on, rising-off, rising-end, too-many, few-rising}
+use Rattle.bounds.proofs.fit_exceptions.Statement.{statement}
+use Rattle.bounds.proofs.fit_exceptions.Tie as tie
 
 abbrev Inv-loop : tie.InvT-loop
 Inv-loop most count all last₀ i₀ last i =

@@ -1,8 +1,8 @@
--- `reference::tests::fits_end` meets its contract. Assumes nothing.
+-- `bounds::fits_end` meets its contract. Assumes nothing.
 use borrow.Author.Tests.{eq-eqb, ne-eqb}
 use Rattle.rules.specs.Reference.{fitsEnd}
-use Rattle.reference.proofs.tests.fits_end.Statement.{statement}
-use Rattle.reference.proofs.tests.fits_end.Tie as tie
+use Rattle.bounds.proofs.fits_end.Statement.{statement}
+use Rattle.bounds.proofs.fits_end.Tie as tie
 
 returns : tie.Need-returns
 unfolding fitsEnd

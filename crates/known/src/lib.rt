@@ -1,10 +1,10 @@
 // What is known of a reference, without a buffer for R: whether R has more than one stop is told by its first.
-use crate::Checked;
-use crate::Judged;
-use crate::Known;
-use crate::stop::judge_reference;
 use numbers::thirds;
 use packed::first_stop_by;
+use reference::Checked;
+use reference::Judged;
+use reference::Known;
+use reference::judge_reference;
 use rules::Cds;
 use rules::Exceptions;
 use rules::Form;

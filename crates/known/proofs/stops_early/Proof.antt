@@ -1,13 +1,13 @@
--- `reference::several::stops_early` meets its contract. Assumes nothing.
+-- `known::stops_early` meets its contract. Assumes nothing.
 use native.Mathlib.Omega.{arith}
 use borrow.Author.Needs.{needs}
 use Rattle.rules.specs.Altered.{part}
 use Rattle.rules.specs.Reference.{size}
 use Rattle.rules.specs.Packed.{lettersBy}
 use Rattle.reference.proofs.Reading.{part-reads}
-use Rattle.reference.proofs.FirstStop.{none-several, first-tells, stop-within}
-use Rattle.reference.proofs.several.stops_early.Statement.{statement}
-use Rattle.reference.proofs.several.stops_early.Tie as tie
+use Rattle.known.proofs.FirstStop.{none-several, first-tells, stop-within}
+use Rattle.known.proofs.stops_early.Statement.{statement}
+use Rattle.known.proofs.stops_early.Tie as tie
 
 returns : tie.Need-returns
 returns c = let a = c .before .before .before .args in none-several (lettersBy (a .form) (a .letters .now)) (a .c) (a .e) (c .before .before .before .pre .0) (c .before .before .before .pre .1 .1) (c .if1 .taken)

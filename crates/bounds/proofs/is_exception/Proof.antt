@@ -1,7 +1,7 @@
--- `reference::tests::is_exception` meets its contract. Assumes nothing.
+-- `bounds::is_exception` meets its contract. Assumes nothing.
 use borrow.Author.Needs.{needs}
-use Rattle.reference.proofs.tests.is_exception.Statement.{statement}
-use Rattle.reference.proofs.tests.is_exception.Tie as tie
+use Rattle.bounds.proofs.is_exception.Statement.{statement}
+use Rattle.bounds.proofs.is_exception.Tie as tie
 
 returns : tie.Need-returns
 returns c = rw (c .is-residue .ensures)

@@ -1,10 +1,10 @@
--- `reference::tests::are_letters` meets its contract. Assumes nothing.
+-- `reference::early::are_letters` meets its contract. Assumes nothing.
 use mathlib.Core.Path.{_≡_, sym, _∙_}
 use borrow.Author.Needs.{needs}
 use Rattle.places.proofs.Strict.{bases-are-letters}
 use Rattle.rules.specs.Packed.{lettersBy}
-use Rattle.reference.proofs.tests.are_letters.Statement.{statement}
-use Rattle.reference.proofs.tests.are_letters.Tie as tie
+use Rattle.reference.proofs.early.are_letters.Statement.{statement}
+use Rattle.reference.proofs.early.are_letters.Tie as tie
 
 returns : tie.Need-returns
 returns c =
