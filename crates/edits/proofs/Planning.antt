@@ -24,8 +24,8 @@ use Rattle.rules.proofs.Translation.{length-translated}
 use Rattle.rules.proofs.Reference.{length-protein}
 use Rattle.rules.proofs.Complement.{length-complement}
 use Rattle.rules.proofs.Altered.{kept-is, length-kept}
-use Rattle.edits.specs.declared.cut.Cut.{Cut}
-use Rattle.edits.specs.declared.plans.Range.{Range}
+use Rattle.cuts.specs.declared.Cut.{Cut}
+use Rattle.spans.specs.declared.Range.{Range}
 use Rattle.edits.specs.declared.plans.Source.{Source}
 use Rattle.edits.specs.declared.plans.Source.the-variants.{New}
 use Rattle.edits.specs.declared.plans.Plan.{Plan}
@@ -35,9 +35,9 @@ use Rattle.reference.specs.declared.Known.{Known}
 use Rattle.reference.specs.Bounds.{Sound}
 use Rattle.reference.specs.Known.{Checks}
 use Rattle.letters.specs.Sets.{isBase}
-use Rattle.edits.specs.Cuts.{cutOf, Cuts}
+use Rattle.cuts.specs.Cuts.{cutOf, Cuts}
 use Rattle.edits.specs.Plans.{sourceOf, planOf, sourceBytes, goesIn, Planned, Ranges, Replaces, Inserts, Keeps}
-use Rattle.edits.proofs.Cuts.{cut-le, cuts-part}
+use Rattle.cuts.proofs.Cuts.{cut-le, cuts-part}
 use Rattle.positions.proofs.Tests.{edit-allowed, edit-indexes, edit-fitting}
 
 never : false ≡ true → ⊥

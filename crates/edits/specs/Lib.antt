@@ -1,4 +1,3 @@
 -- What only this crate's contracts, and those above it, want said.
-pub mod Cuts
 pub mod Plans
 pub mod Decisions

@@ -15,9 +15,9 @@ use Rattle.rules.specs.Position.{isOutside}
 use Rattle.rules.specs.Edit.{Asked, kindOf, startIndex, endIndex}
 use Rattle.rules.specs.Altered.{part, isReplacing, isInserting, swap, findsStop, kept, alteredLength, frameshift}
 use Rattle.rules.specs.Record.{silentNumber}
-use Rattle.edits.specs.declared.cut.Cut.{Cut}
-use Rattle.edits.specs.Cuts.{cutOf}
-use Rattle.edits.specs.declared.plans.Range.{Range}
+use Rattle.cuts.specs.declared.Cut.{Cut}
+use Rattle.cuts.specs.Cuts.{cutOf}
+use Rattle.spans.specs.declared.Range.{Range}
 use Rattle.edits.specs.declared.plans.Source.{Source}
 use Rattle.edits.specs.declared.plans.Source.the-variants.{New, Copy, Turned}
 use Rattle.edits.specs.declared.plans.Plan.{Plan}

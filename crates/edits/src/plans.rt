@@ -1,50 +1,40 @@
-// "Positions and edits": what an accepted edit does, in numbers; the number of a silent record, and refusals 11 and 12.
-use crate::cut::Cut;
-use crate::cut::insert_stop_seq_end;
-use numbers::least;
-use numbers::thirds;
+// "Positions and edits": what an accepted edit does, in numbers.
+use cuts::Cut;
+use cuts::insert_stop_seq_end;
 use packed::same_by;
 use packed::size_of;
-use positions::places::counted_of;
-use positions::places::index_of;
-use positions::refusals::is_duplication;
 use reference::Known;
 use rules::Cds;
 use rules::Edit;
 use rules::Form;
 use rules::Kind;
+use spans::Range;
+use spans::setup_incorporate;
+use spans::silent_number;
 use translation::all_bases;
-ghost use Prim.Native.Nat.{ℕ, _+_, _-_, _<_, _≤_, min};
+ghost use Prim.Native.Nat.{ℕ, _+_, _-_, _<_, _≤_};
 ghost use mathlib.Core.Path.{_≡_};
-ghost use mathlib.Core.Bool.{true, false};
+ghost use mathlib.Core.Bool.{true};
 ghost use mathlib.Core.List.{List};
 ghost use lib.ListN.{length};
-ghost use Rattle.rules.specs.Bytes.{all, firstOf};
+ghost use Rattle.rules.specs.Bytes.{all};
 ghost use Rattle.rules.specs.Letters.{isLetter};
-ghost use Rattle.rules.specs.Position.{isOutside, index};
 ghost use Rattle.rules.specs.Edit.{Asked};
 ghost use Rattle.rules.specs.Altered.{part, frameshift};
-ghost use Rattle.rules.specs.Record.{within, silentWithin, silentNumber};
-ghost use Rattle.rules.specs.Refusal.{roomTests};
+ghost use Rattle.rules.specs.Record.{silentNumber};
 ghost use Rattle.rules.specs.declared.Cds.{Cds};
 ghost use Rattle.rules.specs.Packed.{lettersBy};
 ghost use Rattle.rules.specs.Views.{bare, asked};
 ghost use Rattle.packed.specs.Halves.{InLetters};
-ghost use Rattle.reference.specs.Bounds.{Bounded};
 ghost use Rattle.reference.specs.Known.{Checks};
 ghost use Rattle.edits.specs.Plans.{planOf, Planned, Replaces, Goes, Inserts, Keeps};
+pub use buffers::room_refusal;
 
 // Where what goes in comes from: the new bases, a copy of start..end, or its reverse complement.
 pub enum Source {
     New,
     Copy,
     Turned,
-}
-
-// The bases start..end of the letters.
-pub struct Range {
-    pub start: usize,
-    pub end: usize,
 }
 
 // The first `kept` bytes of the source go in for the bases from..to, which makes `length` bases. `shift` is the frameshift flag, `stopped`
@@ -60,51 +50,6 @@ pub struct Plan {
     pub shift: bool,
     pub stopped: bool,
     pub number: usize,
-}
-
-// Brought into 1..n.
-fn within(n: usize, k: usize) -> usize
-    ensures { λ r. ⌜ r ≡ within n k ⌝ }
-{
-    let low = least(k, n);
-    if low == 0 {
-        return 1;
-    }
-    low
-}
-
-// The number of a silent record where R has `len` residues.
-fn silent_number(len: usize, edit: Edit) -> usize
-    ensures { λ r. ⌜ r ≡ silentWithin len edit ⌝ }
-{
-    let kind = edit.kind;
-    if is_duplication(kind) {
-        let end = edit.end;
-        return within(len, counted_of(end) / 3 + 1);
-    }
-    let start = edit.start;
-    within(len, thirds(counted_of(start)))
-}
-
-// The start index, and the end index plus one, at most L.
-pub fn setup_incorporate(len: usize, c: Cds, edit: Edit) -> Range
-    requires { ⌜ Bounded c ⌝ }
-    requires { ⌜ isOutside (c .cs) (c .ce) (edit .start) ≡ false ⌝ }
-    requires { ⌜ isOutside (c .cs) (c .ce) (edit .end) ≡ false ⌝ }
-    ensures { λ r. ⌜ r .start ≡ index (c .cs) (c .ce) len (edit .start) ⌝ }
-    ensures { λ r. ⌜ r .end ≡ min (index (c .cs) (c .ce) len (edit .end) + 1) len ⌝ }
-{
-    let first = edit.start;
-    let end = edit.end;
-    let start = index_of(first, c, len);
-    let last = index_of(end, c, len);
-    if last < len {
-        return Range {
-            start,
-            end: last + 1,
-        };
-    }
-    Range { start, end: len }
 }
 
 // The flag where start..end give way to the new bases: the net change is not divisible by 3 or start < ce < end, unless they are put back.
@@ -249,29 +194,4 @@ pub fn plan_of(letters: &[u8], known: Known, edit: Edit, new: &[u8]) -> Plan
         Kind::Identity => keep_length(size, range, Source::Copy, number),
         Kind::Other => keep_length(size, range, Source::Copy, number),
     }
-}
-
-// 11 or 12 for an altered length and the room of the three buffers, or 0.
-pub fn room_refusal(
-    c: Cds,
-    length: usize,
-    transcript: usize,
-    reference: usize,
-    altered: usize,
-) -> usize
-    requires { ⌜ Bounded c ⌝ }
-    requires { ⌜ c .cs - 1 ≤ length ⌝ }
-    ensures { λ r. ⌜ r ≡ firstOf (roomTests (c .ce + 1 - c .cs) (c .cs) length (record { transcript = transcript; reference = reference; altered = altered })) ⌝ }
-{
-    let front = c.cs - 1;
-    if transcript < length {
-        return 11;
-    }
-    if reference < thirds(c.ce - front) {
-        return 12;
-    }
-    if altered < thirds(length - front) {
-        return 12;
-    }
-    0
 }

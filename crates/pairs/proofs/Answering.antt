@@ -25,9 +25,9 @@ use Rattle.reference.specs.Known.{knownOf, checkedOf, Knows}
 use Rattle.reference.proofs.Checking.{checked-refused, checked-accepted, form-known, cds-known, checks}
 use Rattle.edits.specs.declared.plans.Plan.{Plan}
 use Rattle.edits.specs.Plans.{planOf}
-use Rattle.pairs.specs.declared.decision.Joint.{Joint}
-use Rattle.pairs.specs.declared.decision.Joint.the-variants.{Refused, Both}
-use Rattle.pairs.specs.Joints.{Knowing, jointBy, jointOf}
+use Rattle.joints.specs.declared.Joint.{Joint}
+use Rattle.joints.specs.declared.Joint.the-variants.{Refused, Both}
+use Rattle.joints.specs.Joints.{Knowing, jointBy, jointOf}
 use Rattle.pairs.specs.Carrying.{pairRoomOf, carriedOutcome, Goes, AcceptsPair}
 use Rattle.pairs.proofs.Whole.{outcome-is}
 

@@ -16,7 +16,7 @@ use Rattle.letters.specs.Sets.{isBase}
 use Rattle.places.specs.Looked.{Walks}
 use Rattle.places.proofs.Strict.{strict-letters, strict-translated, whole-bases, bases-fold}
 use Rattle.reference.specs.declared.Known.{Known}
-use Rattle.edits.proofs.Cuts.{none-listed}
+use Rattle.cuts.proofs.Cuts.{none-listed}
 use Rattle.pairs.specs.Carrying.{proteinIn, Codes}
 
 module _ (k : Known) (new other t alt : List ℕ) (x : Codes k new other t alt) where

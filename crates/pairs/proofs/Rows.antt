@@ -1,9 +1,9 @@
--- Laws of the five parts of two plans in a row, and of 11 and 12 for their length.
+-- Laws of the five parts of two plans in a row, and of the room that 11 and 12 leave.
 -- Assumes nothing.
 use mathlib.Core.Path.{_≡_, refl, sym, _∙_}
 use mathlib.Core.Bool.{Bool, true, false}
 use mathlib.Core.List.{List}
-use Prim.Native.Nat.{ℕ, _+_, _-_, _/_, _≤_, _<_}
+use Prim.Native.Nat.{ℕ, _+_, _-_, _≤_, _<_}
 use native.Mathlib.Omega.{arith}
 use lib.Dec.{ltb}
 use lib.ListN.{length}
@@ -42,25 +42,6 @@ module _ (p q : Plan) (s new other : List ℕ) (room : ℕ) where
   pub both-behind : q .from ≤ p .to → bothBy p q s new other ≡ fiveParts (swapOf q s other) (swapOf p s new) s
   unfolding bothBy
   both-behind h = rw (le-ltb (p .to) (q .from) h)
-
--- 11, 12, or neither
-module _ (cs n : ℕ) (room : PairRoom) where
-  pub no-transcript : room .transcript < n → 11 ≡ firstOf (pairRoomTests cs n room)
-  unfolding pairRoomTests firstOf
-  no-transcript h = rw (lt-ltb (room .transcript) n h)
-
-  module _ (first : 1 ≤ cs) (fits : n ≤ room .transcript) (k : ℕ) (e : k ≡ (n - (cs - 1) + 2) / 3) where
-    residues : residueCount (n + 1 - cs) ≡ k
-    unfolding residueCount
-    residues = omega arith
-
-    pub no-altered : room .altered < k → 12 ≡ firstOf (pairRoomTests cs n room)
-    unfolding pairRoomTests firstOf
-    no-altered h = rw (le-ltb (room .transcript) n fits, residues, lt-ltb (room .altered) k h)
-
-    pub room-enough : k ≤ room .altered → 0 ≡ firstOf (pairRoomTests cs n room)
-    unfolding pairRoomTests firstOf
-    room-enough h = rw (le-ltb (room .transcript) n fits, residues, le-ltb (room .altered) k h)
 
 -- what room there is, where neither applies
 pub room-is : (cs n : ℕ) (room : PairRoom) → firstOf (pairRoomTests cs n room) ≡ 0 → (n ≤ room .transcript) × (residueCount (n + 1 - cs) ≤ room .altered)

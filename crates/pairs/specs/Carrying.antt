@@ -24,7 +24,7 @@ use Rattle.reference.specs.Known.{knownOf}
 use Rattle.edits.specs.declared.plans.Plan.{Plan}
 use Rattle.edits.specs.Plans.{planOf, goesIn}
 use Rattle.transcript.specs.Carrying.{Sourced}
-use Rattle.pairs.specs.Joints.{Knowing}
+use Rattle.joints.specs.Joints.{Knowing}
 
 -- what a plan replaces by what
 unfoldable pub swapOf : Plan → List ℕ → List ℕ → Swap

@@ -1,11 +1,10 @@
 // Two plans carried out: the transcript of both, in five parts, and its protein. Nothing is refused here but for want of room.
-use edits::no_exceptions;
+use buffers::pair_room_refusal;
+use cuts::no_exceptions;
 use edits::plans::Plan;
-use numbers::thirds;
 use packed::copy_letters;
 use packed::size_of;
 use reference::Known;
-use rules::Cds;
 use rules::Form;
 use rules::Paired;
 use transcript::write_put;
@@ -16,12 +15,11 @@ ghost use mathlib.Core.Path.{_≡_};
 ghost use mathlib.Core.List.{_++_};
 ghost use Prim.Native.Nat.{_+_, _-_, _<_, _≤_};
 ghost use lib.ListN.{length, drop};
-ghost use Rattle.rules.specs.Bytes.{firstOf, over};
+ghost use Rattle.rules.specs.Bytes.{over};
 ghost use Rattle.rules.specs.Altered.{part};
 ghost use Rattle.rules.specs.Packed.{lettersBy};
-ghost use Rattle.rules.specs.Pair.{pairRoomTests, Pairs};
+ghost use Rattle.rules.specs.Pair.{Pairs};
 ghost use Rattle.rules.proofs.Pairs.{fiveParts};
-ghost use Rattle.reference.specs.Bounds.{Bounded};
 ghost use Rattle.edits.specs.Plans.{goesIn};
 ghost use Rattle.pairs.specs.Carrying.{swapOf, bothBy, proteinIn, pairRoomOf, carriedOutcome, Behind, InRow, Codes, Goes};
 
@@ -135,21 +133,6 @@ fn write_protein(
         altered,
     );
     walked.residues
-}
-
-// 11 or 12 for a pair's length and the room of the two buffers, or 0.
-fn pair_room_refusal(c: Cds, length: usize, transcript: usize, altered: usize) -> usize
-    requires { ⌜ Bounded c ⌝ }
-    requires { ⌜ c .cs - 1 ≤ length ⌝ }
-    ensures { λ r. ⌜ r ≡ firstOf (pairRoomTests (c .cs) length (record { transcript = transcript; altered = altered })) ⌝ }
-{
-    if transcript < length {
-        return 11;
-    }
-    if altered < thirds(length - (c.cs - 1)) {
-        return 12;
-    }
-    0
 }
 
 // 11, 12, or the transcript of both and its protein, each written from its buffer's start.

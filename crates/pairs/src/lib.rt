@@ -1,16 +1,14 @@
 // Two edits of one reference, answered whole: each is decided by itself, they must lie apart, and then the transcript of both is written in five
 // parts, each taken from the reference by its own indices, and its protein read without exceptions.
-mod apart;
 mod carry;
-mod decision;
 
 use carry::carry_pair;
-use decision::Edits;
-use decision::Joint;
-use decision::decide_pair;
+use joints::Edits;
+use joints::Joint;
+use joints::decide_pair;
+use known::know_reference;
 use reference::Checked;
 use reference::Known;
-use reference::know_reference;
 use rules::Cds;
 use rules::Edit;
 use rules::Exceptions;

@@ -1,17 +1,14 @@
--- Laws of positions that aren't outside, and of what an edit that isn't refused leaves.
--- Assumes nothing.
+-- Laws of what an edit that isn't refused leaves. Assumes nothing.
 use mathlib.Core.Path.{_≡_, refl}
 use mathlib.Core.Bool.{true, false, _&&_, _||_}
 use mathlib.Core.List.{List, [], _∷_}
-use Prim.Native.Nat.{ℕ, _+_, _-_, _≤_, max, zero-le}
+use Prim.Native.Nat.{ℕ, _≤_, max, zero-le}
 use native.Mathlib.Omega.{arith}
 use borrow.Author.Tests.{leb-true, ne-eqb}
 use lib.Dec.{eqb, leb}
 use lib.ListN.{length}
 use Rattle.rules.specs.declared.Kind.{Kind}
 use Rattle.rules.specs.declared.Kind.the-variants.{Substitution, Deletion, Delins, Insertion, Duplication, Inversion, Identity, Other}
-use Rattle.rules.specs.declared.Position.{Position}
-use Rattle.rules.specs.declared.Position.the-variants.{Plus, Minus, Star}
 use Rattle.rules.specs.Bytes.{isNone, all, firstOf}
 use Rattle.rules.specs.Letters.{isLetter}
 use Rattle.rules.specs.Reference.{Reference}
@@ -19,22 +16,8 @@ use Rattle.rules.specs.Position.{isOutside}
 use Rattle.rules.specs.Edit.{Asked, is, kindOf, endsPast, isMisplaced, areNewBases, fitBases, editTests}
 use Rattle.rules.proofs.Tests.{and-left, and-right, or-left, or-right}
 use Rattle.rules.proofs.Refusal.{Allowed, allowed}
-use Rattle.rules.proofs.Span.{within, Indexes, indexes-of}
+use Rattle.rules.proofs.Span.{Indexes, indexes-of}
 use Rattle.reference.specs.Bounds.{Sound}
-
--- the number of a position that isn't outside
-module _ (cs ce : ℕ) (p : Position) (n : ℕ) where
-  pub in-cds : p ≡ Plus n → isOutside cs ce p ≡ false → (1 ≤ n) × (n ≤ ce + 1 - cs)
-  unfolding isOutside
-  in-cds e h = within n (ce + 1 - cs) (rw e at h)
-
-  pub in-front : p ≡ Minus n → isOutside cs ce p ≡ false → (1 ≤ n) × (n ≤ cs - 1)
-  unfolding isOutside
-  in-front e h = within n (cs - 1) (rw e at h)
-
-  pub in-star : p ≡ Star n → isOutside cs ce p ≡ false → (1 ≤ n) × (n ≤ 65535)
-  unfolding isOutside
-  in-star e h = within n 65535 (rw e at h)
 
 -- 7 doesn't apply
 pub both-inside : (r : Reference) (e : Asked) → isMisplaced r e ≡ false → (isOutside (r .cs) (r .ce) (e .edit .start) ≡ false) × (isOutside (r .cs) (r .ce) (e .edit .end) ≡ false)

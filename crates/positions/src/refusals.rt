@@ -1,8 +1,8 @@
 // "Refusal numbers": 7 to 10, over both positions. Of the transcript only its length plays a part.
-use crate::places::is_before;
-use crate::places::is_behind;
-use crate::places::is_outside;
-use crate::places::place_of;
+use indexes::is_before;
+use indexes::is_behind;
+use indexes::is_outside;
+use indexes::place_of;
 use rules::Cds;
 use rules::Edit;
 use rules::Kind;

@@ -24,7 +24,7 @@ use Rattle.rules.proofs.Tests.{and-left, and-right}
 use Rattle.rules.proofs.Refusal.{Allowed}
 use Rattle.rules.proofs.Reference.{Bounds}
 use Rattle.rules.proofs.Span.{Indexes}
-use Rattle.positions.proofs.Tests.{in-cds}
+use Rattle.indexes.proofs.Inside.{in-cds}
 use Rattle.profile.specs.Numbers.{unevenBy, testsBy}
 
 -- a position in the CDS: its index is its place, and stands before the CDS's end

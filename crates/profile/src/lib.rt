@@ -1,9 +1,9 @@
 // Refusals 40 to 43, of an edit that 1 to 10 leave. Of the transcript one letter is looked at; that each is one base was seen when the
 // reference was checked.
+use indexes::index_of;
 use numbers::wide;
 use packed::letter_at;
 use packed::size_of;
-use positions::places::index_of;
 use reference::Known;
 use rules::Edit;
 use rules::Kind;

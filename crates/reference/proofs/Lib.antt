@@ -6,4 +6,3 @@ pub mod Last
 pub mod Reading
 pub mod Cut
 pub mod Checking
-pub mod FirstStop

@@ -26,7 +26,7 @@ use Rattle.places.specs.Looked.{Reads, Walks}
 use Rattle.places.proofs.Strict.{strict-letters, strict-translated, whole-bases, bases-fold}
 use Rattle.reference.specs.declared.Known.{Known}
 use Rattle.reference.specs.Known.{knownOf, Readable}
-use Rattle.reference.proofs.Testing.{size-of}
+use Rattle.bounds.proofs.Testing.{size-of}
 
 -- R of a reference that passes 1 to 5
 module _ (s : List ℕ) (c : Cds) (e : Exceptions) (x : Readable s c e) where

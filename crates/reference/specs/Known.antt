@@ -2,16 +2,15 @@
 use Prim.Native.Nat.{ℕ, zero, suc, _+_, _≤_, _<_, max}
 use mathlib.Core.Path.{_≡_}
 use mathlib.Core.List.{List, []}
-use mathlib.Core.Bool.{Bool, true, _&&_}
-use lib.Dec.{leb, ltb}
+use mathlib.Core.Bool.{Bool, true}
+use lib.Dec.{ltb}
 use lib.ListN.{length, take, drop}
 use Rattle.rules.specs.declared.Form.{Form}
 use Rattle.rules.specs.declared.Cds.{Cds}
-use Rattle.rules.specs.declared.Exception.{Exception}
 use Rattle.rules.specs.declared.Exceptions.{Exceptions}
 use Rattle.rules.specs.declared.Limits.{Limits}
 use Rattle.rules.specs.Bytes.{byte, all, count, firstOf}
-use Rattle.rules.specs.Translation.{isResidue, residueCount}
+use Rattle.rules.specs.Translation.{residueCount}
 use Rattle.rules.specs.Reference.{Reference, cdsSize, fitExceptions, referenceProtein, referenceTests}
 use Rattle.rules.specs.Refusal.{referenceRefusal}
 use Rattle.rules.specs.Views.{bare, referenceOf}
@@ -22,10 +21,6 @@ use Rattle.reference.specs.declared.Judged.the-variants as judged
 use Rattle.reference.specs.declared.Checked.{Checked}
 use Rattle.reference.specs.declared.Checked.the-variants as checked
 use Rattle.reference.specs.Bounds.{Sound}
-
--- an exception in its order: a codon number above `last` and at most `most`, and a residue A to Z or `*`
-abbrev pub isException : ℕ → ℕ → Exception → Bool
-isException last most x = ltb last (x .codon) && leb (x .codon) most && isResidue (x .residue)
 
 -- 1 to 5, for which no codon is read, and 0 where none applies
 unfoldable pub earlyRefusal : ℕ → Reference → ℕ

@@ -1,8 +1,7 @@
 // "Reference": refusals 1 to 6 and 28, and the reference protein R, read once.
+mod early;
 mod protein;
-mod several;
 mod stop;
-mod tests;
 
 use protein::read_reference;
 use rules::Cds;
@@ -16,11 +15,10 @@ ghost use Rattle.rules.specs.Refusal.{referenceRefusal};
 ghost use Rattle.rules.specs.Packed.{lettersBy};
 ghost use Rattle.rules.specs.Views.{referenceOf};
 ghost use Rattle.reference.specs.Known.{HasRoom, proteinUnless, checkedOf};
-pub use several::know_reference;
+pub use bounds::are_bounds;
+pub use bounds::fit_exceptions;
 pub use stop::is_short_end;
 pub use stop::judge_reference;
-pub use tests::are_bounds;
-pub use tests::fit_exceptions;
 
 // What is known of a reference that isn't refused; its letters, in their form, its exceptions and R are lent beside it. `residues` is R's length. The letters
 // are plain if each is one base. `several` is whether R has more than one stop.

@@ -1,6 +1,6 @@
 // Refusal 6, by the last CDS codon alone, or 28, by a search for a stop, and so all of a reference's refusals without a buffer for R.
 use crate::Judged;
-use crate::tests::early_refusal;
+use crate::early::early_refusal;
 use codons::reader::read_codon;
 use excepted::excepted_at;
 use packed::first_stop_by;

@@ -8,8 +8,8 @@ use Rattle.rules.specs.Altered.{part}
 use Rattle.rules.specs.Reference.{size}
 use Rattle.rules.specs.Packed.{lettersBy}
 use Rattle.rules.proofs.Parts.{length-part}
-use Rattle.edits.specs.declared.cut.Cut.{Cut}
-use Rattle.edits.proofs.Cuts.{cut-le}
+use Rattle.cuts.specs.declared.Cut.{Cut}
+use Rattle.cuts.proofs.Cuts.{cut-le}
 use Rattle.edits.proofs.Planning.{cuts-copy}
 use Rattle.edits.proofs.plans.insert_copy.Statement.{statement}
 use Rattle.edits.proofs.plans.insert_copy.Tie as tie

@@ -5,9 +5,9 @@ use Prim.Native.Nat.{ℕ, _+_, _-_, _%_, _≤_, _<_}
 use native.Mathlib.Omega.{arith}
 use borrow.Author.Needs.{needs}
 use lib.ListN.{length}
-use Rattle.edits.specs.declared.cut.Cut.{Cut}
-use Rattle.edits.specs.Cuts.{cutOf}
-use Rattle.edits.proofs.Cuts.{cut-le, whole-part, cuts-bases}
+use Rattle.cuts.specs.declared.Cut.{Cut}
+use Rattle.cuts.specs.Cuts.{cutOf}
+use Rattle.cuts.proofs.Cuts.{cut-le, whole-part, cuts-bases}
 use Rattle.edits.proofs.plans.insert_new.Statement.{statement}
 use Rattle.edits.proofs.plans.insert_new.Tie as tie
 

@@ -1,0 +1,2 @@
+-- What the contracts here, and those above, want said.
+pub mod Apart

@@ -1,0 +1,2 @@
+-- What the contracts here want said.
+pub mod Exceptions

@@ -1,0 +1,2 @@
+-- What the contracts of the stop cut want said.
+pub mod Cuts
