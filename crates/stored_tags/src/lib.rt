@@ -1,30 +1,29 @@
-// The form of a stored reference: its tags, what content fits each, and 20, 21 and 23.
+// The form of a stored reference: its tags, what content fits each, and what a field is refused with, 20, 21 or 23.
 use fields::Field;
 use fields::bytes_at;
-use fields::next_field;
 use numbers::wide;
 use reference::is_short_end;
 ghost use mathlib.Core.Path.{_≡_};
 ghost use Rattle.rules.specs.Bytes.{if_then_else_};
-ghost use Rattle.rules.specs.Stored.{isWrongTag, isWrongContent, referenceForm, fields};
+ghost use Rattle.rules.specs.Stored.{isWrongTag, isWrongContent, referenceForm};
 ghost use Rattle.fields.specs.Places.{Within};
-ghost use Rattle.fields.specs.Refusals.{fieldRefusal, refusalIn};
+ghost use Rattle.fields.specs.Refusals.{fieldRefusal};
 
-pub(crate) const LETTERS: u8 = 1;
+pub const LETTERS: u8 = 1;
 // cs and ce, two bytes each.
-pub(crate) const BOUNDS: u8 = 2;
+pub const BOUNDS: u8 = 2;
 // One byte.
-pub(crate) const TABLE: u8 = 3;
+pub const TABLE: u8 = 3;
 // Three bytes each; may be absent.
-pub(crate) const EXCEPTIONS: u8 = 4;
+pub const EXCEPTIONS: u8 = 4;
 // Letters beyond those that fill tag 1, and then beyond those that fill tag 5.
-pub(crate) const SECOND: u8 = 5;
+pub const SECOND: u8 = 5;
 
-pub(crate) const THIRD: u8 = 6;
+pub const THIRD: u8 = 6;
 // cs and ce, four bytes each.
-pub(crate) const WIDE: u8 = 7;
+pub const WIDE: u8 = 7;
 // How the CDS ends, one byte; absent for a stop.
-pub(crate) const END: u8 = 8;
+pub const END: u8 = 8;
 
 fn is_tag(tag: u8) -> bool
     ensures { λ r. ⌜ r ≡ referenceForm .knows tag ⌝ }
@@ -73,7 +72,7 @@ fn refused_if(holds: bool, number: usize, other: usize) -> usize
 }
 
 // 21 before 20 before 23, in a field behind one with the tag `last`; 0 where none applies.
-fn field_refusal(s: &[u8], last: u8, f: Field) -> usize
+pub fn field_refusal(s: &[u8], last: u8, f: Field) -> usize
     requires { ⌜ Within (now s) f ⌝ }
     ensures { λ r. ⌜ r ≡ fieldRefusal referenceForm last (now (s .entry)) f ⌝ }
 {
@@ -85,25 +84,5 @@ fn field_refusal(s: &[u8], last: u8, f: Field) -> usize
             let unfit = is_wrong_content(tag, bytes_at(s, content));
             refused_if(wrong, 21, refused_if(unfit, 23, 0))
         }
-    }
-}
-
-// The first of 20, 21 and 23 that is met in field order, and 0 where none is.
-pub(crate) fn fields_refusal(s: &[u8]) -> usize
-    ensures { λ r. ⌜ r ≡ refusalIn (fields referenceForm (now (s .entry))) ⌝ }
-{
-    let mut at = 0;
-    let mut last = 0;
-    loop {
-        let f = next_field(s, at);
-        let refused = field_refusal(s, last, f);
-        if refused != 0 {
-            return refused;
-        }
-        let Field::Whole { tag, content } = f else {
-            return 0;
-        };
-        last = tag;
-        at = content.at + content.len;
     }
 }

@@ -1,8 +1,8 @@
--- `stored_fields::places::is_early` meets its contract. Assumes nothing.
+-- `stored_places::is_early` meets its contract. Assumes nothing.
 use mathlib.Core.Path.{ap}
 use borrow.Author.Needs.{needs}
-use Rattle.stored_fields.proofs.places.is_early.Statement.{statement}
-use Rattle.stored_fields.proofs.places.is_early.Tie as tie
+use Rattle.stored_places.proofs.is_early.Statement.{statement}
+use Rattle.stored_places.proofs.is_early.Tie as tie
 
 returns : tie.Need-returns
 returns c = rw (c .before .is-there .ensures)

@@ -1,10 +1,10 @@
--- `stored_fields::tags::field_refusal` meets its contract. Assumes nothing.
+-- `stored_tags::field_refusal` meets its contract. Assumes nothing.
 use mathlib.Core.Path.{_∙_}
 use borrow.Author.Needs.{needs}
 use Rattle.fields.specs.Refusals.{fieldRefusal}
-use Rattle.stored_fields.proofs.Form.{cut-refusal, whole-refusal}
-use Rattle.stored_fields.proofs.tags.field_refusal.Statement.{statement}
-use Rattle.stored_fields.proofs.tags.field_refusal.Tie as tie
+use Rattle.stored_tags.proofs.Form.{cut-refusal, whole-refusal}
+use Rattle.stored_tags.proofs.field_refusal.Statement.{statement}
+use Rattle.stored_tags.proofs.field_refusal.Tie as tie
 
 bytes-at-requires : tie.Need-bytes-at-requires
 bytes-at-requires c κs = c .before .before .before .before .before .pre _ _ (c .before .before .f2 .given .1)

@@ -1,11 +1,11 @@
--- `stored_fields::tags::is_wrong_content` meets its contract. Assumes nothing.
+-- `stored_tags::is_wrong_content` meets its contract. Assumes nothing.
 use mathlib.Core.Path.{ap}
 use mathlib.Core.Bool.{not}
 use borrow.Author.Needs.{needs}
 use Rattle.rules.specs.Stored.{isWrongContent, referenceForm}
-use Rattle.stored_fields.proofs.Form.{any-content, no-letters}
-use Rattle.stored_fields.proofs.tags.is_wrong_content.Statement.{statement}
-use Rattle.stored_fields.proofs.tags.is_wrong_content.Tie as tie
+use Rattle.stored_tags.proofs.Form.{any-content, no-letters}
+use Rattle.stored_tags.proofs.is_wrong_content.Statement.{statement}
+use Rattle.stored_tags.proofs.is_wrong_content.Tie as tie
 
 returns : tie.Need-returns
 unfolding isWrongContent referenceForm

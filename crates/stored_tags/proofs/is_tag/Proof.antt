@@ -1,8 +1,8 @@
--- `stored_fields::tags::is_tag` meets its contract. Assumes nothing.
+-- `stored_tags::is_tag` meets its contract. Assumes nothing.
 use mathlib.Core.Path.{refl}
 use Rattle.rules.specs.Stored.{referenceForm}
-use Rattle.stored_fields.proofs.tags.is_tag.Statement.{statement}
-use Rattle.stored_fields.proofs.tags.is_tag.Tie as tie
+use Rattle.stored_tags.proofs.is_tag.Statement.{statement}
+use Rattle.stored_tags.proofs.is_tag.Tie as tie
 
 returns : tie.Need-returns
 unfolding referenceForm

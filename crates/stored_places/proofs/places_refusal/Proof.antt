@@ -1,9 +1,9 @@
--- `stored_fields::places::places_refusal` meets its contract. Assumes nothing.
+-- `stored_places::places_refusal` meets its contract. Assumes nothing.
 use borrow.Author.Needs.{needs}
 use Rattle.rules.specs.Bytes.{firstOf}
-use Rattle.stored_fields.specs.Reading.{placesRefusal}
-use Rattle.stored_fields.proofs.places.places_refusal.Statement.{statement}
-use Rattle.stored_fields.proofs.places.places_refusal.Tie as tie
+use Rattle.stored_places.specs.Refusal.{placesRefusal}
+use Rattle.stored_places.proofs.places_refusal.Statement.{statement}
+use Rattle.stored_places.proofs.places_refusal.Tie as tie
 
 returns : tie.Need-returns
 unfolding placesRefusal firstOf

@@ -1,4 +1,4 @@
--- `stored_fields::tags::fields_refusal` meets its contract. The invariant: the fields from the place on are refused with what all are.
+-- `stored_fields::order::fields_refusal` meets its contract. The invariant: the fields from the place on are refused with what all are.
 -- Assumes nothing.
 use mathlib.Core.Path.{_≡_, sym, ap, _∙_}
 use Prim.Native.Nat.{_-_}
@@ -9,8 +9,8 @@ use Rattle.rules.specs.Stored.{referenceForm, fields}
 use Rattle.fields.specs.Refusals.{refusalIn}
 use Rattle.fields.proofs.Places.{not-whole, holds, within}
 use Rattle.fields.proofs.Order.{fieldsAfter, from-start, refused-here, none-here, goes-on, refusal-with}
-use Rattle.stored_fields.proofs.tags.fields_refusal.Statement.{statement}
-use Rattle.stored_fields.proofs.tags.fields_refusal.Tie as tie
+use Rattle.stored_fields.proofs.order.fields_refusal.Statement.{statement}
+use Rattle.stored_fields.proofs.order.fields_refusal.Tie as tie
 
 abbrev Inv-loop : tie.InvT-loop
 Inv-loop s at₀ last₀ at last =

@@ -1,12 +1,12 @@
--- `stored_fields::tags::is_end` meets its contract. Assumes nothing.
+-- `stored_tags::is_end` meets its contract. Assumes nothing.
 use mathlib.Core.Path.{ap, _∙_}
 use borrow.Author.Tests.{eq-eqb, ne-eqb}
 use borrow.Author.Needs.{needs}
 use lib.ListN.{length}
 use Rattle.rules.specs.Reference.{isShortEnd}
 use Rattle.rules.specs.Stored.{referenceForm}
-use Rattle.stored_fields.proofs.tags.is_end.Statement.{statement}
-use Rattle.stored_fields.proofs.tags.is_end.Tie as tie
+use Rattle.stored_tags.proofs.is_end.Statement.{statement}
+use Rattle.stored_tags.proofs.is_end.Tie as tie
 
 returns : tie.Need-returns
 unfolding referenceForm
