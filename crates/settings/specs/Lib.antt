@@ -1,3 +1,2 @@
 -- What only this crate's contracts want said.
-pub mod Places
 pub mod Writing

@@ -1,17 +1,17 @@
 // The writer of settings.
-use crate::values::LONGEST_EDIT;
-use crate::values::PROFILE;
-use crate::values::TABLE;
-use crate::values::VERSION;
-use crate::values::WIDTH;
-use crate::values::are_settings;
-use crate::values::has_longest;
-use crate::values::is_version;
 use fields::write_field;
 use fields::write_head;
 use fields::write_two;
 use rules::Settings;
 use rules::Written;
+use settings_values::LONGEST_EDIT;
+use settings_values::PROFILE;
+use settings_values::TABLE;
+use settings_values::VERSION;
+use settings_values::WIDTH;
+use settings_values::are_settings;
+use settings_values::has_longest;
+use settings_values::is_version;
 ghost use mathlib.Core.Path.{_≡_};
 ghost use mathlib.Core.List.{[], _∷_, _++_};
 ghost use Prim.Native.Nat.{_≤_, _<_};

@@ -24,11 +24,12 @@ use Rattle.fields.specs.Refusals.{refusalIn, taggedIn}
 use Rattle.fields.proofs.Places.{length-of-part}
 use Rattle.fields.proofs.Order.{given-fields}
 use Rattle.fields.proofs.Contents.{contentIn, has, found}
-use Rattle.stored_fields.specs.declared.places.Places.{Places}
+use Rattle.stored_places.specs.declared.Places.{Places}
+use Rattle.stored_places.specs.Refusal.{isThere, isEarly, placesRefusal}
 use Rattle.stored_fields.specs.declared.places.StoredAt.{StoredAt}
 use Rattle.stored_fields.specs.declared.places.Stored.{Stored}
 use Rattle.stored_fields.specs.declared.places.Stored.the-variants.{Refused, At}
-use Rattle.stored_fields.specs.Reading.{isThere, isEarly, placesRefusal, boundsBy, cdsIn, Fit, placedReference, toldReference, Stand, Placed, Reads}
+use Rattle.stored_fields.specs.Reading.{boundsBy, cdsIn, Fit, placedReference, toldReference, Stand, Placed, Reads}
 use Rattle.stored_fields.proofs.Form.{bounds-length, wide-length, second-length, third-length, table-length, exceptions-length}
 
 pub refuses : (s : List ℕ) (x : Result Reference) (n : ℕ) → x ≡ refused n → Reads s x (Refused n)

@@ -1,14 +1,11 @@
 -- What an answer tells of a stored reference, by places in the caller's bytes.
 use Prim.Native.Nat.{ℕ, _+_, _%_, _≤_}
 use mathlib.Core.Path.{_≡_}
-use mathlib.Core.Bool.{Bool, _&&_, _||_, not}
 use mathlib.Core.List.{List, [], _∷_, _++_}
 use mathlib.Core.Option.{none, some}
-use lib.Dec.{eqb, ltb}
 use lib.ListN.{length, getD}
 use Rattle.rules.specs.declared.Cds.{Cds}
-use Rattle.rules.specs.declared.Part.{Part}
-use Rattle.rules.specs.Bytes.{if_then_else_, _↯_, firstOf, Result, given, refused}
+use Rattle.rules.specs.Bytes.{Result, given, refused}
 use Rattle.rules.specs.Record.{partOf}
 use Rattle.rules.specs.Reference.{Reference, atStop}
 use Rattle.rules.specs.Stored.{Bounds, boundsIn, referenceForm, fields, exceptionsIn, isJoined}
@@ -16,25 +13,11 @@ use Rattle.rules.specs.Views.{cdsOf}
 use Rattle.fields.specs.declared.lookup.Content.the-variants as content
 use Rattle.fields.specs.Places.{contentAt, partOrEmpty}
 use Rattle.fields.specs.Refusals.{refusalIn}
-use Rattle.stored_fields.specs.declared.places.Places.{Places}
+use Rattle.stored_places.specs.declared.Places.{Places}
+pub use Rattle.stored_places.specs.Refusal.{isThere}
 use Rattle.stored_fields.specs.declared.places.StoredAt.{StoredAt}
 use Rattle.stored_fields.specs.declared.places.Stored.{Stored}
 use Rattle.stored_fields.specs.declared.places.Stored.the-variants.{Refused, At}
-
--- there is a field, of a tag whose contents aren't empty
-abbrev pub isThere : Part → Bool
-isThere p = not (eqb (p .len) 0)
-
--- a letter field begun before the last was full
-abbrev pub isEarly : Part → Part → Bool
-isEarly last p = isThere p && not (eqb (last .len) 65535)
-
--- 22, then 25, by the lengths of contents
-unfoldable pub placesRefusal : Places → ℕ
-placesRefusal p =
-    firstOf ((not (isThere (p .bounds) || isThere (p .wide)) || not (isThere (p .table))) ↯ 22
-    ∷ ((if isThere (p .second) || ltb 16384 (p .letters .len) then isThere (p .bounds) else isThere (p .wide)) || isEarly (p .letters) (p .second) || isEarly (p .second) (p .third)) ↯ 25
-    ∷ [])
 
 -- the bounds that the contents of tags 2 and 7 hold, one of them empty
 abbrev pub boundsBy : List ℕ → List ℕ → Bounds

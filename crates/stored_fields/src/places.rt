@@ -1,13 +1,5 @@
 // Where a reference stands in the bytes that store it. Whether it is one that a call takes, 1 to 5, 6 or 28, isn't judged here.
-use crate::tags::BOUNDS;
-use crate::tags::END;
-use crate::tags::EXCEPTIONS;
-use crate::tags::LETTERS;
-use crate::tags::SECOND;
-use crate::tags::TABLE;
-use crate::tags::THIRD;
-use crate::tags::WIDE;
-use crate::tags::fields_refusal;
+use crate::order::fields_refusal;
 use fields::Content;
 use fields::bytes_at;
 use fields::content_of;
@@ -17,20 +9,26 @@ use fields::two_bytes;
 use numbers::wide;
 use rules::Cds;
 use rules::Part;
-use rules::SHORT;
+use stored_places::Places;
+use stored_places::places_refusal;
+use stored_tags::BOUNDS;
+use stored_tags::END;
+use stored_tags::EXCEPTIONS;
+use stored_tags::LETTERS;
+use stored_tags::SECOND;
+use stored_tags::TABLE;
+use stored_tags::THIRD;
+use stored_tags::WIDE;
 ghost use mathlib.Core.Path.{_≡_};
-ghost use lib.ListN.{length, getD};
-ghost use Rattle.rules.specs.Bytes.{if_then_else_};
+ghost use lib.ListN.{getD};
 ghost use Rattle.rules.specs.Reference.{atStop};
-ghost use Rattle.rules.specs.Stored.{Bounds, referenceForm, fields, assembledIn};
+ghost use Rattle.rules.specs.Stored.{referenceForm, fields, assembledIn};
 ghost use Rattle.fields.specs.declared.lookup.Content.the-variants as content;
 ghost use Rattle.fields.specs.Places.{contentAt};
 ghost use Rattle.fields.specs.Refusals.{refusalIn};
+ghost use Rattle.stored_places.specs.Refusal.{placesRefusal};
 ghost use Rattle.stored_fields.specs.declared.places.Stored.the-variants as stored;
-ghost use Rattle.stored_fields.specs.Reading.{isThere, isEarly, placesRefusal, boundsBy, cdsIn, Fit, Stand, Reads};
-
-// The letters that fill a field.
-const FULL: usize = 65535;
+ghost use Rattle.stored_fields.specs.Reading.{cdsIn, Fit, Stand, Reads};
 
 // A stored reference: its numbers, and where its letters, one part behind the other, and its exceptions stand in the caller's bytes.
 pub struct StoredAt {
@@ -44,18 +42,6 @@ pub struct StoredAt {
 pub enum Stored {
     Refused(usize),
     At(StoredAt),
-}
-
-// Where the contents of the tags stand; 0 bytes at 0 where there is none.
-struct Places {
-    letters: Part,
-    bounds: Part,
-    table: Part,
-    exceptions: Part,
-    second: Part,
-    third: Part,
-    wide: Part,
-    end: Part,
 }
 
 fn places_of(s: &[u8], letters: Part) -> Places
@@ -73,46 +59,6 @@ fn places_of(s: &[u8], letters: Part) -> Places
         wide: part_or_empty(content_of(s, WIDE)),
         end: part_or_empty(content_of(s, END)),
     }
-}
-
-// Whether there is a field, of a tag whose contents aren't empty.
-fn is_there(p: Part) -> bool
-    ensures { λ r. ⌜ r ≡ isThere p ⌝ }
-{
-    p.len != 0
-}
-
-// Whether a letter field is begun before the last was full.
-fn is_early(last: Part, p: Part) -> bool
-    ensures { λ r. ⌜ r ≡ isEarly last p ⌝ }
-{
-    is_there(p) & (last.len != FULL)
-}
-
-// Whether tag 2 is there for a long transcript, or tag 7 for a short one.
-fn are_wrong_bounds(long: bool, narrow: bool, wide: bool) -> bool
-    ensures { λ r. ⌜ r ≡ (if long then narrow else wide) ⌝ }
-{
-    if long { narrow } else { wide }
-}
-
-// 22, then 25, or 0. A second letter field stands behind a full one, so that L is above 16,384.
-fn places_refusal(p: Places) -> usize
-    ensures { λ r. ⌜ r ≡ placesRefusal p ⌝ }
-{
-    let narrow = is_there(p.bounds);
-    let wide = is_there(p.wide);
-    if !(narrow | wide) | !is_there(p.table) {
-        return 22;
-    }
-    let long = is_there(p.second) | (SHORT < p.letters.len);
-    if are_wrong_bounds(long, narrow, wide)
-        | is_early(p.letters, p.second)
-        | is_early(p.second, p.third)
-    {
-        return 25;
-    }
-    0
 }
 
 // The end that the content of tag 8 tells; with none, at a stop.

@@ -22,7 +22,8 @@ use Rattle.reference.specs.declared.Judged.{Judged}
 use Rattle.reference.specs.declared.Judged.the-variants as judged
 use Rattle.reference.specs.Known.{judgedOf}
 use Rattle.reference.proofs.Judging.{was-refused, was-clear}
-use Rattle.storing.specs.Forming.{formLength, Clear}
+use Rattle.storing_length.specs.Length.{formLength}
+use Rattle.storing.specs.Forming.{Clear}
 use Rattle.storing.proofs.Forms.{numbers}
 use Rattle.storing.proofs.Lengths.{form-length}
 

@@ -8,14 +8,16 @@ use native.Mathlib.Decide.{decLt}
 use native.Mathlib.Omega.{arith}
 use lib.Dec.{eqb, ltb}
 use lib.ListN.{length, take, drop, length-append, length-take, length-drop}
-use borrow.Author.Tests.{lt-ltb, le-ltb, eq-eqb, ne-eqb, eqb-true}
+use borrow.Author.Tests.{lt-ltb, le-ltb, eq-eqb, ne-eqb}
 use Rattle.rules.specs.Bytes.{if_then_else_, each}
 use Rattle.rules.specs.Reference as rules
 use Rattle.rules.specs.Reference.{Reference, atStop}
-use Rattle.rules.specs.Stored.{Tagged}
 use Rattle.rules.specs.Storing.{inTwo, inFour, exceptionBytes, isLong, tagged, heldBy, storedForm}
-use Rattle.storing.specs.Forming.{oneField, formLength}
-use Rattle.storing.proofs.Forms.{form-each, field-none, field-some, length-field, length-bytes}
+use Rattle.storing_numbers.specs.Fields.{oneField}
+use Rattle.storing_numbers.proofs.Fields.{field-none, field-some, length-field}
+use Rattle.storing_exceptions.proofs.Rows.{length-bytes}
+use Rattle.storing_length.specs.Length.{formLength}
+use Rattle.storing.proofs.Forms.{form-each}
 
 -- what a field takes, by the length of its content
 unfoldable taken : ℕ → ℕ

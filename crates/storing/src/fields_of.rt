@@ -1,8 +1,4 @@
 // The field of each tag.
-use crate::numbers_of::write_excepted;
-use crate::numbers_of::write_narrow;
-use crate::numbers_of::write_one;
-use crate::numbers_of::write_wide;
 use fields::write_head;
 use numbers::least;
 use packed::copy_letters;
@@ -10,6 +6,10 @@ use packed::size_of;
 use rules::Cds;
 use rules::Exceptions;
 use rules::Form;
+use storing_exceptions::write_excepted;
+use storing_numbers::write_narrow;
+use storing_numbers::write_one;
+use storing_numbers::write_wide;
 ghost use mathlib.Core.Path.{_≡_};
 ghost use mathlib.Core.Bool.{true};
 ghost use Prim.Native.Nat.{_≤_, _<_};
@@ -19,7 +19,8 @@ ghost use Rattle.rules.specs.Letters.{isLetter};
 ghost use Rattle.rules.specs.Packed.{lettersBy};
 ghost use Rattle.rules.specs.Storing.{tagged};
 ghost use Rattle.rules.specs.Views.{referenceOf};
-ghost use Rattle.storing.specs.Forming.{oneField, endField, heldAt, Clear};
+ghost use Rattle.storing_numbers.specs.Fields.{oneField};
+ghost use Rattle.storing.specs.Forming.{endField, heldAt, Clear};
 
 // The letters that a letter field holds.
 const FULL: usize = 65535;

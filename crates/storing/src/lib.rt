@@ -1,10 +1,7 @@
 // "Write the stored reference": a reference into a lent buffer, in the stored form, which has packed letters a byte each too.
-mod exceptions;
 mod fields_of;
 mod form;
-mod numbers_of;
 
-use form::form_length;
 use form::write_form;
 use packed::size_of;
 use reference::Judged;
@@ -14,6 +11,7 @@ use rules::Exceptions;
 use rules::Form;
 use rules::LONGEST;
 use rules::Written;
+use storing_length::form_length;
 ghost use mathlib.Core.Path.{_≡_};
 ghost use lib.ListN.{length};
 ghost use Rattle.rules.specs.Bytes.{over};

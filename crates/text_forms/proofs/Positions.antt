@@ -16,12 +16,13 @@ use Rattle.rules.specs.declared.Position.the-variants.{Plus, Minus, Star}
 use Rattle.rules.specs.Bytes.{if_then_else_}
 use Rattle.rules.specs.Number.{number}
 use Rattle.rules.specs.Line.{placed, position, joined, range}
-use Rattle.text_forms.specs.declared.number.NumberAt.{NumberAt}
-use Rattle.text_forms.specs.declared.number.NumberAt.the-variants as number-at
+use Rattle.text_numbers.specs.declared.NumberAt.{NumberAt}
+use Rattle.text_numbers.specs.declared.NumberAt.the-variants as number-at
+use Rattle.text_numbers.specs.Views.{numberIn}
 use Rattle.text_forms.specs.declared.position.PositionAt.{PositionAt}
 use Rattle.text_forms.specs.declared.position.PositionAt.the-variants.{Not, Found}
 use Rattle.text_forms.specs.declared.position.RangeAt.the-variants as range-at
-use Rattle.text_forms.specs.Views.{numberIn, signs, signed, placedIn, rangeIn}
+use Rattle.text_forms.specs.Views.{signs, signed, placedIn, rangeIn}
 
 signs-by : (t u : Bool) → (if t then 1 else if u then 1 else 0) ≤ 1
 signs-by true u = omega arith

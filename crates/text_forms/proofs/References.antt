@@ -15,10 +15,11 @@ use Rattle.rules.specs.Reference.{atStop}
 use Rattle.rules.specs.Views.{cdsOf}
 use Rattle.rules.specs.Line.{areCapitals, startsWith, behindSpace, spaced, behindRef, referenceLine}
 use Rattle.rules.proofs.Over.{tail-is}
-use Rattle.text_forms.specs.declared.number.NumberAt.{NumberAt}
-use Rattle.text_forms.specs.declared.number.NumberAt.the-variants.{Not, Found}
+use Rattle.text_numbers.specs.declared.NumberAt.{NumberAt}
+use Rattle.text_numbers.specs.declared.NumberAt.the-variants.{Not, Found}
+use Rattle.text_numbers.specs.Views.{numberIn}
 use Rattle.text_forms.specs.declared.line.ReferenceLine.the-variants.{Given}
-use Rattle.text_forms.specs.Views.{numberIn, referenceLineIn}
+use Rattle.text_forms.specs.Views.{referenceLineIn}
 
 module _ (line : List ℕ) (at : ℕ) (r : NumberAt) (q : numberIn line r ≡ number (drop at line)) where
   pub spaced-not : r ≡ Not → none ≡ spaced (drop at line)

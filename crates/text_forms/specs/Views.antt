@@ -10,29 +10,16 @@ use Rattle.rules.specs.declared.Position.the-variants.{Plus, Minus, Star}
 use Rattle.rules.specs.Bytes.{byte, if_then_else_}
 use Rattle.rules.specs.Reference.{Reference}
 use Rattle.rules.specs.Edit.{Asked}
-use Rattle.rules.specs.Number.{Numbered}
-use Rattle.rules.specs.Line.{Placed, Range, Verb}
+use Rattle.rules.specs.Line.{Placed, Range}
 use Rattle.rules.specs.Views.{bare}
-use Rattle.text_forms.specs.declared.number.NumberAt.{NumberAt}
-use Rattle.text_forms.specs.declared.number.NumberAt.the-variants as number
 use Rattle.text_forms.specs.declared.position.PositionAt.{PositionAt}
 use Rattle.text_forms.specs.declared.position.PositionAt.the-variants as position
 use Rattle.text_forms.specs.declared.position.RangeAt.{RangeAt}
 use Rattle.text_forms.specs.declared.position.RangeAt.the-variants as range
-use Rattle.text_forms.specs.declared.verb.VerbAt.{VerbAt}
-use Rattle.text_forms.specs.declared.verb.VerbAt.the-variants as verb
 use Rattle.text_forms.specs.declared.line.EditLine.{EditLine}
 use Rattle.text_forms.specs.declared.line.EditLine.the-variants as edit-line
 use Rattle.text_forms.specs.declared.line.ReferenceLine.{ReferenceLine}
 use Rattle.text_forms.specs.declared.line.ReferenceLine.the-variants as reference-line
-
-abbrev pub numberIn : List ℕ → NumberAt → Option Numbered
-numberIn line number.Not = none
-numberIn line (number.Found v next) = some (record { number = v; rest = drop next line })
-
-abbrev pub numberNext : NumberAt → ℕ
-numberNext number.Not = 0
-numberNext (number.Found v next) = next
 
 -- the number of sign bytes that a position with the first byte b has
 abbrev pub signs : ℕ → ℕ
@@ -57,14 +44,6 @@ rangeIn line (range.Found p q next) = some (record { start = p; end = q; rest = 
 abbrev pub rangeNext : RangeAt → ℕ
 rangeNext range.Not = 0
 rangeNext (range.Found p q next) = next
-
-abbrev pub verbIn : List ℕ → VerbAt → Option Verb
-verbIn line verb.Not = none
-verbIn line (verb.Found k at) = some (record { kind = k; new = drop at line })
-
-abbrev pub verbNext : VerbAt → ℕ
-verbNext verb.Not = 0
-verbNext (verb.Found k at) = at
 
 abbrev pub editLineIn : List ℕ → EditLine → Option Asked
 editLineIn line edit-line.Not = none

@@ -1,19 +1,20 @@
 // The two lines: an edit, and `ref CS CE TABLE LETTERS`.
-use crate::number::NumberAt;
-use crate::number::parse_number;
 use crate::position::RangeAt;
 use crate::position::parse_range;
-use crate::verb::VerbAt;
-use crate::verb::are_capitals;
-use crate::verb::parse_verb;
-use crate::verb::starts_with;
 use rules::Cds;
 use rules::Edit;
+use text_numbers::NumberAt;
+use text_numbers::parse_number;
+use text_verbs::VerbAt;
+use text_verbs::are_capitals;
+use text_verbs::parse_verb;
+use text_verbs::starts_with;
 ghost use mathlib.Core.Path.{_≡_};
 ghost use Prim.Native.Nat.{_≤_};
 ghost use lib.ListN.{length, drop};
 ghost use Rattle.rules.specs.Line.{editLine, spaced, referenceLine};
-ghost use Rattle.text_forms.specs.Views.{numberIn, numberNext, editLineIn, basesAt, referenceLineIn, lettersAt};
+ghost use Rattle.text_numbers.specs.Views.{numberIn, numberNext};
+ghost use Rattle.text_forms.specs.Views.{editLineIn, basesAt, referenceLineIn, lettersAt};
 
 // The new bases are the line from `at` on; `at` is the line's length where there are none.
 pub enum EditLine {

@@ -1,7 +1,7 @@
 // Positions `7`, `-2`, `*3`, and one or two of them joined by `_`.
-use crate::number::NumberAt;
-use crate::number::parse_number;
 use rules::Position;
+use text_numbers::NumberAt;
+use text_numbers::parse_number;
 ghost use mathlib.Core.Path.{_≡_};
 ghost use Prim.Native.Nat.{_+_, _≤_};
 ghost use lib.ListN.{length, drop};

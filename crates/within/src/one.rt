@@ -2,11 +2,11 @@
 use altseq::Transcribed;
 use altseq::build_altseq;
 use altseq::build_transcript;
+use longest::bases_within;
+use longest::is_given_longest;
 use panel::build_panel;
 use rules::Answer;
 use rules::Question;
-use settings::bases_within;
-use settings::is_given_longest;
 ghost use mathlib.Core.Path.{_≡_};
 ghost use lib.ListN.{length};
 ghost use Rattle.rules.specs.Bytes.{over};

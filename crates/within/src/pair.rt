@@ -1,9 +1,9 @@
 // Two edits of one reference, each with its longest edit; 62 if either is none.
+use longest::bases_within;
+use longest::is_given_longest;
 use pairs::Question;
 use pairs::pair_altseq;
 use rules::Paired;
-use settings::bases_within;
-use settings::is_given_longest;
 ghost use Rattle.rules.specs.Pair.{Pairs};
 ghost use Rattle.rules.specs.Longest.{pairWithin};
 ghost use Rattle.rules.specs.Packed.{lettersBy};

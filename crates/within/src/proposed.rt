@@ -1,9 +1,9 @@
 // A proposed record held to an edit.
 use checks::Proposed;
 use checks::check_altseq;
+use longest::bases_within;
+use longest::is_given_longest;
 use rules::Check;
-use settings::bases_within;
-use settings::is_given_longest;
 ghost use Rattle.rules.specs.Longest.{checkWithin};
 ghost use Rattle.rules.specs.Packed.{lettersBy};
 ghost use Rattle.rules.specs.Views.{asked, referenceOf, roomOf};

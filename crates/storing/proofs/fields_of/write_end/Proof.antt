@@ -4,7 +4,8 @@ use lib.Dec.{eqb}
 use lib.ListN.{length}
 use Rattle.rules.specs.Bytes.{if_then_else_}
 use Rattle.rules.specs.Reference.{atStop}
-use Rattle.storing.proofs.Forms.{nothing, end-none, end-room, end-done}
+use Rattle.storing_numbers.proofs.Fields.{nothing}
+use Rattle.storing.proofs.Forms.{end-none, end-room, end-done}
 use borrow.Author.Needs.{needs}
 use Rattle.storing.proofs.fields_of.write_end.Statement.{statement}
 use Rattle.storing.proofs.fields_of.write_end.Tie as tie

@@ -4,7 +4,8 @@ use Prim.Native.Nat.{_<_}
 use native.Mathlib.Omega.{arith}
 use lib.ListN.{take, drop}
 use Rattle.rules.specs.Packed.{lettersBy}
-use Rattle.storing.proofs.Forms.{nothing, no-letters, head-room, within, head-fits, letters-room, letters-done}
+use Rattle.storing_numbers.proofs.Fields.{nothing}
+use Rattle.storing.proofs.Forms.{no-letters, head-room, within, head-fits, letters-room, letters-done}
 use borrow.Author.Needs.{needs}
 use Rattle.storing.proofs.fields_of.write_letters.Statement.{statement}
 use Rattle.storing.proofs.fields_of.write_letters.Tie as tie

@@ -8,7 +8,8 @@ use Rattle.rules.specs.Translation.{exceptionList}
 use Rattle.rules.specs.Packed.{lettersBy}
 use Rattle.rules.specs.Storing.{exceptionBytes, tagged}
 use Rattle.rules.specs.Views.{referenceOf}
-use Rattle.storing.specs.Forming.{narrowBounds, wideBounds, endField}
+use Rattle.storing_numbers.specs.Fields.{narrowBounds, wideBounds}
+use Rattle.storing.specs.Forming.{endField}
 use Rattle.storing.proofs.Forms.{room-at, done-at, held-1, held-2, held-3, held-4, held-5, held-6, held-7, held-8, numbers, none-other}
 use borrow.Author.Needs.{needs}
 use Rattle.storing.proofs.fields_of.write_tag.Statement.{statement}

@@ -10,10 +10,10 @@ use Rattle.rules.specs.Bytes.{each, over}
 use Rattle.rules.specs.Packed.{lettersBy}
 use Rattle.rules.specs.Storing.{tagged, heldBy}
 use Rattle.rules.specs.Views.{referenceOf}
-use Rattle.storing.specs.Forming.{oneField}
+use Rattle.storing_numbers.specs.Fields.{oneField}
 use Rattle.rules.proofs.Over.{length-over}
 use Rattle.storing.proofs.Forms.{form-each, eight-held}
-use Rattle.storing.proofs.Rows.{row, row-all, row-fits, turn-fits, turn-start, turn-room, turn-done}
+use Rattle.storing_exceptions.proofs.Rows.{row, row-all, row-fits, turn-fits, turn-start, turn-room, turn-done}
 use Rattle.storing.proofs.form.write_form.Statement.{statement}
 use Rattle.storing.proofs.form.write_form.Tie as tie
 

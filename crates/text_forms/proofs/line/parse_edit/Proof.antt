@@ -1,8 +1,9 @@
 -- `text_forms::line::parse_edit` meets its contract. Assumes nothing.
 use borrow.Author.Needs.{needs}
-use Rattle.text_forms.specs.Views.{rangeNext, verbNext}
+use Rattle.text_verbs.specs.Views.{verbNext}
+use Rattle.text_forms.specs.Views.{rangeNext}
 use Rattle.text_forms.proofs.Answers.{within}
-use Rattle.text_forms.proofs.Verbs.{edit-no-range, edit-no-verb, edit-is}
+use Rattle.text_forms.proofs.Edits.{edit-no-range, edit-no-verb, edit-is}
 use Rattle.text_forms.proofs.line.parse_edit.Statement.{statement}
 use Rattle.text_forms.proofs.line.parse_edit.Tie as tie
 

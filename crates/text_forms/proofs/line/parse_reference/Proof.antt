@@ -3,9 +3,9 @@ use mathlib.Core.Path.{sym, _∙_}
 use borrow.Author.Needs.{needs}
 use borrow.Author.Tests.{not-true, not-false}
 use Rattle.rules.specs.Bytes.{bytes}
-use Rattle.text_forms.specs.Views.{numberNext}
+use Rattle.text_numbers.specs.Views.{numberNext}
 use Rattle.text_forms.proofs.Answers.{within}
-use Rattle.text_forms.proofs.Verbs.{starts-long}
+use Rattle.text_verbs.proofs.Verbs.{starts-long}
 use Rattle.text_forms.proofs.References.{reference-not, reference-no-cs, reference-no-ce, reference-no-table, reference-no-letters, reference-is}
 use Rattle.text_forms.proofs.line.parse_reference.Statement.{statement}
 use Rattle.text_forms.proofs.line.parse_reference.Tie as tie

@@ -2,7 +2,7 @@
 use native.Mathlib.Omega.{arith}
 use borrow.Author.Needs.{needs}
 use lib.ListN.{getD}
-use Rattle.text_forms.specs.Views.{numberNext}
+use Rattle.text_numbers.specs.Views.{numberNext}
 use Rattle.text_forms.proofs.Answers.{within}
 use Rattle.text_forms.proofs.Positions.{sign-within, position-past, position-not, position-is}
 use Rattle.text_forms.proofs.position.parse_position.Statement.{statement}

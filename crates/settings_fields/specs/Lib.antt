@@ -1,0 +1,2 @@
+-- What only contracts of reading settings want said.
+pub mod Places

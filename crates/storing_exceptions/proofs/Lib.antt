@@ -1,0 +1,2 @@
+-- Laws of rows, which the functions' proofs and the crate above cite.
+pub mod Rows

@@ -1,0 +1,2 @@
+-- The length of the stored form, over the definitions of `rules`.
+pub mod Length

@@ -1,0 +1,2 @@
+-- Fields of the stored form, over the definitions of `rules`.
+pub mod Fields

@@ -1,0 +1,2 @@
+-- Laws of numbers, which the functions' proofs cite.
+pub mod Numbers

@@ -1,0 +1,2 @@
+-- What only contracts of parsers want said.
+pub mod Views

@@ -1,0 +1,2 @@
+-- Laws of verbs, which the functions' proofs and the crate above cite.
+pub mod Verbs
