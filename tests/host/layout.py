@@ -1,6 +1,6 @@
 """Writes a C file that compiles only if include/garumbott.h says what the library is: each entry point's parameters and result, each result's
-fields, their places and sizes, and the numbers of ends, kinds, classes, answers and refusals. The library's side is read from its sources, crates/garumbott,
-and from the definitions that its contracts cite, crates/rules/specs. With a list of symbols (the archive's, by nm) it also holds the exported names to the sources'.
+fields, their places and sizes, and the numbers of ends, kinds, classes, answers and refusals. The library's side is read from its sources, crates/garumbott
+and crates/host_told, and from the definitions that its contracts cite, crates/rules/specs. With a list of symbols (the archive's, by nm) it also holds the exported names to the sources'.
 
     python3 tests/host/layout.py SYMBOLS > layout.c
 """
@@ -8,7 +8,7 @@ import os
 import re
 import sys
 
-SRC = "crates/garumbott/src"
+SRC = ["crates/garumbott/src", "crates/host_told/src"]
 SPECS = "crates/rules/specs"
 C_TYPE = {"u64": "uint64_t", "i64": "int64_t"}
 
@@ -27,7 +27,7 @@ def snake(name):
     return re.sub(r"(?<!^)([A-Z])", r"_\1", name).lower()
 
 
-source = "\n".join(text(f"{SRC}/{n}") for n in sorted(os.listdir(SRC)))
+source = "\n".join(text(f"{d}/{n}") for d in SRC for n in sorted(os.listdir(d)))
 header = text("include/garumbott.h")
 code = re.sub(r"/\*.*?\*/", "", header, flags=re.S)
 lines = ["#include \"garumbott.h\"", ""]
@@ -40,7 +40,7 @@ def same(what, left, right):
 # results: every field is eight bytes, in the order of the source
 structs = dict(re.findall(r"#\[repr\(C\)\]\npub struct (\w+) \{(.*?)\n\}", source, re.S))
 if not structs:
-    fail(f"no result in {SRC}")
+    fail(f"no result in {' or '.join(SRC)}")
 for name, body in sorted(structs.items()):
     fields = re.findall(r"pub (\w+): (\w+),", body)
     c = f"struct {snake(name)}"

@@ -1,7 +1,7 @@
 // The altered transcript read over its plan, without writing it.
 mod writing;
 
-use codons::reader::read_by_plain;
+use codon_reader::read_by_plain;
 use codons::tables::plain_code;
 use edits::plans::Plan;
 use edits::plans::Source;

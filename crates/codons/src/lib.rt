@@ -1,3 +1,2 @@
-// The residue of a codon of three letter sets: by the plain codons that its letters stand for, and in a table that is lent.
-pub mod reader;
+// The residue of a codon of three letter sets in a table that is lent, and the residues of plain codons.
 pub mod tables;

@@ -1,5 +1,5 @@
 // The stop cut: what goes in ends with its first stop codon. It is the letters start..end of a reference, or of the new bases.
-use codons::reader::read_codon;
+use codon_reader::read_codon;
 use packed::first_stop_by;
 use packed::set_at;
 use rules::Exception;

@@ -1,6 +1,4 @@
 -- Laws that this crate's proofs cite.
-pub mod Signed
-pub mod Given
 pub mod Excepted
 pub mod Within
 pub mod Compared

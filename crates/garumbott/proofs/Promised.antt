@@ -25,8 +25,9 @@ use Rattle.rules.specs.Values.{flagNumber, toldBy, valuesOf}
 use Rattle.rules.proofs.Demand.{Demand}
 use Rattle.rules.proofs.Panels.{profiled, panel-is}
 use Rattle.altseq.proofs.Promised as promised
-use Rattle.garumbott.specs.declared.numbers.GarumbottAnswer.{GarumbottAnswer}
-use Rattle.garumbott.specs.Host.{isSet, answerOf, Tells}
+use Rattle.host_told.specs.declared.GarumbottAnswer.{GarumbottAnswer}
+use Rattle.host_told.specs.Told.{answerOf}
+use Rattle.garumbott.specs.Host.{isSet, Tells}
 
 -- the change that the numbers tell of; demand 3 doesn't look at its class
 abbrev pub changeIn : GarumbottAnswer → Change

@@ -1,7 +1,7 @@
 // The settings of a bench.
-use crate::numbers::GarumbottLength;
-use crate::numbers::length_of;
-use crate::numbers::wide;
+use host_told::GarumbottLength;
+use host_told::length_of;
+use host_told::wide;
 use rules::Settings;
 use rules::Store;
 use settings::read_settings;
@@ -12,7 +12,7 @@ ghost use Rattle.rules.specs.Bytes.{over};
 ghost use Rattle.rules.specs.Settings.{storeValues, storedSettings, writtenSettings};
 ghost use Rattle.rules.specs.declared.Store.the-variants as store;
 ghost use Rattle.rules.specs.Answer.{writtenOf, bytesOf};
-ghost use Rattle.garumbott.specs.Host.{lengthOf};
+ghost use Rattle.host_told.specs.Told.{lengthOf};
 ghost use Rattle.garumbott.specs.Kept.{settingsNumbers, hostSettings};
 
 // Document 02's number and values for each case of a store that is read.

@@ -1,10 +1,10 @@
 // A proposed record held to an edit of a reference.
-use crate::numbers::GarumbottChecked;
-use crate::numbers::cds_at;
-use crate::numbers::checked_of;
-use crate::numbers::edit_at;
-use crate::numbers::form_at;
 use checks::Proposed;
+use host_given::cds_at;
+use host_given::edit_at;
+use host_given::form_at;
+use host_told::GarumbottChecked;
+use host_told::checked_of;
 use rules::Question;
 use stored_fields::exceptions_in;
 use within::Claim;

@@ -1,10 +1,10 @@
 // Two editions of a transcript, codon by codon.
-use crate::numbers::GarumbottLength;
-use crate::numbers::cds_at;
-use crate::numbers::form_at;
-use crate::numbers::length_of;
 use editions::Edition;
 use editions::compare;
+use host_given::cds_at;
+use host_given::form_at;
+use host_told::GarumbottLength;
+use host_told::length_of;
 use stored_fields::exceptions_in;
 ghost use mathlib.Core.Path.{_≡_};
 ghost use lib.ListN.{length};
@@ -12,7 +12,8 @@ ghost use Rattle.rules.specs.Bytes.{over};
 ghost use Rattle.rules.specs.Refusal.{limits};
 ghost use Rattle.rules.specs.Editions.{compared};
 ghost use Rattle.rules.specs.Answer.{writtenOf, bytesOf};
-ghost use Rattle.garumbott.specs.Host.{hostReference, lengthOf};
+ghost use Rattle.host_told.specs.Told.{lengthOf};
+ghost use Rattle.garumbott.specs.Host.{hostReference};
 
 #[no_mangle]
 pub extern "C" fn garumbott_compare(

@@ -3,7 +3,6 @@
 pub mod bench;
 pub mod checking;
 pub mod comparing;
-pub mod numbers;
 pub mod pairing;
 pub mod plain;
 pub mod profile;

@@ -1,9 +1,9 @@
 // Two edits of one reference.
-use crate::numbers::GarumbottPaired;
-use crate::numbers::cds_at;
-use crate::numbers::edit_at;
-use crate::numbers::form_at;
-use crate::numbers::paired_of;
+use host_given::cds_at;
+use host_given::edit_at;
+use host_given::form_at;
+use host_told::GarumbottPaired;
+use host_told::paired_of;
 use pairs::Question;
 use stored_fields::exceptions_in;
 use within::pair_within;

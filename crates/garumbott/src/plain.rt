@@ -1,7 +1,7 @@
 // "Letters and codons": translation, names, complement and trims of plain byte strings.
-use crate::numbers::GarumbottLength;
-use crate::numbers::length_of;
-use crate::numbers::wide;
+use host_told::GarumbottLength;
+use host_told::length_of;
+use host_told::wide;
 use stored_fields::exceptions_in;
 use translation::translate_cds;
 use translation::translate_cds_with_exceptions;
@@ -13,7 +13,8 @@ ghost use Rattle.rules.specs.Names.{threeLetters, oneLetters};
 ghost use Rattle.rules.specs.Complement.{complemented};
 ghost use Rattle.rules.specs.Trims.{commonPrefix, commonSuffix};
 ghost use Rattle.rules.specs.Answer.{writtenOf, bytesOf};
-ghost use Rattle.garumbott.specs.Host.{exceptionsAt, isSet, lengthOf};
+ghost use Rattle.host_told.specs.Told.{lengthOf};
+ghost use Rattle.garumbott.specs.Host.{exceptionsAt, isSet};
 
 #[no_mangle]
 pub extern "C" fn garumbott_translate(

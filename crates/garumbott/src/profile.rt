@@ -1,9 +1,9 @@
 // One edit of a reference under the panel profile.
-use crate::numbers::GarumbottAnswer;
-use crate::numbers::answer_of;
-use crate::numbers::cds_at;
-use crate::numbers::edit_at;
-use crate::numbers::form_at;
+use host_given::cds_at;
+use host_given::edit_at;
+use host_given::form_at;
+use host_told::GarumbottAnswer;
+use host_told::answer_of;
 use rules::Question;
 use stored_fields::exceptions_in;
 use within::panel_within;

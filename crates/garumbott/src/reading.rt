@@ -1,5 +1,5 @@
 // Stored references.
-use crate::numbers::flag_number;
+use host_told::flag_number;
 use stored::is_joined;
 use stored::read_stored;
 use stored_fields::Stored;

@@ -1,12 +1,12 @@
 // The text program over memory.
-use crate::numbers::GarumbottLength;
-use crate::numbers::length_of;
+use host_told::GarumbottLength;
+use host_told::length_of;
 ghost use mathlib.Core.Path.{_≡_};
 ghost use lib.ListN.{length};
 ghost use Rattle.rules.specs.Bytes.{over};
 ghost use Rattle.rules.specs.Answer.{writtenOf, bytesOf};
 ghost use Rattle.text_run.specs.Runs.{runWithin};
-ghost use Rattle.garumbott.specs.Host.{lengthOf};
+ghost use Rattle.host_told.specs.Told.{lengthOf};
 
 #[no_mangle]
 pub extern "C" fn garumbott_run(input: &[u8], out: &mut [u8]) -> GarumbottLength

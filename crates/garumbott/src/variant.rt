@@ -1,10 +1,10 @@
 // One edit of a reference: the altered transcript alone, and the whole answer.
-use crate::numbers::GarumbottAnswer;
-use crate::numbers::answer_of;
-use crate::numbers::cds_at;
-use crate::numbers::edit_at;
-use crate::numbers::form_at;
-use crate::numbers::transcribed_of;
+use host_given::cds_at;
+use host_given::edit_at;
+use host_given::form_at;
+use host_told::GarumbottAnswer;
+use host_told::answer_of;
+use host_told::transcribed_of;
 use rules::Question;
 use stored_fields::exceptions_in;
 use within::record_within;
@@ -15,7 +15,8 @@ ghost use Rattle.rules.specs.Bytes.{over};
 ghost use Rattle.rules.specs.Longest.{outcomeWithin};
 ghost use Rattle.rules.specs.Views.{roomOf};
 ghost use Rattle.within.specs.Edited.{editedWithin};
-ghost use Rattle.garumbott.specs.Host.{hostReference, hostAsked, transcribedOf, Tells};
+ghost use Rattle.host_told.specs.Told.{transcribedOf};
+ghost use Rattle.garumbott.specs.Host.{hostReference, hostAsked, Tells};
 
 #[no_mangle]
 pub extern "C" fn garumbott_edit(

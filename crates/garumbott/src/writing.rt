@@ -1,8 +1,8 @@
 // A reference written in the stored form.
-use crate::numbers::GarumbottLength;
-use crate::numbers::cds_at;
-use crate::numbers::form_at;
-use crate::numbers::length_of;
+use host_given::cds_at;
+use host_given::form_at;
+use host_told::GarumbottLength;
+use host_told::length_of;
 use stored_fields::exceptions_in;
 use storing::write_stored;
 ghost use mathlib.Core.Path.{_≡_};
@@ -11,7 +11,8 @@ ghost use Rattle.rules.specs.Bytes.{over};
 ghost use Rattle.rules.specs.Refusal.{limits};
 ghost use Rattle.rules.specs.Storing.{writtenReference};
 ghost use Rattle.rules.specs.Answer.{writtenOf, bytesOf};
-ghost use Rattle.garumbott.specs.Host.{hostReference, lengthOf};
+ghost use Rattle.host_told.specs.Told.{lengthOf};
+ghost use Rattle.garumbott.specs.Host.{hostReference};
 
 #[no_mangle]
 pub extern "C" fn garumbott_write_stored(

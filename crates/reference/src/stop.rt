@@ -1,7 +1,7 @@
 // Refusal 6, by the last CDS codon alone, or 28, by a search for a stop, and so all of a reference's refusals without a buffer for R.
 use crate::Judged;
 use crate::early::early_refusal;
-use codons::reader::read_codon;
+use codon_reader::read_codon;
 use excepted::excepted_at;
 use packed::first_stop_by;
 use packed::set_at;

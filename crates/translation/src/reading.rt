@@ -1,5 +1,5 @@
 // Codons read by the tables, without exceptions.
-use codons::reader::read_by_plain;
+use codon_reader::read_by_plain;
 use codons::tables::plain_code;
 use letters::is_base_letter;
 use letters::set_of_letter;

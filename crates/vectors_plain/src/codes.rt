@@ -2,7 +2,7 @@
 use crate::plain::count_of;
 use crate::plain::print_answer;
 use crate::plain::print_number;
-use codons::reader::read_codon;
+use codon_reader::read_codon;
 use codons::tables::residue_in;
 use tables::residues_of;
 use translation::translate_cds;

@@ -1,7 +1,7 @@
 -- `garumbott::bench::garumbott_write_settings` meets its contract. Assumes nothing.
 use borrow.Author.Needs.{needs}
 use mathlib.Core.Path.{ap, _∙_}
-use Rattle.garumbott.specs.Host.{lengthOf}
+use Rattle.host_told.specs.Told.{lengthOf}
 use Rattle.garumbott.proofs.bench.garumbott_write_settings.Statement.{statement}
 use Rattle.garumbott.proofs.bench.garumbott_write_settings.Tie as tie
 

@@ -5,8 +5,9 @@ use Rattle.rules.specs.declared.Cds.{Cds}
 use Rattle.rules.specs.Packed.{lettersBy, formAt}
 use Rattle.rules.specs.Views.{cdsOf, roomOf}
 use Rattle.proposals.specs.Proposed.{proposed}
-use Rattle.garumbott.specs.Host.{hostAsked, checkedOf}
-use Rattle.garumbott.proofs.Given.{given-edit}
+use Rattle.host_told.specs.Told.{checkedOf}
+use Rattle.garumbott.specs.Host.{hostAsked}
+use Rattle.host_given.proofs.Given.{given-edit}
 use Rattle.garumbott.proofs.Within.{check-host}
 use Rattle.garumbott.proofs.checking.garumbott_check.Statement.{statement}
 use Rattle.garumbott.proofs.checking.garumbott_check.Tie as tie

@@ -7,7 +7,7 @@ use lib.ListN.{length}
 use Rattle.rules.specs.Bytes.{Result, over}
 use Rattle.rules.specs.Refusal.{limits}
 use Rattle.rules.specs.Answer.{writtenOf, bytesOf}
-use Rattle.garumbott.specs.Host.{lengthOf}
+use Rattle.host_told.specs.Told.{lengthOf}
 use Rattle.garumbott.proofs.Compared.{both-given}
 use Rattle.garumbott.proofs.comparing.garumbott_compare.Statement.{statement}
 use Rattle.garumbott.proofs.comparing.garumbott_compare.Tie as tie

@@ -5,8 +5,9 @@ use Rattle.rules.specs.declared.Cds.{Cds}
 use Rattle.rules.specs.Packed.{lettersBy, formAt}
 use Rattle.rules.specs.Views.{cdsOf}
 use Rattle.pairs.specs.Carrying.{pairRoomOf}
-use Rattle.garumbott.specs.Host.{hostAsked, pairedOf}
-use Rattle.garumbott.proofs.Given.{given-edit}
+use Rattle.host_told.specs.Told.{pairedOf}
+use Rattle.garumbott.specs.Host.{hostAsked}
+use Rattle.host_given.proofs.Given.{given-edit}
 use Rattle.garumbott.proofs.Within.{pair-host}
 use Rattle.garumbott.proofs.pairing.garumbott_pair.Statement.{statement}
 use Rattle.garumbott.proofs.pairing.garumbott_pair.Tie as tie

@@ -1,7 +1,7 @@
 -- `garumbott::plain::garumbott_complement` meets its contract. Assumes nothing.
 use borrow.Author.Needs.{needs}
 use mathlib.Core.Path.{ap, _∙_}
-use Rattle.garumbott.specs.Host.{lengthOf}
+use Rattle.host_told.specs.Told.{lengthOf}
 use Rattle.garumbott.proofs.plain.garumbott_complement.Statement.{statement}
 use Rattle.garumbott.proofs.plain.garumbott_complement.Tie as tie
 

@@ -1,7 +1,7 @@
 -- `garumbott::plain::garumbott_names1` meets its contract. Assumes nothing.
 use borrow.Author.Needs.{needs}
 use mathlib.Core.Path.{ap, _∙_}
-use Rattle.garumbott.specs.Host.{lengthOf}
+use Rattle.host_told.specs.Told.{lengthOf}
 use Rattle.garumbott.proofs.plain.garumbott_names1.Statement.{statement}
 use Rattle.garumbott.proofs.plain.garumbott_names1.Tie as tie
 

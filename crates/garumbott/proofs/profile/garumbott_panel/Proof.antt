@@ -4,8 +4,9 @@ use mathlib.Core.Path.{ap, _∙_}
 use Rattle.rules.specs.declared.Cds.{Cds}
 use Rattle.rules.specs.Packed.{lettersBy, formAt}
 use Rattle.rules.specs.Views.{cdsOf, roomOf}
-use Rattle.garumbott.specs.Host.{hostAsked, answerOf}
-use Rattle.garumbott.proofs.Given.{given-edit}
+use Rattle.host_told.specs.Told.{answerOf}
+use Rattle.garumbott.specs.Host.{hostAsked}
+use Rattle.host_given.proofs.Given.{given-edit}
 use Rattle.garumbott.proofs.Within.{panel-host}
 use Rattle.garumbott.proofs.profile.garumbott_panel.Statement.{statement}
 use Rattle.garumbott.proofs.profile.garumbott_panel.Tie as tie

@@ -1,7 +1,7 @@
 -- `garumbott::text::garumbott_run` meets its contract. Assumes nothing.
 use borrow.Author.Needs.{needs}
 use mathlib.Core.Path.{ap, _∙_}
-use Rattle.garumbott.specs.Host.{lengthOf}
+use Rattle.host_told.specs.Told.{lengthOf}
 use Rattle.garumbott.proofs.text.garumbott_run.Statement.{statement}
 use Rattle.garumbott.proofs.text.garumbott_run.Tie as tie
 

@@ -5,8 +5,9 @@ use lib.ListN.{length}
 use Rattle.rules.specs.declared.Cds.{Cds}
 use Rattle.rules.specs.Packed.{lettersBy, formAt}
 use Rattle.rules.specs.Views.{cdsOf}
-use Rattle.garumbott.specs.Host.{hostAsked, transcribedOf}
-use Rattle.garumbott.proofs.Given.{given-edit}
+use Rattle.host_told.specs.Told.{transcribedOf}
+use Rattle.garumbott.specs.Host.{hostAsked}
+use Rattle.host_given.proofs.Given.{given-edit}
 use Rattle.garumbott.proofs.Within.{edited-host}
 use Rattle.garumbott.proofs.variant.garumbott_edit.Statement.{statement}
 use Rattle.garumbott.proofs.variant.garumbott_edit.Tie as tie

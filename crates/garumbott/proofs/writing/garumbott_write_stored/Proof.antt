@@ -5,7 +5,7 @@ use Rattle.rules.specs.declared.Cds.{Cds}
 use Rattle.rules.specs.Refusal.{limits}
 use Rattle.rules.specs.Packed.{lettersBy, formAt}
 use Rattle.rules.specs.Views.{cdsOf}
-use Rattle.garumbott.specs.Host.{lengthOf}
+use Rattle.host_told.specs.Told.{lengthOf}
 use Rattle.garumbott.proofs.Excepted.{written-given}
 use borrow.Author.Needs.{needs}
 use Rattle.garumbott.proofs.writing.garumbott_write_stored.Statement.{statement}

@@ -1,7 +1,0 @@
--- `codons::reader::is_base_set` meets its contract. Assumes nothing.
-use mathlib.Core.Path.{refl}
-use Rattle.codons.proofs.reader.is_base_set.Statement.{statement}
-use Rattle.codons.proofs.reader.is_base_set.Tie as tie
-
-pub is-base-set-spec : {M : Type 1} → statement M
-is-base-set-spec = tie.close (tie.spec (λ c. refl))

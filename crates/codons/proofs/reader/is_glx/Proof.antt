@@ -1,7 +1,0 @@
--- `codons::reader::is_glx` meets its contract. Assumes nothing.
-use mathlib.Core.Path.{refl}
-use Rattle.codons.proofs.reader.is_glx.Statement.{statement}
-use Rattle.codons.proofs.reader.is_glx.Tie as tie
-
-pub is-glx-spec : {M : Type 1} → statement M
-is-glx-spec = tie.close (tie.spec (λ c. refl))

@@ -1,0 +1,2 @@
+-- Laws of mixes, which the functions' proofs cite.
+pub mod Mixes

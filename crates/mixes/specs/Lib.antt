@@ -1,0 +1,2 @@
+-- What residues make together, over the definitions of `rules`.
+pub mod Mixes

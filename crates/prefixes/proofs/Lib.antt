@@ -1,0 +1,2 @@
+-- Laws of equal first bytes, which the functions' proofs cite.
+pub mod Prefixes

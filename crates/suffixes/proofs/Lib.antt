@@ -1,0 +1,2 @@
+-- Laws of equal last bytes, which the functions' proofs cite.
+pub mod Suffixes
