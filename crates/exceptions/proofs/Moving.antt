@@ -58,7 +58,7 @@ module _ (prefix suffix first size made : ℕ) (old new : List ℕ) (e : Excepti
 
 -- a codon's number fits
 pub number-fits : (first codon size made : ℕ) → 1 ≤ codon → first + 3 * codon ≤ size → size < 4294967296 → made < 4294967296
-    → (first + 3 * (codon - 1) + made - size - first) / 3 + 1 < 18446744073709551616
+    → (first + 3 * (codon - 1) + made - size - first) / 3 + 1 < 4294967296
 number-fits first codon size made g h k l = omega arith
 
 -- what the two trims find

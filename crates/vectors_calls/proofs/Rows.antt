@@ -138,13 +138,14 @@ lent-first m n f part h k e =
 
 -- an exception by its parts
 module _ (line : List ℕ) where
-  pub by-rule-is : (count i last codon residue : ℕ) → codon ≡ (if eqb (i + 1) count then last else (i + 1)) → last ≡ numberAt 13 line → residue ≡ getD (fieldAt 12 line) 0 0 → _≡_ {A = Exception} (record { codon = codon; residue = residue }) (byRule line count i)
+  pub by-rule-is : (count i last n codon residue : ℕ) → n ≡ (if eqb (i + 1) count then last else (i + 1)) → last ≡ numberAt 13 line → codon ≡ min n 4294967295
+      → residue ≡ getD (fieldAt 12 line) 0 0 → _≡_ {A = Exception} (record { codon = codon; residue = residue }) (byRule line count i)
   unfolding byRule
-  by-rule-is count i last codon residue e k l = rw (e, k, l)
+  by-rule-is count i last n codon residue e k m l = rw (m, e, k, l)
 
-  pub listed-is : (first i codon residue : ℕ) → codon ≡ numberAt (first + 2 * i) line → residue ≡ getD (fieldAt (first + 2 * i + 1) line) 0 0 → _≡_ {A = Exception} (record { codon = codon; residue = residue }) (listed line first i)
+  pub listed-is : (first i n codon residue : ℕ) → n ≡ numberAt (first + 2 * i) line → codon ≡ min n 4294967295 → residue ≡ getD (fieldAt (first + 2 * i + 1) line) 0 0 → _≡_ {A = Exception} (record { codon = codon; residue = residue }) (listed line first i)
   unfolding listed
-  listed-is first i codon residue e k = rw (e, k)
+  listed-is first i n codon residue e m k = rw (m, e, k)
 
 drop-row : (m n : ℕ) (x : Exception) → drop n (replicate m x) ≡ replicate (m - n) x
 drop-row m zero x = let whole : m - 0 ≡ m = omega arith in rw whole

@@ -17,14 +17,15 @@ cdsIn line = record { cs = numberAt 1 line; ce = numberAt 2 line; table = number
 unfoldable pub editIn : List ℕ → Edit
 editIn line = record { kind = kindIn (fieldAt 4 line); start = positionIn (fieldAt 5 line); end = positionIn (fieldAt 6 line) }
 
--- by rule: for codons 1, 2, 3 and so on, but the last of so many for a codon of its own, all with one residue
+-- by rule: for codons 1, 2, 3 and so on, but the last of so many for a codon of its own, all with one residue; a number above four bytes is
+-- their largest
 unfoldable pub byRule : List ℕ → ℕ → ℕ → Exception
 byRule line count i =
-    record { codon = if eqb (i + 1) count then numberAt 13 line else (i + 1); residue = getD (fieldAt 12 line) 0 0 }
+    record { codon = min (if eqb (i + 1) count then numberAt 13 line else (i + 1)) 4294967295; residue = getD (fieldAt 12 line) 0 0 }
 
 -- listed: a codon and a residue, each a field, from the field `first` on
 unfoldable pub listed : List ℕ → ℕ → ℕ → Exception
-listed line first i = record { codon = numberAt (first + 2 * i) line; residue = getD (fieldAt (first + 2 * i + 1) line) 0 0 }
+listed line first i = record { codon = min (numberAt (first + 2 * i) line) 4294967295; residue = getD (fieldAt (first + 2 * i + 1) line) 0 0 }
 
 -- the field where they are listed: those whose residue is `-`; the others go by rule
 unfoldable pub listedFrom : List ℕ → ℕ

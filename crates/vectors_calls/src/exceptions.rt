@@ -7,7 +7,7 @@ use numbers::least;
 use rules::Exception;
 use rules::Exceptions;
 ghost use mathlib.Core.Path.{_≡_};
-ghost use Prim.Native.Nat.{_+_, _<_, _≤_};
+ghost use Prim.Native.Nat.{_+_, _<_, _≤_, min};
 ghost use lib.Dec.{eqb};
 ghost use Rattle.rules.specs.Bytes.{if_then_else_};
 ghost use Rattle.vectors_calls.specs.Given.{byRule, listed, exceptionAt, exceptionsOf};
@@ -20,12 +20,19 @@ fn codon_of(count: usize, i: usize, last: usize) -> usize
     if i + 1 == count { last } else { i + 1 }
 }
 
+// A codon's number in four bytes. Above them it is their largest.
+fn codon_in(n: usize) -> u32
+    ensures { λ r. ⌜ r ≡ min n 4294967295 ⌝ }
+{
+    least(n, 4294967295) as u32
+}
+
 // By rule: with one residue.
 fn by_rule(line: &[u8], count: usize, i: usize) -> Exception
     requires { ⌜ i < 16 ⌝ }
     ensures { λ r. ⌜ r ≡ byRule (now (line .entry)) count i ⌝ }
 {
-    let codon = codon_of(count, i, number(line, fields::LAST));
+    let codon = codon_in(codon_of(count, i, number(line, fields::LAST)));
     let residue = byte_at(field(line, fields::RESIDUE), 0);
     Exception { codon, residue }
 }
@@ -36,7 +43,7 @@ fn listed_at(line: &[u8], first: usize, i: usize) -> Exception
     ensures { λ r. ⌜ r ≡ listed (now (line .entry)) first i ⌝ }
 {
     let at = first + 2 * i;
-    let codon = number(line, at);
+    let codon = codon_in(number(line, at));
     let residue = byte_at(field(line, at + 1), 0);
     Exception { codon, residue }
 }

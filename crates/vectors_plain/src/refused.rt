@@ -36,7 +36,7 @@ fn try_translation(name: &[u8], seq: &[u8], table: usize, e: Exceptions, full: b
 }
 
 // Sixteen exceptions for a codon, of which so many are given.
-fn exceptions(codon: usize, residue: u8, count: usize) -> Exceptions
+fn exceptions(codon: u32, residue: u8, count: usize) -> Exceptions
     ensures { λ r. ⌜ (r .all ≡ replicate 16 (record { codon = codon; residue = residue })) × (r .count ≡ count) ⌝ }
 {
     Exceptions {

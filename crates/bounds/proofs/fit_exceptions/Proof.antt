@@ -38,9 +38,9 @@ returns-2 c =
 
 loop-again : tie.Need-loop-again Inv-loop μ-loop
 loop-again c =
-    let a = c .before .before .before .before .before .before .before .args in
-    let v = c .before .before .before .before .loop in
-    let on = rising-on (v .last) (a .most) (a .e .count) (a .e .all) (v .i) (omega arith) (omega (arith, v .inv .2)) (c .before .is-exception .result) (c .before .is-exception .ensures) (c .if2 .left) in
+    let a = c .before .before .before .before .before .before .before .before .args in
+    let v = c .before .before .before .before .before .loop in
+    let on = rising-on (v .last) (a .most) (a .e .count) (a .e .all) (v .i) (omega arith) (omega (arith, v .inv .2)) (c .before .before .is-exception .result) (c .before .before .is-exception .ensures) (c .before .if2 .left) in
     (omega arith, v .inv .1, v .inv .2, on ∙ v .inv .3)
 
 returns-3 : tie.Need-returns-3 Inv-loop μ-loop
@@ -62,6 +62,7 @@ fit-exceptions-spec =
     (λ c. search needs)
     (λ c κs. search needs)
     returns-2
+    (λ c. search needs)
     (λ c. search needs)
     (λ c. search needs)
     loop-again

@@ -7,4 +7,4 @@ returns : tie.Need-returns
 returns c = rw (c .is-residue .ensures)
 
 pub is-exception-spec : {M : Type 1} → statement M
-is-exception-spec = tie.close (tie.spec (λ c κs. search needs) returns)
+is-exception-spec = tie.close (tie.spec (λ c. search needs) (λ c κs. search needs) returns)

@@ -21,10 +21,10 @@ same-length c = search needs
 returns : tie.Need-returns
 unfolding inTwo exceptionBytes
 returns c =
-    let s = c .before .before .before .before .before in
+    let s = c .before .before .before .before .before .before in
     let w = c .before .before .write-two in
     (omega arith, stored-behind (inTwo (s .args .e .codon)) (s .args .out .now) (w .last .1 .0) (w .result) (s .args .e .residue) (w .ensures .0) (omega arith) (w .ensures .1))
 
 pub write-exception-spec : {M : Type 1} → statement M
 write-exception-spec =
-    tie.close (tie.spec write-two-requires slice-write-out add-result same-length returns)
+    tie.close (tie.spec (λ c. search needs) write-two-requires slice-write-out add-result same-length returns)
