@@ -1,11 +1,10 @@
 // The reader of stored fields. The work is in `field_at`, which takes a plain slice and a place.
-use numbers::wide;
+use byte_numbers::two_bytes;
 use rules::Part;
 ghost use mathlib.Core.Path.{_≡_};
 ghost use Prim.Native.Nat.{_+_, _≤_};
-ghost use lib.ListN.{length, getD};
+ghost use lib.ListN.{length};
 ghost use Rattle.rules.specs.Record.{partOf};
-ghost use Rattle.rules.specs.Stored.{twoBytes, fourBytes};
 ghost use Rattle.fields.specs.Places.{fieldAt};
 
 // The bytes at a place.
@@ -25,28 +24,6 @@ pub enum Field {
     Cut { tag: u8 },
     // No byte is left.
     End,
-}
-
-// The number of two bytes, high byte first.
-pub fn two_bytes(s: &[u8], at: usize) -> usize
-    requires { ⌜ at + 2 ≤ length (now s) ⌝ }
-    ensures { λ r. ⌜ r ≡ twoBytes (getD (now (s .entry)) at 0) (getD (now (s .entry)) (at + 1) 0) ⌝ }
-{
-    let high = wide(s[at]);
-    let low = wide(s[at + 1]);
-    256 * high + low
-}
-
-// The number of four bytes, high byte first.
-pub fn four_bytes(s: &[u8], at: usize) -> usize
-    requires { ⌜ at + 4 ≤ length (now s) ⌝ }
-    ensures { λ r. ⌜ r ≡ fourBytes (getD (now (s .entry)) at 0) (getD (now (s .entry)) (at + 1) 0) (getD (now (s .entry)) (at + 2) 0) (getD (now (s .entry)) (at + 3) 0) ⌝ }
-{
-    let a = wide(s[at]);
-    let b = wide(s[at + 1]);
-    let c = wide(s[at + 2]);
-    let d = wide(s[at + 3]);
-    65536 * (256 * a + b) + (256 * c + d)
 }
 
 // The field at a place of the bytes.

@@ -1,34 +1,12 @@
 // The writer of fields, the reader's counterpart. Each function writes from the start of the rest of a buffer, which its caller lends on, and
 // answers how many bytes it wrote; the bytes behind them stay.
+use byte_numbers::write_two;
 ghost use mathlib.Core.Path.{_≡_};
 ghost use mathlib.Core.List.{_∷_};
 ghost use Prim.Native.Nat.{_+_, _≤_, _<_};
 ghost use lib.ListN.{length};
 ghost use Rattle.rules.specs.Bytes.{over};
-ghost use Rattle.rules.specs.Storing.{inTwo, inFour, fieldBytes};
-
-// A number in two bytes, high byte first.
-pub fn write_two(n: usize, out: &mut [u8]) -> usize
-    requires { ⌜ n < 65536 ⌝ }
-    requires { ⌜ 2 ≤ length (now out) ⌝ }
-    ensures { λ r. ⌜ r ≡ 2 ⌝ }
-    ensures { λ _. ⌜ now (out .exit) ≡ over (inTwo n) (now (out .entry)) ⌝ }
-{
-    out[0] = (n / 256) as u8;
-    out[1] = (n % 256) as u8;
-    2
-}
-
-// A number in four bytes, high byte first.
-pub fn write_four(n: usize, out: &mut [u8]) -> usize
-    requires { ⌜ n < 4294967296 ⌝ }
-    requires { ⌜ 4 ≤ length (now out) ⌝ }
-    ensures { λ r. ⌜ r ≡ 4 ⌝ }
-    ensures { λ _. ⌜ now (out .exit) ≡ over (inFour n) (now (out .entry)) ⌝ }
-{
-    let high = write_two(n / 65536, out);
-    high + write_two(n % 65536, &mut out[high..])
-}
+ghost use Rattle.rules.specs.Storing.{inTwo, fieldBytes};
 
 // What stands before a content: the tag, and the content's length.
 pub fn write_head(tag: u8, len: usize, out: &mut [u8]) -> usize

@@ -1,7 +1,7 @@
 // The writer of settings.
+use byte_numbers::write_two;
 use fields::write_field;
 use fields::write_head;
-use fields::write_two;
 use rules::Settings;
 use rules::Written;
 use settings_values::LONGEST_EDIT;

@@ -1,7 +1,7 @@
 // The fields of stored settings by their places: whether they are those of a version, and what they hold.
+use byte_numbers::two_bytes;
 use fields::Field;
 use fields::next_field;
-use fields::two_bytes;
 use numbers::wide;
 use rules::MOST;
 use rules::Settings;

@@ -1,5 +1,5 @@
 // The exceptions that bytes store, three bytes each, as the value that calls take.
-use fields::two_bytes;
+use byte_numbers::two_bytes;
 use rules::Exception;
 use rules::Exceptions;
 ghost use mathlib.Core.Path.{_≡_};

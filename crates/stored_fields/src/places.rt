@@ -1,11 +1,11 @@
 // Where a reference stands in the bytes that store it. Whether it is one that a call takes, 1 to 5, 6 or 28, isn't judged here.
 use crate::order::fields_refusal;
+use byte_numbers::four_bytes;
+use byte_numbers::two_bytes;
 use fields::Content;
 use fields::bytes_at;
 use fields::content_of;
-use fields::four_bytes;
 use fields::part_or_empty;
-use fields::two_bytes;
 use numbers::wide;
 use rules::Cds;
 use rules::Part;

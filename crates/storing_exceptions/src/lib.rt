@@ -1,6 +1,6 @@
 // The exceptions of a reference, three bytes each, and the field that holds them.
+use byte_numbers::write_two;
 use fields::write_field;
-use fields::write_two;
 use rules::Exception;
 use rules::Exceptions;
 ghost use mathlib.Core.Path.{_≡_};

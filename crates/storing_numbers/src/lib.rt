@@ -1,7 +1,7 @@
 // The fields of a reference's numbers: its bounds in two bytes or in four, and a number in one byte.
+use byte_numbers::write_four;
+use byte_numbers::write_two;
 use fields::write_field;
-use fields::write_four;
-use fields::write_two;
 use rules::Cds;
 ghost use mathlib.Core.Path.{_≡_};
 ghost use mathlib.Core.List.{[], _∷_, _++_};

@@ -1,6 +1,6 @@
 // What an edit of a stored reference is answered, as text.
 use crate::answers::print_number;
-use fields::two_bytes;
+use byte_numbers::two_bytes;
 use rules::Answer;
 use rules::Change;
 use rules::Edit;

@@ -8,8 +8,8 @@ mod answers;
 mod edits;
 
 use answers::print_stored;
+use byte_numbers::two_bytes;
 use edits::print_edit;
-use fields::two_bytes;
 ghost use Prim.Native.Nat.{_≤_};
 ghost use lib.ListN.{length};
 

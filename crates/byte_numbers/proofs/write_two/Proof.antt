@@ -1,10 +1,10 @@
--- `fields::writer::write_two` meets its contract. Assumes nothing.
+-- `byte_numbers::write_two` meets its contract. Assumes nothing.
 use Prim.Native.Nat.{_/_, _%_}
 use Rattle.rules.specs.Storing.{inTwo}
 use Rattle.rules.proofs.Over.{stored-two}
 use borrow.Author.Needs.{needs}
-use Rattle.fields.proofs.writer.write_two.Statement.{statement}
-use Rattle.fields.proofs.writer.write_two.Tie as tie
+use Rattle.byte_numbers.proofs.write_two.Statement.{statement}
+use Rattle.byte_numbers.proofs.write_two.Tie as tie
 
 cast-out : tie.Need-cast-out
 cast-out c = search needs

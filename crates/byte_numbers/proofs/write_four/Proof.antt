@@ -1,12 +1,12 @@
--- `fields::writer::write_four` meets its contract: the rest of the buffer is lent on for the low half.
+-- `byte_numbers::write_four` meets its contract: the rest of the buffer is lent on for the low half.
 -- Assumes nothing.
 use Prim.Native.Nat.{_/_, _%_}
 use native.Mathlib.Omega.{arith}
 use Rattle.rules.specs.Storing.{inTwo, inFour}
 use Rattle.rules.proofs.Over.{lent-on-by}
 use borrow.Author.Needs.{needs}
-use Rattle.fields.proofs.writer.write_four.Statement.{statement}
-use Rattle.fields.proofs.writer.write_four.Tie as tie
+use Rattle.byte_numbers.proofs.write_four.Statement.{statement}
+use Rattle.byte_numbers.proofs.write_four.Tie as tie
 
 write-two-requires : tie.Need-write-two-requires
 write-two-requires c κs = search needs

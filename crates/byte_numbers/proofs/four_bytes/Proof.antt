@@ -1,8 +1,8 @@
--- `fields::reader::four_bytes` meets its contract. Assumes nothing.
+-- `byte_numbers::four_bytes` meets its contract. Assumes nothing.
 use borrow.Author.Needs.{needs}
 use Rattle.rules.specs.Stored.{twoBytes, fourBytes}
-use Rattle.fields.proofs.reader.four_bytes.Statement.{statement}
-use Rattle.fields.proofs.reader.four_bytes.Tie as tie
+use Rattle.byte_numbers.proofs.four_bytes.Statement.{statement}
+use Rattle.byte_numbers.proofs.four_bytes.Tie as tie
 
 returns : tie.Need-returns
 unfolding twoBytes fourBytes

@@ -1,8 +1,8 @@
--- `fields::reader::two_bytes` meets its contract. Assumes nothing.
+-- `byte_numbers::two_bytes` meets its contract. Assumes nothing.
 use borrow.Author.Needs.{needs}
 use Rattle.rules.specs.Stored.{twoBytes}
-use Rattle.fields.proofs.reader.two_bytes.Statement.{statement}
-use Rattle.fields.proofs.reader.two_bytes.Tie as tie
+use Rattle.byte_numbers.proofs.two_bytes.Statement.{statement}
+use Rattle.byte_numbers.proofs.two_bytes.Tie as tie
 
 returns : tie.Need-returns
 unfolding twoBytes
