@@ -12,9 +12,10 @@ fn exception_at(s: &[u8], i: usize) -> Exception
     requires { ⌜ i * 3 + 3 ≤ length (now s) ⌝ }
     ensures { λ r. ⌜ r ≡ exceptionAt (now (s .entry)) i ⌝ }
 {
+    let residue = s[i * 3 + 2];
     Exception {
         codon: two_bytes(s, i * 3) as u32,
-        residue: s[i * 3 + 2],
+        residue,
     }
 }
 

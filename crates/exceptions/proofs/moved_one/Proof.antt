@@ -13,22 +13,22 @@ number s = number-fits (s .args .first) (s .args .x .codon) (s .args .size) (s .
 
 returns : tie.Need-returns
 returns c old new shared =
-    let a = c .before .before .before .args in
+    let a = c .before .before .args in
     one-stays (a .prefix) (a .suffix) (a .first) (a .size) (a .made) old new (a .x) shared (c .if1 .taken)
 
 returns-2 : tie.Need-returns-2
 returns-2 c old new shared =
-    let a = c .before .before .before .before .args in
+    let a = c .before .before .before .args in
     one-cut (a .prefix) (a .suffix) (a .first) (a .size) (a .made) old new (a .x) shared (c .before .if1 .left) (c .if2 .taken)
 
 returns-3 : tie.Need-returns-3
 returns-3 c old new shared =
-    let a = c .before .before .before .before .before .args in
+    let a = c .before .before .before .before .args in
     one-shifted (a .prefix) (a .suffix) (a .first) (a .size) (a .made) old new (a .x) shared (c .before .before .if1 .left) (c .before .if2 .left) (c .if3 .taken)
 
 returns-4 : tie.Need-returns-4
 returns-4 c old new shared =
-    let a = c .before .before .before .before .before .args in
+    let a = c .before .before .before .before .args in
     one-moves (a .prefix) (a .suffix) (a .first) (a .size) (a .made) old new (a .x) shared (c .before .before .if1 .left) (c .before .if2 .left) (c .if3 .left)
 
 pub moved-one-spec : {M : Type 1} → statement M
@@ -47,6 +47,6 @@ moved-one-spec =
     (λ c. search needs)
     returns-3
     (λ c. search needs)
-    (λ c. record { fits = omega (arith, number (c .before .before .before .before .before)) })
-    (λ c. omega (arith, number (c .before .before .before .before .before)))
+    (λ c. record { fits = omega (arith, number (c .before .before .before .before)) })
+    (λ c. omega (arith, number (c .before .before .before .before)))
     returns-4)
