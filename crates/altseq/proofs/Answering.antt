@@ -21,7 +21,7 @@ use Rattle.rules.specs.Protein.{alteredProtein}
 use Rattle.rules.specs.Record.{isUnknown, silentNumber}
 use Rattle.rules.specs.Refusal.{limits, referenceRefusal, refusal, Room, roomTests, roomRefusal}
 use Rattle.rules.specs.Answer.{Outcome, writesNothing, unknownReport, fullReport, writesAll, outcome, Answers}
-use Rattle.rules.specs.Views.{bare, asked, referenceOf, roomOf}
+use Rattle.rules.specs.Views.{bare, asked, referenceOf}
 use Rattle.rules.proofs.Refusal.{refused-reference, refused-edit}
 use Rattle.rules.proofs.Altered.{altered-length}
 use Rattle.rules.proofs.Answers.{refused-by, unknown-by, room-by, all-by}
@@ -39,7 +39,7 @@ use Rattle.transcript.proofs.Transcripts.{carried-by-is}
 use Rattle.altseq.specs.Carried.{proteinBy, reportBy, Carries}
 use Rattle.altseq.proofs.Reusing.{protein-of, looked-is}
 use Rattle.transcript.specs.Carrying.{carriedBy}
-use Rattle.altseq.specs.Decided.{roomBy, goesBy, withRoom, decidedIn, decidedOutcome, referenceIn}
+use Rattle.altseq.specs.Decided.{roomBy, goesBy, withRoom, decidedIn, decidedOutcome, referenceIn, AnswersBeside}
 
 pub writes-nothing : (o : Outcome) (x : Answer) (t p q : List ℕ) → o ≡ writesNothing x → Answers o x t t p p q q
 unfolding writesNothing over
@@ -47,12 +47,28 @@ writes-nothing o x t p q h =
     subst (λ (o : Outcome). Answers o x t t p p q q) (sym h)
     (record { says = refl; holds-transcript = refl; holds-reference = refl; holds-altered = refl })
 
+-- a refusal reports no R
+refuses : (o : Outcome) (n : ℕ) (protein : List ℕ) (room : ℕ) (t q : List ℕ) → o ≡ writesNothing (answer.Refused n) → AnswersBeside o (answer.Refused n) protein room t t q q
+unfolding writesNothing over referenceIn
+refuses o n protein room t q h =
+    subst (λ (o : Outcome). AnswersBeside o (answer.Refused n) protein room t t q q) (sym h)
+    (record {
+      says = refl;
+      holds-transcript = refl;
+      keeps-reference = refl;
+      holds-altered = refl;
+      copies = record {
+        there = λ p w. let z : _≡_ {A = ℕ} 0 1 = cc in absurd (omega arith);
+        has-room = λ p w. let z : _≡_ {A = ℕ} 0 1 = cc in absurd (omega arith);
+      };
+    })
+
 -- a refused reference
-pub reference-refused : (m : Limits) (r : Reference) (a : Asked) (t p q : List ℕ) (n : ℕ) → referenceRefusal (m .longest) r ≡ n → (n ≡ 0 → ⊥)
-    → Answers (outcome m r a (roomOf t p q)) (answer.Refused n) t t p p q q
-reference-refused m r a t p q zero h some = absurd (some refl)
-reference-refused m r a t p q (suc n) h some =
-    writes-nothing (outcome m r a (roomOf t p q)) (answer.Refused (suc n)) t p q (refused-by m r a (roomOf t p q) n (refused-reference m r a n h))
+pub reference-refused : (m : Limits) (r : Reference) (a : Asked) (lent : Room) (protein : List ℕ) (room : ℕ) (t q : List ℕ) (n : ℕ) → referenceRefusal (m .longest) r ≡ n → (n ≡ 0 → ⊥)
+    → AnswersBeside (outcome m r a lent) (answer.Refused n) protein room t t q q
+reference-refused m r a lent protein room t q zero h some = absurd (some refl)
+reference-refused m r a lent protein room t q (suc n) h some =
+    refuses (outcome m r a lent) (suc n) protein room t q (refused-by m r a lent n (refused-reference m r a n h))
 
 -- the tests look at no exception
 module _ (s : List ℕ) (c : Cds) (e : Exceptions) (a : Asked) where

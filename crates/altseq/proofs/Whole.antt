@@ -6,8 +6,8 @@ use mathlib.Core.List.{List, []}
 use Prim.Native.Nat.{ℕ, zero, suc, _+_, _-_, _≤_, _<_, zero-le}
 use native.Mathlib.Omega.{arith}
 use lib.Dec.{ltb}
-use lib.ListN.{length, take}
-use lib.Seq.{take-length}
+use lib.ListN.{length, take, length-take}
+use lib.Seq.{take-length, take-take}
 use borrow.Author.Tests.{ltb-false}
 use Rattle.rules.specs.declared.Cds.{Cds}
 use Rattle.rules.specs.declared.Edit.{Edit}
@@ -21,7 +21,7 @@ use Rattle.rules.specs.Reference.{Reference, cdsSize, referenceProtein}
 use Rattle.rules.specs.Edit.{Asked}
 use Rattle.rules.specs.Refusal.{limits, Room, roomTests}
 use Rattle.rules.specs.Answer.{Outcome, writesNothing, unknownReport, outcome, Answers}
-use Rattle.rules.specs.Views.{bare, asked, referenceOf, roomOf}
+use Rattle.rules.specs.Views.{bare, asked, referenceOf}
 use Rattle.rules.proofs.Tests.{or-left, or-right, first-clear}
 use Rattle.rules.proofs.Reference.{protein-read}
 use Rattle.reference.specs.declared.Known.{Known}
@@ -31,7 +31,7 @@ use Rattle.edits.specs.declared.decision.Decision.{Decision}
 use Rattle.edits.specs.declared.decision.Decision.the-variants as decision
 use Rattle.edits.specs.Decisions.{decisionOf}
 use Rattle.altseq.specs.Carried.{reportBy, Carries}
-use Rattle.altseq.specs.Decided.{roomBy, withRoom, decidedIn, decidedOutcome, referenceIn, Copies}
+use Rattle.altseq.specs.Decided.{roomBy, withRoom, decidedIn, decidedOutcome, referenceIn, Copies, AnswersBeside}
 use Rattle.altseq.proofs.Answering.{none-refused, not-unknown, plan-is, decided-is, room-left}
 
 -- what no refusal of 11 or 12 leaves
@@ -53,19 +53,23 @@ room-for c n room h =
       altered = ltb-false (room .altered) (residueCount (n + 1 - c .cs)) (or-right short cut (twelve .0));
     }
 
-module _ (s : List ℕ) (k : Known) (e : Exceptions) (protein : List ℕ) (known : Knows limits s k e protein) (edit : Edit) (new t p q : List ℕ) (d : Decision)
-    (is : d ≡ decidedIn (k .several) (bare s (k .cds)) (asked edit new) (roomOf t p q)) where
+-- the three buffers, with so much room for R
+abbrev pub roomWith : List ℕ → ℕ → List ℕ → Room
+roomWith t room q = record { transcript = length t; reference = room; altered = length q }
+
+module _ (s : List ℕ) (k : Known) (e : Exceptions) (protein : List ℕ) (known : Knows limits s k e protein) (edit : Edit) (new t : List ℕ) (room : ℕ) (q : List ℕ) (d : Decision)
+    (is : d ≡ decidedIn (k .several) (bare s (k .cds)) (asked edit new) (roomWith t room q)) where
   abbrev r : Reference
   r = referenceOf s (k .cds) e
 
-  pub left : (x : Plan) → d ≡ decision.Goes x → (decisionOf (limits .most) (k .several) (bare s (k .cds)) (asked edit new) ≡ decision.Goes x) × (roomBy (k .cds) (x .length) (roomOf t p q) ≡ 0)
+  pub left : (x : Plan) → d ≡ decision.Goes x → (decisionOf (limits .most) (k .several) (bare s (k .cds)) (asked edit new) ≡ decision.Goes x) × (roomBy (k .cds) (x .length) (roomWith t room q) ≡ 0)
   unfolding decidedIn
-  left x h = room-left (k .cds) (roomOf t p q) (decisionOf (limits .most) (k .several) (bare s (k .cds)) (asked edit new)) x (sym is ∙ h)
+  left x h = room-left (k .cds) (roomWith t room q) (decisionOf (limits .most) (k .several) (bare s (k .cds)) (asked edit new)) x (sym is ∙ h)
 
   pub carries : (x : Plan) → d ≡ decision.Goes x → Carries s k e protein x new t q
   carries x h =
       let goes = left x h .0 in
-      let room = room-for (k .cds) (x .length) (roomOf t p q) (left x h .1) in
+      let fits = room-for (k .cds) (x .length) (roomWith t room q) (left x h .1) in
       record {
         limits = limits;
         known = known;
@@ -73,8 +77,8 @@ module _ (s : List ℕ) (k : Known) (e : Exceptions) (protein : List ℕ) (known
         allowed = none-refused limits s k e protein known (asked edit new) x goes;
         is = plan-is limits s k e protein known (asked edit new) x goes;
         changes = not-unknown limits s k e protein known (asked edit new) x goes;
-        for-transcript = room .transcript;
-        for-altered = room .altered;
+        for-transcript = fits .transcript;
+        for-altered = fits .altered;
       }
 
   -- R of the answer
@@ -90,38 +94,76 @@ module _ (s : List ℕ) (k : Known) (e : Exceptions) (protein : List ℕ) (known
       by decision.Unknown = refl
       by (decision.Goes x) = rw (known .read) (take-length (referenceProtein r))
 
-  pub copies : (x : Answer) → x ≡ decidedOutcome r d new .answer → Copies x protein p
+  pub copies : (x : Answer) → x ≡ decidedOutcome r d new .answer → Copies x protein room
   unfolding decidedOutcome writesNothing unknownReport reportBy cdsSize
   copies x h = by d refl
     where
-      by : (f : Decision) → d ≡ f → Copies x protein p
-      by (decision.Refused n) g = record { there = λ y w. absurd (let z : _≡_ {A = ℕ} 0 1 = cc (rw g at h) in omega arith); room = λ y w. absurd (let z : _≡_ {A = ℕ} 0 1 = cc (rw g at h) in omega arith) }
+      by : (f : Decision) → d ≡ f → Copies x protein room
+      by (decision.Refused n) g = record { there = λ y w. absurd (let z : _≡_ {A = ℕ} 0 1 = cc (rw g at h) in omega arith); has-room = λ y w. absurd (let z : _≡_ {A = ℕ} 0 1 = cc (rw g at h) in omega arith) }
       by decision.Unknown g =
           record {
             there = λ y w. let u : y ≡ unknownReport = cc (rw g at h) in omega (arith, ap (λ (y : Report). y .reference) u);
-            room = λ y w. let u : y ≡ unknownReport = cc (rw g at h) in omega (arith, ap (λ (y : Report). y .reference) u);
+            has-room = λ y w. let u : y ≡ unknownReport = cc (rw g at h) in omega (arith, ap (λ (y : Report). y .reference) u);
           }
       by (decision.Goes f) g =
-          let room = room-for (k .cds) (f .length) (roomOf t p q) (left f g .1) in
+          let fits = room-for (k .cds) (f .length) (roomWith t room q) (left f g .1) in
           record {
             there = λ y w. let u : y ≡ reportBy r f new = cc (rw g at h) in omega (arith, ap (λ (y : Report). y .reference) u, ap length (known .read));
-            room = λ y w. let u : y ≡ reportBy r f new = cc (rw g at h) in omega (arith, ap (λ (y : Report). y .reference) u, protein-length, room .reference);
+            has-room = λ y w. let u : y ≡ reportBy r f new = cc (rw g at h) in omega (arith, ap (λ (y : Report). y .reference) u, protein-length, fits .reference);
           }
 
-  pub answers : (x : Answer) (t′ p′ q′ : List ℕ) → x ≡ decidedOutcome r d new .answer → t′ ≡ over (decidedOutcome r d new .transcript) t
-      → q′ ≡ over (decidedOutcome r d new .altered) q → p′ ≡ over (referenceIn x protein) p → Answers (outcome limits r (asked edit new) (roomOf t p q)) x t t′ p p′ q q′
+  pub answers-beside : (x : Answer) (t′ q′ : List ℕ) → x ≡ decidedOutcome r d new .answer → t′ ≡ over (decidedOutcome r d new .transcript) t
+      → q′ ≡ over (decidedOutcome r d new .altered) q → AnswersBeside (outcome limits r (asked edit new) (roomWith t room q)) x protein room t t′ q q′
   unfolding decidedIn
-  answers x t′ p′ q′ h ht hq hp =
-      let all : outcome limits r (asked edit new) (roomOf t p q) ≡ decidedOutcome r d new = decided-is limits s k e protein known (asked edit new) (roomOf t p q) ∙ ap (λ (d : Decision). decidedOutcome r d new) (sym is) in
-      subst (λ (o : Outcome). Answers o x t t′ p p′ q q′) (sym all)
+  answers-beside x t′ q′ h ht hq =
+      let all : outcome limits r (asked edit new) (roomWith t room q) ≡ decidedOutcome r d new = decided-is limits s k e protein known (asked edit new) (roomWith t room q) ∙ ap (λ (d : Decision). decidedOutcome r d new) (sym is) in
+      subst (λ (o : Outcome). AnswersBeside o x protein room t t′ q q′) (sym all)
       (record {
         says = h;
         holds-transcript = ht;
-        holds-reference = hp ∙ ap (λ (l : List ℕ). over l p) (reference-is x h);
+        keeps-reference = reference-is x h;
         holds-altered = hq;
+        copies = copies x h;
       })
 
+-- R stands in the whole room that it was read into
+module _ (o : Outcome) (x : Answer) (k : ℕ) (out : List ℕ) (room : ℕ) (t t′ q q′ : List ℕ) (h : AnswersBeside o x (take k out) room t t′ q q′) where
+  reads : (p : Report) → x ≡ answer.Reported p → (p .reference ≤ k) × (p .reference ≤ length out)
+  reads p w =
+      let there = h .copies .there p w in
+      let long = length-take k out in
+      (omega arith, omega arith)
+
+  stands : referenceIn x out ≡ referenceIn x (take k out)
+  unfolding referenceIn
+  stands = by x refl
+    where
+      by : (y : Answer) → x ≡ y → referenceIn y out ≡ referenceIn y (take k out)
+      by (answer.Refused n) w = refl
+      by (answer.Reported p) w = sym (take-take (p .reference) k out (reads p w .0))
+
+  pub beside-whole : AnswersBeside o x out room t t′ q q′
+  beside-whole =
+      record {
+        says = h .says;
+        holds-transcript = h .holds-transcript;
+        keeps-reference = stands ∙ h .keeps-reference;
+        holds-altered = h .holds-altered;
+        copies = record { there = λ p w. reads p w .1; has-room = h .copies .has-room };
+      }
+
+-- once R is copied
+pub beside-copied : (o : Outcome) (x : Answer) (protein : List ℕ) (room : ℕ) (t t′ p p′ q q′ : List ℕ) → AnswersBeside o x protein room t t′ q q′
+    → p′ ≡ over (referenceIn x protein) p → Answers o x t t′ p p′ q q′
+beside-copied o x protein room t t′ p p′ q q′ h hp =
+    record {
+      says = h .says;
+      holds-transcript = h .holds-transcript;
+      holds-reference = hp ∙ ap (λ (l : List ℕ). over l p) (h .keeps-reference);
+      holds-altered = h .holds-altered;
+    }
+
 -- the answer for a CDS that is known as another
-pub answers-cds : (s : List ℕ) (c d : Cds) (e : Exceptions) (a : Asked) (room : Room) (x : Answer) (t t′ p p′ q q′ : List ℕ) → c ≡ d
-    → Answers (outcome limits (referenceOf s c e) a room) x t t′ p p′ q q′ → Answers (outcome limits (referenceOf s d e) a room) x t t′ p p′ q q′
-answers-cds s c d e a room x t t′ p p′ q q′ is h = subst (λ (c : Cds). Answers (outcome limits (referenceOf s c e) a room) x t t′ p p′ q q′) is h
+pub beside-cds : (s : List ℕ) (c d : Cds) (e : Exceptions) (a : Asked) (lent : Room) (x : Answer) (protein : List ℕ) (room : ℕ) (t t′ q q′ : List ℕ) → c ≡ d
+    → AnswersBeside (outcome limits (referenceOf s c e) a lent) x protein room t t′ q q′ → AnswersBeside (outcome limits (referenceOf s d e) a lent) x protein room t t′ q q′
+beside-cds s c d e a lent x protein room t t′ q q′ is h = subst (λ (c : Cds). AnswersBeside (outcome limits (referenceOf s c e) a lent) x protein room t t′ q q′) is h

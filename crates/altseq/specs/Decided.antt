@@ -9,7 +9,7 @@ use Rattle.rules.specs.declared.Exceptions.{Exceptions}
 use Rattle.rules.specs.declared.Report.{Report}
 use Rattle.rules.specs.declared.Answer.{Answer}
 use Rattle.rules.specs.declared.Answer.the-variants as answer
-use Rattle.rules.specs.Bytes.{firstOf}
+use Rattle.rules.specs.Bytes.{firstOf, over}
 use Rattle.rules.specs.Reference.{Reference, referenceProtein}
 use Rattle.rules.specs.Edit.{Asked}
 use Rattle.rules.specs.Refusal.{limits, Room, roomTests}
@@ -65,6 +65,14 @@ referenceIn (answer.Refused n) protein = []
 referenceIn (answer.Reported p) protein = take (p .reference) protein
 
 -- so much is there, and has room
-pub record Copies (a : Answer) (protein reference : List ℕ) : Type 0 where
+pub record Copies (a : Answer) (protein : List ℕ) (room : ℕ) : Type 0 where
   pub there : (p : Report) → a ≡ answer.Reported p → p .reference ≤ length protein
-  pub room : (p : Report) → a ≡ answer.Reported p → p .reference ≤ length reference
+  pub has-room : (p : Report) → a ≡ answer.Reported p → p .reference ≤ room
+
+-- an outcome whose R stays in a protein beside a buffer with so much room: what is answered, and what the two other buffers hold
+pub record AnswersBeside (o : Outcome) (a : Answer) (protein : List ℕ) (room : ℕ) (transcript transcript′ altered altered′ : List ℕ) : Type 0 where
+  pub says : a ≡ o .answer
+  pub holds-transcript : transcript′ ≡ over (o .transcript) transcript
+  pub keeps-reference : referenceIn a protein ≡ o .reference
+  pub holds-altered : altered′ ≡ over (o .altered) altered
+  pub copies : Copies a protein room

@@ -29,7 +29,7 @@ ghost use Rattle.rules.specs.Views.{bare, asked, referenceOf, roomOf};
 ghost use Rattle.reference.specs.Known.{HasRoom, Knows};
 ghost use Rattle.edits.specs.declared.plans.Plan.{Plan};
 ghost use Rattle.altseq.specs.Carried.{Carries};
-ghost use Rattle.altseq.specs.Decided.{decidedIn, decidedOutcome, Accepts, referenceIn, Copies};
+ghost use Rattle.altseq.specs.Decided.{decidedIn, decidedOutcome, Accepts, referenceIn, Copies, AnswersBeside};
 
 // Zero lengths, no flag, and no codon looked up.
 fn unknown_report() -> Report
@@ -79,7 +79,7 @@ fn answer_decided(
 
 // Copies as much of R as an answer reports.
 fn copy_reference(answer: Answer, protein: &[u8], reference: &mut [u8])
-    requires { ⌜ Copies answer (now protein) (now reference) ⌝ }
+    requires { ⌜ Copies answer (now protein) (length (now reference)) ⌝ }
     ensures { λ _. ⌜ now (reference .exit) ≡ over (referenceIn answer (now (protein .entry))) (now (reference .entry)) ⌝ }
 {
     match answer {
@@ -116,6 +116,43 @@ pub struct Ready {
     pub edit: Edit,
 }
 
+// The answer to an edit of a checked reference where R has so much room: refusals 7 to 12, Unknown, or a report of what two buffers hold. R
+// stays where it is.
+fn answer_beside(
+    letters: &[u8],
+    ready: Ready,
+    protein: &[u8],
+    new: &[u8],
+    transcript: &mut [u8],
+    reference: usize,
+    altered: &mut [u8],
+) -> Answer
+    requires { ⌜ Knows limits (lettersBy (ready .known .form) (now letters)) (ready .known) (ready .e) (now protein) ⌝ }
+    ensures { λ r. ⌜ AnswersBeside
+        (outcome limits (referenceOf (lettersBy (ready .known .form) (now (letters .entry))) (ready .known .cds) (ready .e)) (asked (ready .edit) (now (new .entry))) (record { transcript = length (now (transcript .entry)); reference = reference; altered = length (now (altered .entry)) }))
+        r (now (protein .entry)) reference (now (transcript .entry)) (now (transcript .exit)) (now (altered .entry)) (now (altered .exit)) ⌝ }
+{
+    let decision = decide_in(
+        letters,
+        ready.known,
+        ready.edit,
+        new,
+        transcript.len(),
+        reference,
+        altered.len(),
+    );
+    answer_decided(
+        letters,
+        ready.known,
+        ready.e,
+        protein,
+        decision,
+        new,
+        transcript,
+        altered,
+    )
+}
+
 // The answer to an edit of a checked reference: refusals 7 to 12, Unknown, or a report of what the three buffers hold.
 pub fn answer_known(
     letters: &[u8],
@@ -131,56 +168,43 @@ pub fn answer_known(
         (outcome limits (referenceOf (lettersBy (ready .known .form) (now (letters .entry))) (ready .known .cds) (ready .e)) (asked (ready .edit) (now (new .entry))) (roomOf (now (transcript .entry)) (now (reference .entry)) (now (altered .entry))))
         r (now (transcript .entry)) (now (transcript .exit)) (now (reference .entry)) (now (reference .exit)) (now (altered .entry)) (now (altered .exit)) ⌝ }
 {
-    let known = ready.known;
-    let e = ready.e;
-    let edit = ready.edit;
-    let decision = decide_in(
+    let answer = answer_beside(
         letters,
-        known,
-        edit,
-        new,
-        transcript.len(),
-        reference.len(),
-        altered.len(),
-    );
-    let answer = answer_decided(
-        letters,
-        known,
-        e,
+        ready,
         protein,
-        decision,
         new,
         transcript,
+        reference.len(),
         altered,
     );
     copy_reference(answer, protein, reference);
     answer
 }
 
-// The answer to an edit of a reference, with room for R.
+// The answer to an edit of a reference, with room for R, which stays there: so it can be copied from where it is known to lie apart.
 fn answer_in(
     letters: &[u8],
     asks: Question,
     new: &[u8],
     protein: &mut [u8],
     transcript: &mut [u8],
-    reference: &mut [u8],
+    reference: usize,
     altered: &mut [u8],
 ) -> Answer
     requires { ⌜ HasRoom (limits .longest) (lettersBy (asks .form) (now letters)) (length (now protein)) ⌝ }
-    ensures { λ r. ⌜ Answers
-        (outcome limits (referenceOf (lettersBy (asks .form) (now (letters .entry))) (asks .cds) (asks .e)) (asked (asks .edit) (now (new .entry))) (roomOf (now (transcript .entry)) (now (reference .entry)) (now (altered .entry))))
-        r (now (transcript .entry)) (now (transcript .exit)) (now (reference .entry)) (now (reference .exit)) (now (altered .entry)) (now (altered .exit)) ⌝ }
+    ensures { λ r. ⌜ AnswersBeside
+        (outcome limits (referenceOf (lettersBy (asks .form) (now (letters .entry))) (asks .cds) (asks .e)) (asked (asks .edit) (now (new .entry))) (record { transcript = length (now (transcript .entry)); reference = reference; altered = length (now (altered .entry)) }))
+        r (now (protein .exit)) reference (now (transcript .entry)) (now (transcript .exit)) (now (altered .entry)) (now (altered .exit)) ⌝ }
 {
-    let e = asks.e;
-    let edit = asks.edit;
     let form = asks.form;
-    match check_reference(letters, form, asks.cds, e, LONGEST, protein) {
+    match check_reference(letters, form, asks.cds, asks.e, LONGEST, protein) {
         Checked::Refused(n) => Answer::Refused(n),
         Checked::Known(known) => {
             let residues = known.residues;
+            let e = asks.e;
+            let edit = asks.edit;
             let ready = Ready { known, e, edit };
-            answer_known(
+            answer_beside(
                 letters,
                 ready,
                 &protein[..residues],
@@ -207,15 +231,45 @@ fn answer_long(
         r (now (transcript .entry)) (now (transcript .exit)) (now (reference .entry)) (now (reference .exit)) (now (altered .entry)) (now (altered .exit)) ⌝ }
 {
     let mut protein = [0u8; LONGEST_PROTEIN];
-    answer_in(
+    let answer = answer_in(
         letters,
         asks,
         new,
         &mut protein,
         transcript,
-        reference,
+        reference.len(),
         altered,
-    )
+    );
+    copy_reference(answer, &protein, reference);
+    answer
+}
+
+// The answer to an edit of a reference of at most SHORT letters.
+fn answer_short(
+    letters: &[u8],
+    asks: Question,
+    new: &[u8],
+    transcript: &mut [u8],
+    reference: &mut [u8],
+    altered: &mut [u8],
+) -> Answer
+    requires { ⌜ length (lettersBy (asks .form) (now letters)) ≤ 16384 ⌝ }
+    ensures { λ r. ⌜ Answers
+        (outcome limits (referenceOf (lettersBy (asks .form) (now (letters .entry))) (asks .cds) (asks .e)) (asked (asks .edit) (now (new .entry))) (roomOf (now (transcript .entry)) (now (reference .entry)) (now (altered .entry))))
+        r (now (transcript .entry)) (now (transcript .exit)) (now (reference .entry)) (now (reference .exit)) (now (altered .entry)) (now (altered .exit)) ⌝ }
+{
+    let mut protein = [0u8; SHORT_PROTEIN];
+    let answer = answer_in(
+        letters,
+        asks,
+        new,
+        &mut protein,
+        transcript,
+        reference.len(),
+        altered,
+    );
+    copy_reference(answer, &protein, reference);
+    answer
 }
 
 // The answer to an edit of a reference: refusals 1 to 12, Unknown, or a report of what the three buffers hold. A short reference doesn't pay
@@ -233,17 +287,23 @@ pub fn build_altseq(
         r (now (transcript .entry)) (now (transcript .exit)) (now (reference .entry)) (now (reference .exit)) (now (altered .entry)) (now (altered .exit)) ⌝ }
 {
     let form = asks.form;
-    if SHORT < size_of(letters, form) {
+    let size = size_of(letters, form);
+    if SHORT < size {
         return answer_long(letters, asks, new, transcript, reference, altered);
     }
-    let mut protein = [0u8; SHORT_PROTEIN];
-    answer_in(
+    if 4096 < size {
+        return answer_short(letters, asks, new, transcript, reference, altered);
+    }
+    let mut protein = [0u8; 1366];
+    let answer = answer_in(
         letters,
         asks,
         new,
         &mut protein,
         transcript,
-        reference,
+        reference.len(),
         altered,
-    )
+    );
+    copy_reference(answer, &protein, reference);
+    answer
 }

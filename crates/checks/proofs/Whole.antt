@@ -5,7 +5,7 @@ use mathlib.Core.Bool.{Bool, true, false, not}
 use mathlib.Core.List.{List, [], _∷_}
 use Prim.Native.Nat.{ℕ, zero, suc, _+_, _-_, _≤_}
 use native.Mathlib.Omega.{arith}
-use lib.ListN.{length, take, replicate, length-replicate}
+use lib.ListN.{length, take}
 use lib.Seq.{take-length, take-take}
 use Rattle.rules.specs.declared.Cds.{Cds}
 use Rattle.rules.specs.declared.Edit.{Edit}
@@ -22,7 +22,7 @@ use Rattle.rules.specs.Protein.{alteredProtein}
 use Rattle.rules.specs.Record.{isUnknown}
 use Rattle.rules.specs.Refusal.{limits, referenceRefusal, refusal, Room, roomRefusal}
 use Rattle.rules.specs.Check.{Proposal, replays, isShortest, isChanged, isProposal, proposalTests, CheckOutcome, checksNothing, verdictOf, checksAll, checkBy, checkOutcome}
-use Rattle.rules.specs.Views.{bare, asked, referenceOf, roomOf}
+use Rattle.rules.specs.Views.{bare, asked, referenceOf}
 use Rattle.rules.proofs.Refusal.{refused-reference}
 use Rattle.rules.proofs.Reference.{protein-read}
 use Rattle.reference.specs.declared.Known.{Known}
@@ -36,7 +36,7 @@ use Rattle.transcript.specs.Carrying.{carriedBy}
 use Rattle.transcript.proofs.Transcripts.{carried-by-is}
 use Rattle.altseq.specs.Carried.{proteinBy, Carries}
 use Rattle.altseq.specs.Decided.{decidedIn}
-use Rattle.altseq.proofs.Whole.{left, carries, room-for, protein-length}
+use Rattle.altseq.proofs.Whole.{roomWith, left, carries, room-for, protein-length}
 use Rattle.checks.specs.Changing.{changingBy, changingIn}
 use Rattle.checks.specs.Checking.{CheckAnswers, Holds, verdictBy, judgedOutcome, decidedCheck, referenceIn, Copies}
 use Rattle.checks.proofs.Deciding.{changed-goes}
@@ -72,10 +72,6 @@ module _ (q : Proposal) (r : Reference) (a : Asked) where
       by zero false zero true true h = sym (all-is h)
       by zero false zero true false h = sym (none-is h)
 
--- the three buffers, with so much room for R
-abbrev pub roomWith : List ℕ → ℕ → List ℕ → Room
-roomWith t room q = record { transcript = length t; reference = room; altered = length q }
-
 -- a refused reference
 pub reference-refused : (r : Reference) (a : Asked) (prop : Proposal) (t : List ℕ) (room : ℕ) (out q : List ℕ) (n : ℕ) → referenceRefusal (limits .longest) r ≡ n → (n ≡ 0 → ⊥)
     → Holds (checkOutcome limits r a prop (roomWith t room q)) (check.Refused n) t t room out q q
@@ -97,25 +93,18 @@ module _ (s : List ℕ) (k : Known) (e : Exceptions) (protein : List ℕ) (known
   abbrev r : Reference
   r = referenceOf s (k .cds) e
 
-  -- a buffer with that room
-  abbrev p : List ℕ
-  p = replicate room 0
-
-  room-is : roomOf t p q ≡ roomWith t room q
-  room-is = ap (λ (n : ℕ). roomWith t n q) (length-replicate {A = ℕ} room 0)
-
-  goes : (x : Plan) → d ≡ Goes x → decidedIn (k .several) (bare s (k .cds)) (asked edit new) (roomOf t p q) ≡ Goes x
-  goes x h = changed-goes s k e protein known edit new (roomOf t p q) x (ap (changingIn r (asked edit new)) room-is ∙ sym is ∙ h)
+  goes : (x : Plan) → d ≡ Goes x → decidedIn (k .several) (bare s (k .cds)) (asked edit new) (roomWith t room q) ≡ Goes x
+  goes x h = changed-goes s k e protein known edit new (roomWith t room q) x (sym is ∙ h)
 
   pub carries-on : (x : Plan) → d ≡ Goes x → Carries s k e protein x new t q
-  carries-on x h = carries s k e protein known edit new t p q _ refl x (goes x h)
+  carries-on x h = carries s k e protein known edit new t room q _ refl x (goes x h)
 
   -- R has room where the edit goes
   room-fits : (x : Plan) → d ≡ Goes x → length (referenceProtein r) ≤ room
   unfolding cdsSize
   room-fits x h =
-      let fits = room-for (k .cds) (x .length) (roomOf t p q) (left s k e protein known edit new t p q _ refl x (goes x h) .1) in
-      omega (arith, protein-length s k e protein known edit new t p q _ refl, fits .reference, length-replicate {A = ℕ} room 0)
+      let fits = room-for (k .cds) (x .length) (roomWith t room q) (left s k e protein known edit new t room q _ refl x (goes x h) .1) in
+      omega (arith, protein-length s k e protein known edit new t room q _ refl, fits .reference)
 
   some-verdict : (b : Bool) (x : Plan) (v : Verdict)
       → (if b then record { answer = check.Judged (verdictBy prop r x new); transcript = carriedBy x s new; reference = referenceProtein r; altered = proteinBy r x new } else checksNothing 27) .answer ≡ check.Judged v

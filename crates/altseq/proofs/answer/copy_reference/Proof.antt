@@ -18,7 +18,7 @@ slice-aggregate-copy c =
 copy-requires : tie.Need-copy-requires
 copy-requires c κs =
     let pre = c .before .before .before .before .before .before .before .pre in
-    rw (length-take-le _ (c .before .before .before .before .before .before .before .args .protein .now) (pre .there _ (c .before .before .before .answer .given .1))) (pre .room _ (c .before .before .before .answer .given .1))
+    rw (length-take-le _ (c .before .before .before .before .before .before .before .args .protein .now) (pre .there _ (c .before .before .before .answer .given .1))) (pre .has-room _ (c .before .before .before .answer .given .1))
 
 returns : tie.Need-returns
 unfolding referenceIn over

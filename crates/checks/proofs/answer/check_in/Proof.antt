@@ -8,7 +8,8 @@ use Rattle.rules.specs.Refusal.{limits}
 use Rattle.rules.specs.Views.{asked, referenceOf}
 use Rattle.reference.proofs.Checking.{checked-refused, checked-accepted, protein-held, cds-known, form-known, residues-within, knows}
 use Rattle.proposals.specs.Proposed.{proposed}
-use Rattle.checks.proofs.Whole.{roomWith, reference-refused, carries-on, holds, holds-cds}
+use Rattle.altseq.proofs.Whole.{roomWith}
+use Rattle.checks.proofs.Whole.{reference-refused, carries-on, holds, holds-cds}
 use Rattle.rules.specs.Packed.{lettersBy}
 use Rattle.checks.proofs.answer.check_in.Statement.{statement}
 use Rattle.checks.proofs.answer.check_in.Tie as tie
