@@ -37,8 +37,8 @@ use Rattle.altered.proofs.Stretches.{part-at}
 use Rattle.altered.specs.Over.{Makes, Stretch}
 use Rattle.places.specs.Places.{codonAt}
 use Rattle.sources.specs.Sources.{Placed}
-use Rattle.alike.specs.Blocks.{ReadsAs, Sized, Held, Unexcepted}
-use Rattle.alike.proofs.Blocked.{no-exceptions, codon-behind}
+use Rattle.blocks.specs.Blocks.{ReadsAs, Sized, Held, Unexcepted}
+use Rattle.blocks.proofs.Blocked.{no-exceptions, codon-behind}
 use Rattle.silent.proofs.Kept.{all-before, all-behind}
 use Rattle.silent.specs.Comparing.{codingBy, proteinWith, Compares, Alike}
 

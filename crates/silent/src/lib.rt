@@ -1,7 +1,7 @@
 // Whether the protein that a plan makes is R, told before a byte of it is written.
-use alike::alike_codons;
-use alike::clear_codons;
-use alike::stretch_codons;
+use blocks::alike_codons;
+use blocks::clear_codons;
+use blocks::stretch_codons;
 use altered::residue_at;
 use edits::plans::Plan;
 use numbers::least;

@@ -20,7 +20,7 @@ ghost use Rattle.rules.specs.Translation.{exceptionList};
 ghost use Rattle.rules.specs.Packed.{lettersBy};
 ghost use Rattle.transcript.specs.Carrying.{carriedBy};
 ghost use Rattle.altered.specs.Over.{Makes, Stretch};
-ghost use Rattle.alike.specs.Blocks.{Sized, ReadsAs, Unexcepted, Held};
+ghost use Rattle.blocks.specs.Blocks.{Sized, ReadsAs, Unexcepted, Held};
 
 // How many first residues are those that a block of letters reads as.
 fn alike_read(block: &[u8], table: usize, own: &[u8]) -> usize
