@@ -18,6 +18,8 @@ use rules::Record;
 use rules::Report;
 use rules::SHORT;
 use rules::SHORT_PROTEIN;
+use rules::SMALL;
+use rules::SMALL_PROTEIN;
 ghost use mathlib.Core.Path.{_≡_};
 ghost use Prim.Native.Nat.{_≤_};
 ghost use lib.ListN.{length};
@@ -291,10 +293,10 @@ pub fn build_altseq(
     if SHORT < size {
         return answer_long(letters, asks, new, transcript, reference, altered);
     }
-    if 4096 < size {
+    if SMALL < size {
         return answer_short(letters, asks, new, transcript, reference, altered);
     }
-    let mut protein = [0u8; 1366];
+    let mut protein = [0u8; SMALL_PROTEIN];
     let answer = answer_in(
         letters,
         asks,

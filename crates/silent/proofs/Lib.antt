@@ -1,4 +1,3 @@
 -- Laws that this crate's proofs cite.
 mod Kept
-mod Blocked
 pub mod Same

@@ -36,9 +36,11 @@ use Rattle.altered.proofs.Shares.{front-starts, back-starts}
 use Rattle.altered.proofs.Stretches.{part-at}
 use Rattle.altered.specs.Over.{Makes, Stretch}
 use Rattle.places.specs.Places.{codonAt}
+use Rattle.sources.specs.Sources.{Placed}
+use Rattle.blocks.specs.Blocks.{ReadsAs, Sized, Held, Unexcepted}
+use Rattle.blocks.proofs.Blocked.{no-exceptions, codon-behind}
 use Rattle.silent.proofs.Kept.{all-before, all-behind}
-use Rattle.silent.proofs.Blocked.{no-exceptions, codon-behind}
-use Rattle.silent.specs.Comparing.{codingBy, proteinWith, Compares, Placed, ReadsAs, Sized, Held, Unexcepted, Alike}
+use Rattle.silent.specs.Comparing.{codingBy, proteinWith, Compares, Alike}
 
 -- the transcript that a plan makes
 module _ (p : Plan) (s new : List ℕ) (m : Makes p s new) where

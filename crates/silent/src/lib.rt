@@ -1,22 +1,22 @@
 // Whether the protein that a plan makes is R, told before a byte of it is written.
-mod blocks;
-
-use altered::residue_at;
 use blocks::alike_codons;
 use blocks::clear_codons;
 use blocks::stretch_codons;
+use altered::residue_at;
 use edits::plans::Plan;
 use numbers::least;
 use rules::Cds;
 use rules::Exceptions;
 use rules::Form;
+use sources::first_changed;
+use sources::source_of;
 ghost use mathlib.Core.Path.{_≡_};
-ghost use Prim.Native.Nat.{_+_, _-_, _*_, _/_, _≤_, _<_};
+ghost use Prim.Native.Nat.{_-_, _/_, _≤_, _<_};
 ghost use lib.ListN.{length, drop};
 ghost use Rattle.rules.specs.Bytes.{same};
 ghost use Rattle.rules.specs.Packed.{lettersBy};
 ghost use Rattle.rules.proofs.Reading.{restOf};
-ghost use Rattle.silent.specs.Comparing.{proteinWith, Compares, Placed, Reused, Alike};
+ghost use Rattle.silent.specs.Comparing.{proteinWith, Compares, Alike};
 
 // Whether R has as many residues left behind its first k as a rest of bases makes: an X, or none.
 fn rest_alike(protein: &[u8], k: usize, rest: usize) -> bool
@@ -29,33 +29,6 @@ fn rest_alike(protein: &[u8], k: usize, rest: usize) -> bool
         return false;
     }
     (protein[k] == b'X') & (protein.len() - k == 1)
-}
-
-// The first codon that the edit may change: the first that isn't wholly before it, and at most the last of R.
-fn first_changed(plan: Plan, first: usize, residues: usize) -> usize
-    requires { ⌜ (first ≤ plan .from) × (1 ≤ residues) ⌝ }
-    ensures { λ r. ⌜ r + 1 ≤ residues ⌝ }
-    ensures before { λ r. ⌜ first + r * 3 ≤ plan .from ⌝ }
-{
-    least((plan.from - first) / 3, residues - 1)
-}
-
-// Which codon of R codon k is, counted from 0: behind the edit, in the reference's frame, and without exceptions or in an edit that keeps the
-// length, so that each exception behind it stays; else `residues`, R's length.
-fn source_of(plan: Plan, first: usize, count: usize, residues: usize, k: usize) -> usize
-    requires { ⌜ Placed plan first k ⌝ }
-    ensures { λ r. ⌜ Reused plan first count residues k r ⌝ }
-{
-    let at = first + k * 3;
-    let back = plan.from + plan.kept;
-    if ((count != 0) & (back != plan.to)) | (at < back) {
-        return residues;
-    }
-    let old = at - back + (plan.to - first);
-    if old % 3 != 0 {
-        return residues;
-    }
-    least(old / 3, residues)
 }
 
 // What a plan makes, to be held to R: the bounds and the table, the exceptions of the reference and the moved ones, and the plan.

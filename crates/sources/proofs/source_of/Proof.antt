@@ -1,4 +1,4 @@
--- `silent::source_of` meets its contract. Assumes nothing.
+-- `sources::source_of` meets its contract. Assumes nothing.
 use mathlib.Core.Path.{_≡_, ap}
 use mathlib.Core.Bool.{false, not, _&&_}
 use Prim.Native.Nat.{ℕ, _+_, _*_}
@@ -7,8 +7,8 @@ use lib.Dec.{eqb, ltb}
 use borrow.Author.Tests.{eqb-true, ne-eqb, ltb-false, not-false}
 use borrow.Author.Needs.{needs}
 use Rattle.rules.proofs.Tests.{and-implies, or-left, or-right}
-use Rattle.silent.proofs.source_of.Statement.{statement}
-use Rattle.silent.proofs.source_of.Tie as tie
+use Rattle.sources.proofs.source_of.Statement.{statement}
+use Rattle.sources.proofs.source_of.Tie as tie
 
 -- of some exceptions, the places are the same
 kept-of : (count back to : ℕ) → (not (eqb count 0) && not (eqb back to)) ≡ false → (count ≡ 0 → ⊥) → back ≡ to

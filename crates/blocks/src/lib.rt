@@ -20,7 +20,7 @@ ghost use Rattle.rules.specs.Translation.{exceptionList};
 ghost use Rattle.rules.specs.Packed.{lettersBy};
 ghost use Rattle.transcript.specs.Carrying.{carriedBy};
 ghost use Rattle.altered.specs.Over.{Makes, Stretch};
-ghost use Rattle.silent.specs.Comparing.{Sized, ReadsAs, Unexcepted, Held};
+ghost use Rattle.blocks.specs.Blocks.{Sized, ReadsAs, Unexcepted, Held};
 
 // How many first residues are those that a block of letters reads as.
 fn alike_read(block: &[u8], table: usize, own: &[u8]) -> usize
@@ -65,7 +65,7 @@ fn alike_in(
 }
 
 // The same, with room for a block.
-pub(crate) fn alike_codons(
+pub fn alike_codons(
     letters: &[u8],
     form: Form,
     table: usize,
@@ -86,7 +86,7 @@ pub(crate) fn alike_codons(
 }
 
 // How many codons from a place on, and at most `most`, lie in what goes in or behind it. None does before it, or across its end.
-pub(crate) fn stretch_codons(plan: Plan, at: usize, most: usize) -> usize
+pub fn stretch_codons(plan: Plan, at: usize, most: usize) -> usize
     requires { ⌜ plan .from + plan .kept < 8589934592 ⌝ }
     ensures { λ r. ⌜ Sized plan at most r ⌝ }
 {
@@ -101,7 +101,7 @@ pub(crate) fn stretch_codons(plan: Plan, at: usize, most: usize) -> usize
 }
 
 // How many of n codons behind the first k come before one with an exception, of either kind.
-pub(crate) fn clear_codons(e: Exceptions, moved: Exceptions, k: usize, n: usize) -> usize
+pub fn clear_codons(e: Exceptions, moved: Exceptions, k: usize, n: usize) -> usize
     requires { ⌜ (e .count ≤ 16) × (moved .count ≤ 16) ⌝ }
     requires { ⌜ k + n < 4294967296 ⌝ }
     ensures { λ r. ⌜ r ≤ n ⌝ }

@@ -1,11 +1,11 @@
--- `silent::blocks::clear_codons` meets its contract. Assumes nothing.
+-- `blocks::clear_codons` meets its contract. Assumes nothing.
 use Prim.Native.Nat.{_+_}
 use native.Mathlib.Omega.{arith}
 use Rattle.rules.specs.Translation.{exceptionList}
-use Rattle.silent.proofs.Blocked.{clear-next, next-ahead}
+use Rattle.blocks.proofs.Blocked.{clear-next, next-ahead}
 use borrow.Author.Needs.{needs}
-use Rattle.silent.proofs.blocks.clear_codons.Statement.{statement}
-use Rattle.silent.proofs.blocks.clear_codons.Tie as tie
+use Rattle.blocks.proofs.clear_codons.Statement.{statement}
+use Rattle.blocks.proofs.clear_codons.Tie as tie
 
 sub-least : tie.Need-sub-least
 sub-least c =

@@ -1,12 +1,12 @@
--- `silent::blocks::alike_codons` meets its contract. Assumes nothing.
+-- `blocks::alike_codons` meets its contract. Assumes nothing.
 use mathlib.Core.Path.{sym}
 use Prim.Native.Nat.{_*_}
 use native.Mathlib.Omega.{arith}
 use lib.ListN.{length}
 use lib.Seq.{length-take-le}
 use borrow.Author.Needs.{needs}
-use Rattle.silent.proofs.blocks.alike_codons.Statement.{statement}
-use Rattle.silent.proofs.blocks.alike_codons.Tie as tie
+use Rattle.blocks.proofs.alike_codons.Statement.{statement}
+use Rattle.blocks.proofs.alike_codons.Tie as tie
 
 slice-aggregate-alike-in : tie.Need-slice-aggregate-alike-in
 slice-aggregate-alike-in c =

@@ -1,4 +1,4 @@
--- `silent::blocks::alike_read` meets its contract. Assumes nothing.
+-- `blocks::alike_read` meets its contract. Assumes nothing.
 use mathlib.Core.Path.{_≡_, sym, ap, _∙_}
 use mathlib.Core.List.{List}
 use Prim.Native.Nat.{_≤_}
@@ -10,10 +10,10 @@ use Rattle.rules.specs.Bytes.{over}
 use Rattle.rules.specs.Translation.{residueCount, foldedTranslated}
 use Rattle.rules.proofs.Trims.{cp-le-r}
 use Rattle.places.proofs.Strict.{strict-letters}
-use Rattle.silent.proofs.Blocked.{plain-block, fits-read, prefix-read, no-exceptions}
+use Rattle.blocks.proofs.Blocked.{plain-block, fits-read, prefix-read, no-exceptions}
 use borrow.Author.Needs.{needs}
-use Rattle.silent.proofs.blocks.alike_read.Statement.{statement}
-use Rattle.silent.proofs.blocks.alike_read.Tie as tie
+use Rattle.blocks.proofs.alike_read.Statement.{statement}
+use Rattle.blocks.proofs.alike_read.Tie as tie
 
 write-translated-requires : tie.Need-write-translated-requires
 unfolding residueCount

@@ -28,7 +28,7 @@ use Rattle.edits.specs.declared.plans.Plan.{Plan}
 use Rattle.transcript.specs.Carrying.{carriedBy}
 use Rattle.altered.specs.Over.{Stretch}
 use Rattle.altered.proofs.Stretches.{part-at}
-use Rattle.silent.specs.Comparing.{ReadsAs, Unexcepted}
+use Rattle.blocks.specs.Blocks.{ReadsAs, Unexcepted}
 
 -- a block once it is written, as long as the codons of some residues
 pub record Written (p : Plan) (s new own e : List ℕ) (at : ℕ) : Type 0 where

@@ -1,8 +1,8 @@
--- `silent::first_changed` meets its contract. Assumes nothing.
+-- `sources::first_changed` meets its contract. Assumes nothing.
 use native.Mathlib.Omega.{arith}
 use borrow.Author.Needs.{needs}
-use Rattle.silent.proofs.first_changed.Statement.{statement}
-use Rattle.silent.proofs.first_changed.Tie as tie
+use Rattle.sources.proofs.first_changed.Statement.{statement}
+use Rattle.sources.proofs.first_changed.Tie as tie
 
 returns : tie.Need-returns
 returns c =

@@ -1,4 +1,4 @@
--- `silent::blocks::alike_in` meets its contract. Assumes nothing.
+-- `blocks::alike_in` meets its contract. Assumes nothing.
 use mathlib.Core.Path.{_≡_, sym, ap, _∙_}
 use mathlib.Core.Bool.{true}
 use Prim.Native.Nat.{ℕ, _+_, _*_}
@@ -10,10 +10,10 @@ use Rattle.rules.specs.Altered.{part}
 use Rattle.rules.specs.Packed.{lettersBy}
 use Rattle.transcript.specs.Carrying.{carriedBy}
 use Rattle.altered.proofs.Stretches.{block-letters}
-use Rattle.silent.proofs.Blocked.{written, same-read, block-read}
+use Rattle.blocks.proofs.Blocked.{written, same-read, block-read}
 use borrow.Author.Needs.{needs}
-use Rattle.silent.proofs.blocks.alike_in.Statement.{statement}
-use Rattle.silent.proofs.blocks.alike_in.Tie as tie
+use Rattle.blocks.proofs.alike_in.Statement.{statement}
+use Rattle.blocks.proofs.alike_in.Tie as tie
 
 write-stretch-requires : tie.Need-write-stretch-requires
 write-stretch-requires c κs =

@@ -1,0 +1,2 @@
+-- What only this crate's contracts, and those above it, want said.
+pub mod Sources
