@@ -1,8 +1,8 @@
 // Whether the protein that a plan makes is R, told before a byte of it is written.
+use altered::residue_at;
 use blocks::alike_codons;
 use blocks::clear_codons;
 use blocks::stretch_codons;
-use altered::residue_at;
 use edits::plans::Plan;
 use numbers::least;
 use rules::Cds;
