@@ -1,4 +1,6 @@
 // Codons that are equal in both, many at a time: by their letters alone, where equal letters are read alike.
+#![tactic(auto)]
+
 ghost use Rattle.std.specs.Prelude.{◌≡◌, true, ◌≤◌};
 ghost use Rattle.rules.specs.declared.Form.TheVariants.{Bytes};
 ghost use Rattle.alike.specs.Reading.{edition_of, Fits, Alike, AreEqual};
@@ -7,7 +9,7 @@ use packed::prefix_by;
 use rules::{Cds, Exceptions, Form};
 
 // The form of a reference's letters, its bounds, table, end and exceptions. The letters are lent beside them.
-#[derive(Drop)]
+#[derive(Clone, Copy)]
 pub struct Edition {
     pub form: Form,
     pub cds: Cds,

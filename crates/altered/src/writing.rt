@@ -23,7 +23,7 @@ fn write_inside(letters: &[u8], form: Form, plan: Plan, new: &[u8], i: usize, ou
     match source {
         Source::New => {
             let last = i + n;
-            bytes::copy(&new[i..last], out);
+            bytewise::copy(&new[i..last], out);
         }
         Source::Copy => {
             let first = start + i;

@@ -16,7 +16,7 @@ use rules::{Form, LONGEST, LONGEST_PROTEIN, MOST, Question, SHORT, SHORT_PROTEIN
 use transcript::write_transcript;
 
 // A refusal's number, Unknown, or how many bases were written, and the frameshift flag.
-#[derive(Drop)]
+#[derive(Clone, Copy)]
 pub enum Transcribed {
     Refused(usize),
     Unknown,

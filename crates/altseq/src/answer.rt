@@ -68,7 +68,7 @@ fn copy_reference(answer: Answer, protein: &[u8], reference: &mut [u8])
         Answer::Refused(_) => {}
         Answer::Reported(report) => {
             let n = report.reference;
-            bytes::copy(&protein[..n], reference);
+            bytewise::copy(&protein[..n], reference);
         }
     }
 }
@@ -92,7 +92,7 @@ pub fn decide_in(
 
 // An edit of a reference that was checked: what is known of it, its exceptions, and the edit. The letters, R and the new bases are lent beside
 // them.
-#[derive(Drop)]
+#[derive(Clone, Copy)]
 pub struct Ready {
     pub known: Known,
     pub e: Exceptions,

@@ -41,7 +41,7 @@ fn write_protein(
 }
 
 // A as it was written: its residues, the codons looked up for it, and how many residues at its start and at its end are R's.
-#[derive(Drop)]
+#[derive(Clone, Copy)]
 struct Made {
     residues: usize,
     looked: usize,

@@ -4,6 +4,8 @@
 //
 // A program has no exit status: what went wrong is said on standard error, in a line that begins with `error: `, and the script ./annotate makes a
 // status of it. A line that begins with `hint: ` is for the reader alone.
+#![tactic(auto)]
+
 mod says;
 
 ghost use Rattle.std.specs.Prelude.{◌≡◌, true, List, ℕ, ◌≤◌, length, take};
@@ -22,7 +24,7 @@ use text_lines::{State, Stepped};
 const PIECE: usize = 65536;
 
 // The state behind a piece of input, and whether its answers were written.
-#[derive(Drop)]
+#[derive(Clone, Copy)]
 struct Ran {
     state: State,
     written: bool,
@@ -30,7 +32,7 @@ struct Ran {
 
 // What comes behind a read: another; the answer to the last line, at the input's end; nothing, behind a refused first line; or the read or a write
 // failed.
-#[derive(Drop)]
+#[derive(Clone, Copy)]
 enum Next {
     Read,
     Finish,
@@ -40,7 +42,7 @@ enum Next {
 }
 
 // The state behind `came` bytes that were read.
-#[derive(Drop)]
+#[derive(Clone, Copy)]
 struct Turn {
     state: State,
     came: usize,
@@ -48,7 +50,7 @@ struct Turn {
 }
 
 // A step over a piece, and whether what it put out was written.
-#[derive(Drop)]
+#[derive(Clone, Copy)]
 struct Put {
     stepped: Stepped,
     written: bool,

@@ -1,4 +1,6 @@
 // Whether two edits of one reference lie apart.
+#![tactic(auto)]
+
 ghost use Rattle.std.specs.Prelude.{ℕ, ◌≡◌, List, length};
 ghost use Rattle.rules.specs.Pair.{touched_from, touched_to, are_apart};
 ghost use Rattle.rules.specs.Views.{bare, asked};

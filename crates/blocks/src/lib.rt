@@ -1,4 +1,6 @@
 // Codons that a plan makes held to R in blocks: letters of what goes in, or letters behind it, which lie side by side.
+#![tactic(auto)]
+
 ghost use Rattle.std.specs.Prelude.{◌≡◌, true, ◌+◌, ◌*◌, ◌≤◌, ◌<◌, length, drop};
 ghost use Rattle.rules.specs.Bytes.{all};
 ghost use Rattle.rules.specs.Letters.{is_letter};

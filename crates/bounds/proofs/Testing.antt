@@ -9,7 +9,7 @@ use native.Mathlib.Omega.{arith}
 use lib.Dec.{leb, ltb}
 use lib.ListN.{length, take, drop, get_or, drop_of_length-le}
 use lib.Seq.{length-take-le, get_or-take, drop-cons}
-use borrow.Author.Tests.{ltb-true, ltb-false, not_true, not-false, le-leb, lt-leb}
+use borrow.Author.Tests.{ltb-true, ltb-false, not-true, not-false, le-leb, lt-leb}
 use Rattle.rules.specs.declared.Cds.{Cds}
 use Rattle.rules.specs.declared.Exception.{Exception}
 use Rattle.rules.specs.declared.Exceptions.{Exceptions}
@@ -82,7 +82,7 @@ module _ (last most count : ℕ) (all : List Exception) (i : ℕ) where
     rising-on q = sym (rising-turn h k ∙ rw (← is, not-false t q))
 
     pub rising-off : not t ≡ true → are_rising last most (drop i (take count all)) ≡ false
-    rising-off q = rising-turn h k ∙ rw (← is, not_true t q)
+    rising-off q = rising-turn h k ∙ rw (← is, not-true t q)
 
   pub rising-end : count ≤ i → count ≤ length all → are_rising last most (drop i (take count all)) ≡ true
   unfolding are_rising

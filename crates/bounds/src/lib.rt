@@ -1,4 +1,6 @@
 // Refusals 3 and 5 of a reference, by its numbers alone: its bounds and its exceptions.
+#![tactic(auto)]
+
 ghost use Rattle.std.specs.Prelude.{◌≡◌, ◌&&◌, List, ℕ, leb, length};
 ghost use Rattle.rules.specs.Translation.{exception_list};
 ghost use Rattle.rules.specs.Reference.{fits_end, are_bounds, are_rising};

@@ -1,5 +1,7 @@
 // The record of an edit of a reference without exceptions, over the three parts of A: residues of R before the edit, residues that are read, and R
 // again behind it. Neither the altered transcript nor A is written out: only the letters of codons that the edit touches are, and the residues read.
+#![tactic(auto)]
+
 mod reading;
 mod touched;
 

@@ -20,7 +20,7 @@ fn write_behind(letters: &[u8], plan: Plan, new: &[u8], more: usize, rest: &mut 
     let kept = write_put(letters, Form::Bytes, plan, new, rest);
     let to = plan.to;
     let last = to + more;
-    kept + bytes::copy(&letters[to..last], &mut rest[kept..])
+    kept + bytewise::copy(&letters[to..last], &mut rest[kept..])
 }
 
 // Writes the letters start..edge of the altered transcript from the buffer's start: of the reference up to the edit, what goes in, and of the
@@ -40,6 +40,6 @@ pub(crate) fn write_touched(
 {
     let from = plan.from;
     let more = edge - (from + plan.kept);
-    let n = bytes::copy(&letters[start..from], out);
+    let n = bytewise::copy(&letters[start..from], out);
     n + write_behind(letters, plan, new, more, &mut out[n..])
 }

@@ -1,4 +1,6 @@
 // Refusals 11 and 12: whether the buffers have room for what an edit writes, or two.
+#![tactic(auto)]
+
 mod pair;
 
 ghost use Rattle.std.specs.Prelude.{◌+◌, ◌-◌, ◌≤◌, ◌≡◌};

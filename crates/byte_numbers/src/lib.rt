@@ -1,4 +1,6 @@
 // Numbers in two bytes and in four, high byte first, read and written.
+#![tactic(auto)]
+
 ghost use Rattle.std.specs.Prelude.{◌≡◌, ◌+◌, ◌≤◌, ◌<◌, length, get_or};
 ghost use Rattle.rules.specs.Bytes.{over};
 ghost use Rattle.rules.specs.Stored.{two_bytes, four_bytes};

@@ -1,4 +1,6 @@
 // The change of R to A behind the residues that they share, and the residues that a duplication copies.
+#![tactic(auto)]
+
 ghost use Rattle.std.specs.Prelude.{◌≡◌, ◌+◌, ◌≤◌, length, get_or};
 ghost use Rattle.rules.specs.Record.{is_copy, first_copied, change_at};
 

@@ -5,7 +5,7 @@ use mathlib.Core.Bool.{Bool, true, false, not}
 use mathlib.Core.List.{List, []}
 use Prim.Native.Nat.{ℕ, ◌≤◌}
 use lib.ListN.{length, take}
-use borrow.Author.Tests.{not_true, not-false}
+use borrow.Author.Tests.{not-true, not-false}
 use Rattle.rules.specs.declared.Exceptions.{Exceptions}
 use Rattle.rules.specs.declared.Report.{Report}
 use Rattle.rules.specs.declared.Verdict.{Verdict}
@@ -30,7 +30,7 @@ module _ (s : List ℕ) (k : Known) (e : Exceptions) (protein : List ℕ) (p : P
   module _ (b : Bool) (is : b ≡ is_proposal proposal (reference_protein r)) where
     pub no-proposal : not b ≡ true → (Refused 27 ≡ (judged_outcome proposal r p new).answer) × (t ≡ over (judged_outcome proposal r p new).transcript t) × (q ≡ over (judged_outcome proposal r p new).altered q)
     unfolding judged_outcome checks_nothing over
-    no-proposal h = rw (← is, not_true b h) (refl, refl, refl)
+    no-proposal h = rw (← is, not-true b h) (refl, refl, refl)
 
     -- the two answers
     module _ (h : not b ≡ false) (report : Report) (reported : report ≡ report_by r p new) (t' q' : List ℕ) (held : q' ≡ over (protein_by r p new) q) where

@@ -21,14 +21,14 @@ use reference::{Checked, Known, check_reference};
 use rules::{Check, Exceptions, LONGEST, LONGEST_PROTEIN, Question, SHORT, SHORT_PROTEIN, Verdict};
 
 // What is asked of a reference, and a proposal's number. The residues of the proposal are lent beside it.
-#[derive(Drop)]
+#[derive(Clone, Copy)]
 pub struct Proposed {
     pub asks: Question,
     pub number: usize,
 }
 
 // The same, and how many bytes are lent for R.
-#[derive(Drop)]
+#[derive(Clone, Copy)]
 struct Proposing {
     asks: Question,
     number: usize,
@@ -36,7 +36,7 @@ struct Proposing {
 }
 
 // What goes on to be judged: a checked reference, the plan of an edit that changes its protein, and a proposal's number.
-#[derive(Drop)]
+#[derive(Clone, Copy)]
 struct Going {
     known: Known,
     e: Exceptions,
@@ -45,7 +45,7 @@ struct Going {
 }
 
 // The same, with what was decided of the edit.
-#[derive(Drop)]
+#[derive(Clone, Copy)]
 struct Decided {
     known: Known,
     e: Exceptions,
@@ -134,7 +134,7 @@ fn copy_reference(answer: Check, protein: &[u8], reference: &mut [u8])
         Check::Refused(_) => {}
         Check::Judged(v) => {
             let n = v.reference;
-            bytes::copy(&protein[..n], reference);
+            bytewise::copy(&protein[..n], reference);
         }
     }
 }

@@ -1,4 +1,6 @@
 // What is decided of an edit whose record is checked, before a byte is written: its refusals, 26 among them, or what it does.
+#![tactic(auto)]
+
 mod answer;
 
 ghost use Rattle.std.specs.Prelude.{◌≡◌};
@@ -20,7 +22,7 @@ use rules::{Edit, Exceptions};
 use silent::keeps_protein;
 
 // The bytes lent for the altered transcript, R and A.
-#[derive(Drop)]
+#[derive(Clone, Copy)]
 pub struct Room {
     pub transcript: usize,
     pub reference: usize,

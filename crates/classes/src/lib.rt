@@ -1,4 +1,6 @@
 // The class of a change, by what is deleted and inserted and the residues there.
+#![tactic(auto)]
+
 ghost use Rattle.std.specs.Prelude.{◌≡◌};
 ghost use Rattle.rules.specs.Record.{class_by_counts, class_by};
 

@@ -1,4 +1,6 @@
 // The plain codon reader: the codon rule without the tables of letter sets, for comparison with them.
+#![tactic(auto)]
+
 ghost use Rattle.std.specs.Prelude.{◌≡◌, ◌-◌, ◌<◌, ◌≤◌, get_or};
 ghost use Rattle.rules.specs.Codons.{genetic_code, residue_x, codon_rule};
 ghost use Rattle.codons.specs.Tables.{HoldsPlain};

@@ -1,4 +1,6 @@
 // The stop cut: what goes in ends with its first stop codon. It is the letters start..end of a reference, or of the new bases.
+#![tactic(auto)]
+
 ghost use Rattle.std.specs.Prelude.{◌+◌, ◌-◌, ◌<◌, ◌≤◌, ◌≡◌, get_or};
 ghost use Rattle.rules.specs.Altered.{part, framed};
 ghost use Rattle.rules.specs.Packed.{letters_by};
@@ -10,7 +12,7 @@ use packed::{first_stop_by, set_at};
 use rules::{Exception, Exceptions, Form};
 
 // Whether a `*` appears, and how many of the bases stay.
-#[derive(Drop)]
+#[derive(Clone, Copy)]
 pub struct Cut {
     pub found: bool,
     pub kept: usize,

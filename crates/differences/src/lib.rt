@@ -1,4 +1,6 @@
 // The codons of two CDS side by side, from one difference to the next.
+#![tactic(auto)]
+
 ghost use Rattle.std.specs.Prelude.{◌≡◌, ◌-◌, ◌<◌, ◌≤◌, length};
 ghost use Rattle.rules.specs.Bytes.{each, over};
 ghost use Rattle.rules.specs.Editions.{difference_at, differences_from, difference_bytes};

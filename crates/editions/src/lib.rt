@@ -1,4 +1,6 @@
 // "Compare two editions of a transcript": the codons in which two references differ, counted, then written.
+#![tactic(auto)]
+
 ghost use Rattle.std.specs.Prelude.{◌≡◌, max, length};
 ghost use Rattle.rules.specs.Bytes.{over};
 ghost use Rattle.rules.specs.Refusal.{limits};

@@ -11,7 +11,7 @@ use positions::refusals::{edit_refusal, ends_after_transcript};
 use reference::Known;
 use rules::Edit;
 
-#[derive(Drop)]
+#[derive(Clone, Copy)]
 pub enum Decision {
     Refused(usize),
     Unknown,

@@ -21,7 +21,7 @@ use spans::{Range, setup_incorporate, silent_number};
 use translation::all_bases;
 
 // Where what goes in comes from: the new bases, a copy of start..end, or its reverse complement.
-#[derive(Drop)]
+#[derive(Clone, Copy)]
 pub enum Source {
     New,
     Copy,
@@ -30,7 +30,7 @@ pub enum Source {
 
 // The first `kept` bytes of the source go in for the bases from..to, which makes `length` bases. `shift` is the frameshift flag, `stopped`
 // whether the stop cut finds a stop, and `number` that of a silent record.
-#[derive(Drop)]
+#[derive(Clone, Copy)]
 pub struct Plan {
     pub source: Source,
     pub start: usize,

@@ -1,4 +1,6 @@
 // A codon of a CDS as one number, and its residue.
+#![tactic(auto)]
+
 ghost use Rattle.std.specs.Prelude.{◌≡◌, ◌+◌, ◌-◌, ◌*◌, ◌<◌, ◌≤◌, length};
 ghost use Rattle.rules.specs.Translation.{exception_list};
 ghost use Rattle.rules.specs.Packed.{set_at, unpacked, letters_by};

@@ -1,4 +1,6 @@
 // Exceptions: which are taken, and the residues that they replace.
+#![tactic(auto)]
+
 ghost use Rattle.std.specs.Prelude.{◌≡◌, true, ◌&&◌, [], ◌∷◌, ◌++◌, leb, ◌≤◌, length, take, drop};
 ghost use Rattle.rules.specs.Translation.{exception_list, excepted, is_residue, are_exceptions};
 ghost use Rattle.excepted.specs.Exceptions.{excepted_from, nearer, next_from};

@@ -1,4 +1,6 @@
 // "Positions and edits": exceptions move.
+#![tactic(auto)]
+
 ghost use Rattle.std.specs.Prelude.{◌≡◌, true, List, ℕ, ◌+◌, ◌*◌, ◌≤◌, length};
 ghost use Rattle.rules.specs.Bytes.{all};
 ghost use Rattle.rules.specs.Letters.{is_letter};
@@ -12,7 +14,7 @@ use packed::{prefix_by, size_of, suffix_by};
 use rules::{Exception, Exceptions, Form};
 
 // What becomes of an exception.
-#[derive(Drop)]
+#[derive(Clone, Copy)]
 enum Moved {
     To(Exception),
     Dropped,

@@ -5,7 +5,7 @@ ghost use Rattle.fields.specs.Places.{content_at, part_or_empty};
 use crate::reader::{Field, next_field};
 use rules::Part;
 
-#[derive(Drop)]
+#[derive(Clone, Copy)]
 pub enum Content {
     At(Part),
     // There is no such field.

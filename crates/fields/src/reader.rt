@@ -17,7 +17,7 @@ pub fn bytes_at(s: &[u8], p: Part) -> &[u8]
 }
 
 // What the bytes hold at a place.
-#[derive(Drop)]
+#[derive(Clone, Copy)]
 pub enum Field {
     Whole { tag: u8, content: Part },
     // The bytes end inside the field.
@@ -49,7 +49,7 @@ fn field_at(s: &[u8], at: usize) -> Field
 }
 
 // The caller's bytes and a place in them.
-#[derive(Drop)]
+#[derive(Clone, Copy)]
 pub struct Fields<'a> {
     pub src: &'a [u8],
     pub at: usize,

@@ -25,5 +25,5 @@ pub fn write_field(tag: u8, content: &[u8], out: &mut [u8]) -> usize
     ensures out_after { out.new ≡ over (field_bytes (record { tag = tag; content = content.now })) out.old }
 {
     let head = write_head(tag, content.len(), out);
-    head + bytes::copy(content, &mut out[head..])
+    head + bytewise::copy(content, &mut out[head..])
 }

@@ -13,7 +13,7 @@ use settings::{read_settings, write_settings};
 
 // Document 02's number and values for each case of a store that is read.
 #[repr(C)]
-#[derive(Drop)]
+#[derive(Clone, Copy)]
 pub struct GarumbottSettings {
     pub refusal: u64,
     pub newer: u64,

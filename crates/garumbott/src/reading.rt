@@ -12,7 +12,7 @@ use stored_fields::{Stored, StoredAt};
 // A reference's numbers, and where its letters and its exceptions stand in the host's bytes, or joined letters in the buffer that it lent; or a
 // refusal's number.
 #[repr(C)]
-#[derive(Drop)]
+#[derive(Clone, Copy)]
 pub struct GarumbottStored {
     pub refusal: u64,
     pub cs: u64,

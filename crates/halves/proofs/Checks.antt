@@ -2,7 +2,7 @@
 use Rattle.std.proofs.Common.{◌≡◌, ℕ, zero, suc, ◌+◌, ◌-◌, ◌*◌, ◌/◌, ◌%◌, ◌<◌, ◌≤◌, Bool, true, false, not, ◌&&◌, eqb, List, [], ◌∷◌, map, length, get_or, take, replicate, sym, refl, ap, ◌∙◌, arith, eq-eqb}
 use mathlib.Core.Bool.{and-true, and-false, and_assoc}
 use lib.ListN.{get_or-eq_default}
-use borrow.Author.Tests.{not_true, not-false}
+use borrow.Author.Tests.{not-true, not-false}
 use Rattle.rules.specs.Bytes.{all}
 use Rattle.rules.specs.Packed.{halves, set_at, letter_of, letters_in, half_up, unpacked}
 use Rattle.rules.proofs.Packed.{spare-zero, spare-used}
@@ -73,7 +73,7 @@ module _ (p : ℕ → Bool) where
       some-fails bad-pairs = by (n % 2) refl
         where
           bad : all (are_pair p) (take (n / 2) bs) ≡ false
-          bad = sym is ∙ not_true pairs bad-pairs
+          bad = sym is ∙ not-true pairs bad-pairs
 
           by : (k : ℕ) → n % 2 ≡ k → false ≡ all p (unpacked n bs)
           by zero h = sym (even-tested h ∙ bad)

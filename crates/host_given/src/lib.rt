@@ -1,4 +1,6 @@
 // The numbers that a host gives: a reference's, an edit's and a form's.
+#![tactic(auto)]
+
 ghost use Rattle.std.specs.Prelude.{◌≡◌, nat_abs};
 ghost use Rattle.rules.specs.Packed.{form_at};
 ghost use Rattle.rules.specs.Views.{cds_of};

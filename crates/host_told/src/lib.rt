@@ -1,4 +1,6 @@
 // The numbers that a host gets: lengths, and the values of each case of an answer.
+#![tactic(auto)]
+
 ghost use Rattle.std.specs.Prelude.{◌≡◌, ◌-◌};
 ghost use Rattle.rules.specs.declared.Answer.TheVariants as answer;
 ghost use Rattle.rules.specs.declared.Check.TheVariants as check;
@@ -10,7 +12,7 @@ use rules::{Answer, Check, Class, Paired, Record, Report, Verdict, Written};
 
 // A refusal's number and 0, or 0 and the bytes written from the buffer's start.
 #[repr(C)]
-#[derive(Drop)]
+#[derive(Clone, Copy)]
 pub struct GarumbottLength {
     pub refusal: u64,
     pub len: u64,
@@ -18,7 +20,7 @@ pub struct GarumbottLength {
 
 // The papers' number and values for each case of an answer.
 #[repr(C)]
-#[derive(Drop)]
+#[derive(Clone, Copy)]
 pub struct GarumbottAnswer {
     pub answer: u64,
     pub refusal: u64,
@@ -38,7 +40,7 @@ pub struct GarumbottAnswer {
 
 // Document 02's values for each case of a checked record.
 #[repr(C)]
-#[derive(Drop)]
+#[derive(Clone, Copy)]
 pub struct GarumbottChecked {
     pub refusal: u64,
     pub replays: u64,
@@ -50,7 +52,7 @@ pub struct GarumbottChecked {
 
 // Document 02's values for each case of a pair.
 #[repr(C)]
-#[derive(Drop)]
+#[derive(Clone, Copy)]
 pub struct GarumbottPaired {
     pub refusal: u64,
     pub transcript_len: u64,

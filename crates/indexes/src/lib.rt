@@ -1,4 +1,6 @@
 // "Positions and edits": a position's place, and its index in editing.
+#![tactic(auto)]
+
 ghost use Rattle.std.specs.Prelude.{◌≡◌, false, ◌+◌, ◌<◌};
 ghost use Rattle.rules.specs.Position.{place, is_outside, index, is_before, is_behind, counted};
 ghost use Rattle.reference.specs.Bounds.{Bounded};

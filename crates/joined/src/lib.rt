@@ -1,4 +1,6 @@
 // An A that isn't written out, the first `head` residues of R, residues that are lent, and R from residue `back` on: what it shares with R, and its residues.
+#![tactic(auto)]
+
 ghost use Rattle.std.specs.Prelude.{◌≡◌, ◌≤◌, length, get_or};
 ghost use Rattle.rules.specs.Trims.{common_prefix};
 ghost use Rattle.rules.specs.Record.{ending};

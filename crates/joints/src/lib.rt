@@ -1,5 +1,7 @@
 // What is decided of two edits of a checked reference: 7 to 10 of the first, then of the second, 51 to 53, or what each does. Nothing is written
 // here.
+#![tactic(auto)]
+
 ghost use Rattle.std.specs.Prelude.{◌≡◌, ◌<◌};
 ghost use Rattle.rules.specs.declared.Exceptions.{Exceptions};
 ghost use Rattle.rules.specs.Packed.{letters_by};
@@ -15,7 +17,7 @@ use reference::Known;
 use rules::Edit;
 
 // The two edits, and the most new bases of each. The new bases are lent beside them.
-#[derive(Drop)]
+#[derive(Clone, Copy)]
 pub struct Edits {
     pub first: Edit,
     pub most: usize,
@@ -23,7 +25,7 @@ pub struct Edits {
     pub other: usize,
 }
 
-#[derive(Drop)]
+#[derive(Clone, Copy)]
 pub enum Joint {
     Refused(usize),
     Both { first: Plan, second: Plan },

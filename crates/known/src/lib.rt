@@ -1,4 +1,6 @@
 // What is known of a reference, without a buffer for R: whether R has more than one stop is told by its first.
+#![tactic(auto)]
+
 ghost use Rattle.std.specs.Prelude.{◌≡◌, ◌<◌, ltb};
 ghost use Rattle.rules.specs.Bytes.{byte, all, count};
 ghost use Rattle.rules.specs.Reference.{reference_protein};

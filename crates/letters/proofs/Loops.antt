@@ -6,7 +6,7 @@ use Prim.Native.Nat.{ℕ, ◌+◌, ◌-◌, ◌≤◌, ◌<◌}
 use native.Mathlib.Omega.{arith}
 use lib.ListN.{length, get_or, take, drop, take-append-drop, length-drop}
 use lib.Seq.{drop-drop, take-add, take_all}
-use borrow.Author.Tests.{not_true, not-false}
+use borrow.Author.Tests.{not-true, not-false}
 use Rattle.rules.specs.Bytes.{all}
 use Rattle.rules.proofs.Lists.{all-and, all-and-end, all_append, all_end}
 
@@ -57,7 +57,7 @@ module _ {p : ℕ → Bool} {s : List ℕ} {i : ℕ} (t : Passed p s i) where
     passed-more k e = record { within = k; decides = sym (block ∙ rw (not-false r e)) ∙ t.decides }
 
     pub passed-not : not r ≡ true → false ≡ all p s
-    passed-not e = sym (block ∙ rw (not_true r e)) ∙ t.decides
+    passed-not e = sym (block ∙ rw (not-true r e)) ∙ t.decides
 
 -- two parts that overlap decide together
 twice : (a b c : Bool) → (a && b) && (b && c) ≡ a && (b && c)
@@ -87,4 +87,4 @@ module _ (p : ℕ → Bool) (s : List ℕ) (m k : ℕ) (h : k ≤ m) {r : Bool} 
   front-decides {q} e n = sym (and-true q) ∙ ap (λ (x : Bool). q && x) (sym (not-false r n)) ∙ both-parts e
 
   pub rest-fails : not r ≡ true → false ≡ all p s
-  rest-fails n = sym (and-false (all p (take m s))) ∙ ap (λ (x : Bool). all p (take m s) && x) (sym (not_true r n)) ∙ both-parts refl
+  rest-fails n = sym (and-false (all p (take m s))) ∙ ap (λ (x : Bool). all p (take m s) && x) (sym (not-true r n)) ∙ both-parts refl

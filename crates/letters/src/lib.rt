@@ -2,6 +2,8 @@
 // edits take the fifteen upper-case letters alone.
 //
 // A table is loaded once, by the function that returns it, and lent from there: a constant that is indexed in a loop is laid out anew at each use.
+#![tactic(auto)]
+
 pub mod complement;
 
 ghost use Rattle.std.specs.Prelude.{◌≡◌, true, ◌<◌};

@@ -1,4 +1,6 @@
 // The longest edit of a call: with a smaller one, refusal 10's limit reads that number.
+#![tactic(auto)]
+
 ghost use Rattle.std.specs.Prelude.{◌≡◌};
 ghost use Rattle.rules.specs.Longest.{is_given_longest, limits_with};
 ghost use Rattle.rules.proofs.WithLongest.{is_counted, bases_within};

@@ -1,4 +1,6 @@
 // What residues make together: B of D and N, Z of E and Q, and X of any others.
+#![tactic(auto)]
+
 ghost use Rattle.std.specs.Prelude.{◌≡◌};
 ghost use Rattle.mixes.specs.Mixes.{is_asx, is_glx, mixed_with, joined};
 

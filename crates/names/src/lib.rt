@@ -1,4 +1,6 @@
 // One-letter and three-letter residue names, by one table that is read both ways. Case counts.
+#![tactic(auto)]
+
 ghost use Rattle.std.specs.Prelude.{◌≡◌, true, [], ◌∷◌, ◌≤◌, ◌*◌, ◌/◌, ◌%◌, length};
 ghost use Rattle.rules.specs.Bytes.{all, each, over};
 ghost use Rattle.rules.specs.Names.{three_of, one_of, threes, three_letters, one_letters};

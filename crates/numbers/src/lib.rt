@@ -1,4 +1,6 @@
 // Small helpers on numbers.
+#![tactic(auto)]
+
 ghost use Rattle.std.specs.Prelude.{◌≡◌, ◌+◌, ◌/◌, ◌<◌, ◌≤◌, min, length};
 ghost use Rattle.numbers.specs.Packed.{four_at, eight_at};
 

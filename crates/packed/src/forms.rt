@@ -80,7 +80,7 @@ pub fn copy_letters(letters: &[u8], form: Form, from: usize, to: usize, out: &mu
 {
     match form {
         Form::Bytes => {
-            bytes::copy(&letters[from..to], out);
+            bytewise::copy(&letters[from..to], out);
         }
         Form::Packed(_) => {
             let pairs = letter_pairs();

@@ -1,4 +1,6 @@
 // "Four bits a base": letters two to a byte, each the sum of its bases, the first in the high half; and what reads a reference's letters, in either form.
+#![tactic(auto)]
+
 mod compare;
 mod forms;
 mod reading;

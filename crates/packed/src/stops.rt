@@ -27,7 +27,7 @@ fn packed_codon(packed: &[u8], place: usize, table: usize, lut: &[u8; 4096]) -> 
 }
 
 // A codon's residue, exceptions applied, and the number of the next codon with an exception.
-#[derive(Drop)]
+#[derive(Clone, Copy)]
 struct Turn {
     residue: u8,
     next: usize,

@@ -1,5 +1,7 @@
 // Two edits of one reference, answered whole: each is decided by itself, they must lie apart, and then the transcript of both is written in five
 // parts, each taken from the reference by its own indices, and its protein read without exceptions.
+#![tactic(auto)]
+
 mod carry;
 
 ghost use Rattle.std.specs.Prelude.{◌≡◌, ℕ};
@@ -18,7 +20,7 @@ use reference::{Checked, Known};
 use rules::{Cds, Edit, Exceptions, Form, LONGEST, MOST, Paired};
 
 // What is asked of a reference: its letters' form, its numbers and its exceptions, and two edits. The letters and the new bases are lent beside them.
-#[derive(Drop)]
+#[derive(Clone, Copy)]
 pub struct Question {
     pub form: Form,
     pub cds: Cds,

@@ -1,4 +1,6 @@
 // The panel profile: a stricter mode, whose answers are those of the full module.
+#![tactic(auto)]
+
 mod answer;
 
 pub use answer::build_panel;

@@ -1,5 +1,7 @@
 // References whose letters stand in three parts, one behind the other: 1 to 5, 6 or 28, judged where the letters stand. A codon may lie across
 // two parts.
+#![tactic(auto)]
+
 mod early;
 mod late;
 mod pieces;

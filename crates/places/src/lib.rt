@@ -1,4 +1,6 @@
 // The places of codons in the tables by the numbers of letters, from several bytes in one number.
+#![tactic(auto)]
+
 ghost use Rattle.std.specs.Prelude.{◌≡◌, ◌+◌, ◌*◌, ◌/◌, ◌%◌, ◌<◌, ◌≤◌, length};
 ghost use Rattle.places.specs.Places.{place_at, entry_at, entries_of, three_at};
 

@@ -1,5 +1,7 @@
 // Refusals 40 to 43, of an edit that 1 to 10 leave. Of the transcript one letter is looked at; that each is one base was seen when the
 // reference was checked.
+#![tactic(auto)]
+
 ghost use Rattle.std.specs.Prelude.{◌≡◌, List, ℕ};
 ghost use Rattle.rules.specs.Bytes.{first_of};
 ghost use Rattle.rules.specs.Edit.{is};

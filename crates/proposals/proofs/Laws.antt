@@ -6,7 +6,7 @@ use mathlib.Core.List.{List}
 use Prim.Native.Nat.{ℕ, ◌+◌, ◌-◌, ◌≤◌, ◌<◌}
 use native.Mathlib.Omega.{arith}
 use lib.Dec.{eqb, ltb, leb}
-use borrow.Author.Tests.{ne_eqb, le-ltb, ltb-true, ltb-false, le-leb, lt-leb, not_true, not-false}
+use borrow.Author.Tests.{ne_eqb, le-ltb, ltb-true, ltb-false, le-leb, lt-leb, not-true, not-false}
 use Rattle.rules.specs.Check.{Proposal, replays, begins_there, leaves_ending, is_shortest}
 
 -- a number from 1 to one more than the residues
@@ -25,7 +25,7 @@ module _ (residues number : ℕ) where
 module _ (p : Proposal) (R A : List ℕ) (t : Bool) (first : t ≡ replays p R A) where
   pub both-no : not t ≡ true → (false ≡ replays p R A) × (false ≡ is_shortest p R A)
   unfolding is_shortest
-  both-no h = let no = sym first ∙ not_true t h in (sym no, rw no)
+  both-no h = let no = sym first ∙ not-true t h in (sym no, rw no)
 
   pub first-yes : not t ≡ false → (second : Bool) → second ≡ (begins_there p R A && leaves_ending p R A) → (true ≡ replays p R A) × (second ≡ is_shortest p R A)
   unfolding is_shortest

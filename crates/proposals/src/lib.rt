@@ -1,4 +1,6 @@
 // "Check records from older annotators": a proposed record's form, and its two answers over two proteins, R and A.
+#![tactic(auto)]
+
 ghost use Rattle.std.specs.Prelude.{◌≡◌, ◌&&◌, not, List, ℕ, ◌+◌, eqb, ltb, length};
 ghost use Rattle.rules.specs.Bytes.{all};
 ghost use Rattle.rules.specs.Translation.{is_residue};
@@ -40,7 +42,7 @@ pub fn is_proposal(residues: usize, number: usize, deleted: &[u8], inserted: &[u
 }
 
 // The two answers: whether a proposal replays, and whether it is also the shortest that begins where the proteins part.
-#[derive(Drop)]
+#[derive(Clone, Copy)]
 pub struct Judgement {
     pub replays: bool,
     pub shortest: bool,

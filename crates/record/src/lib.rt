@@ -1,4 +1,6 @@
 // "The record": what two proteins, R and A, differ in, its class, and the record of the two.
+#![tactic(auto)]
+
 ghost use Rattle.std.specs.Prelude.{◌≡◌, ◌≤◌};
 ghost use Rattle.rules.specs.Record.{record_from};
 ghost use Rattle.shares.specs.Shares.{Shares};

@@ -1,4 +1,6 @@
 // The record of R and an A that isn't written out: the first `head` residues of R, residues that are lent, and R from residue `back` on.
+#![tactic(auto)]
+
 ghost use Rattle.std.specs.Prelude.{◌≡◌, ◌&&◌, List, ◌++◌, ℕ, ◌+◌, ◌-◌, ◌≤◌, ◌<◌, ltb, length, take, drop};
 ghost use Rattle.rules.specs.Bytes.{same};
 ghost use Rattle.rules.specs.Record.{change_at, record_from};
@@ -19,7 +21,7 @@ fn write_on(r: &[u8], back: usize, m: usize, end: usize, out: &mut [u8])
 {
     if m < end {
         let last = back + (end - m);
-        bytes::copy(&r[back..last], &mut out[m..]);
+        bytewise::copy(&r[back..last], &mut out[m..]);
     }
 }
 

@@ -1,4 +1,6 @@
 // "Reference": refusals 1 to 6 and 28, and the reference protein R, read once.
+#![tactic(auto)]
+
 mod early;
 mod protein;
 mod stop;
@@ -17,7 +19,7 @@ pub use stop::{is_short_end, judge_reference};
 
 // What is known of a reference that isn't refused; its letters, in their form, its exceptions and R are lent beside it. `residues` is R's length. The letters
 // are plain if each is one base. `several` is whether R has more than one stop.
-#[derive(Drop)]
+#[derive(Clone, Copy)]
 pub struct Known {
     pub form: Form,
     pub cds: Cds,
@@ -27,13 +29,13 @@ pub struct Known {
 }
 
 // What the tests leave: a refusal, or whether the letters are plain.
-#[derive(Drop)]
+#[derive(Clone, Copy)]
 pub enum Judged {
     Refused(usize),
     Clear { plain: bool },
 }
 
-#[derive(Drop)]
+#[derive(Clone, Copy)]
 pub enum Checked {
     Refused(usize),
     Known(Known),

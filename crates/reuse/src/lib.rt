@@ -1,4 +1,6 @@
 // "Translate only changed codons": the altered protein with residues of R reused before and behind an edit, of a reference without exceptions.
+#![tactic(auto)]
+
 mod pieces;
 mod writing;
 

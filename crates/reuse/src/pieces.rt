@@ -7,7 +7,7 @@ use edits::plans::{Plan, Source};
 use rules::Cds;
 
 // The first `head` residues of R stay, the letters start..end of the altered transcript are read, and behind them R goes on from residue `back`.
-#[derive(Drop)]
+#[derive(Clone, Copy)]
 pub struct Pieces {
     pub head: usize,
     pub start: usize,

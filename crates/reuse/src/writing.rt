@@ -10,7 +10,7 @@ use rules::Exceptions;
 use walks::write_through_stop;
 
 // How many residues were written, how many codons were looked up, and how many of R's residues stand behind what was read.
-#[derive(Drop)]
+#[derive(Clone, Copy)]
 pub struct Reused {
     pub residues: usize,
     pub looked: usize,
@@ -52,7 +52,7 @@ fn write_resumed(
             behind: 0,
         };
     }
-    let more = bytes::copy(rest, &mut out[n..]);
+    let more = bytewise::copy(rest, &mut out[n..]);
     Reused {
         residues: n + more,
         looked,
@@ -80,7 +80,7 @@ pub fn write_reusing(
     let start = pieces.start;
     let end = pieces.end;
     let back = pieces.back;
-    bytes::copy(&protein[..head], altered);
+    bytewise::copy(&protein[..head], altered);
     let read = write_resumed(
         &transcript[start..end],
         table,

@@ -1,5 +1,7 @@
 // Residues by the numbers of letters, which a walk has from bytes without a table: the same codes as the tables of 4,096, from the rows that
 // aren't all X.
+#![tactic(auto)]
+
 ghost use Rattle.std.specs.Prelude.{◌≡◌, ℕ, ◌+◌, ◌*◌, ◌<◌, eqb, length, get_or};
 ghost use Rattle.rules.specs.Bytes.{if◌then◌else◌};
 ghost use Rattle.rows.specs.Rows.{row_in, HoldsRows, HoldsLetters};

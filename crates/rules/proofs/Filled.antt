@@ -1,7 +1,7 @@
 -- Laws of fields with the empty ones left out, over any form: they rise, and each content is found; and fields that rise, none of them empty, are
 -- told by their contents.
 -- Assumes nothing.
-use mathlib.Core.Path.{◌≡◌, refl, sym, ap, ◌∙◌}
+use mathlib.Core.Path.{◌≡◌, refl, sym, ap, subst, ◌∙◌}
 use mathlib.Core.Bool.{Bool, true, false, ◌&&◌, not}
 use mathlib.Core.List.{List, [], ◌∷◌, ◌++◌}
 use mathlib.Core.Option.{Option, none, some}
@@ -181,7 +181,7 @@ module _ (form : Form) where
 
       first : f.tag ≡ suc last → filled (up_to (suc last) n (by_tag fs)) ≡ fs → filled (up_to last (suc n) (by_tag (f ∷ fs))) ≡ f ∷ fs
       first e k =
-          let is : by_tag (f ∷ fs) (suc last) ≡ f.content = rw (← e, here) in
+          let is : by_tag (f ∷ fs) (suc last) ≡ f.content = subst (λ (t : ℕ). or_empty (content_of t (f ∷ fs)) ≡ f.content) e (ap or_empty here) in
           let same : up_to (suc last) n (by_tag (f ∷ fs)) ≡ up_to (suc last) n (by_tag fs) = up_to_same (suc last) n (by_tag (f ∷ fs)) (by_tag fs) (λ t q. rw (ne_eqb f.tag t (λ i. omega arith))) in
           rw (is, (h f.tag f.content here).1, same, k, ← e)
 

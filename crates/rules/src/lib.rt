@@ -1,7 +1,8 @@
 // The plain types that references, edits and answers are made of. The definitions of documents 01 and 02 over them stand in specs/.
+#![tactic(auto)]
 
 // What an edit does. `Other` is any kind but the seven.
-#[derive(Drop)]
+#[derive(Clone, Copy)]
 pub enum Kind {
     Substitution,
     Deletion,
@@ -14,7 +15,7 @@ pub enum Kind {
 }
 
 // `7` is Plus(7), `-2` is Minus(2), `*3` is Star(3).
-#[derive(Drop)]
+#[derive(Clone, Copy)]
 pub enum Position {
     Plus(usize),
     Minus(usize),
@@ -22,7 +23,7 @@ pub enum Position {
 }
 
 // An edit without its new bases, which are lent beside it.
-#[derive(Drop)]
+#[derive(Clone, Copy)]
 pub struct Edit {
     pub kind: Kind,
     pub start: Position,
@@ -31,14 +32,14 @@ pub struct Edit {
 
 // A codon's number, from 1, and the residue that replaces the table's there. Four bytes hold every codon of a transcript; a call hands its
 // exceptions on often, so they are kept small.
-#[derive(Drop)]
+#[derive(Clone, Copy)]
 pub struct Exception {
     pub codon: u32,
     pub residue: u8,
 }
 
 // The first `count` of `all`.
-#[derive(Drop)]
+#[derive(Clone, Copy)]
 pub struct Exceptions {
     pub all: [Exception; 16],
     pub count: usize,
@@ -46,7 +47,7 @@ pub struct Exceptions {
 
 // The bounds and the table of a reference, and how its CDS ends: 0 at a stop, 1 without one, 2 in one or two bases of a codon, any other
 // unknown. Its letters and its exceptions are lent beside them.
-#[derive(Drop)]
+#[derive(Clone, Copy)]
 pub struct Cds {
     pub cs: usize,
     pub ce: usize,
@@ -55,14 +56,14 @@ pub struct Cds {
 }
 
 // How a reference's letters are lent: a byte each, or packed two to a byte, so many letters in all.
-#[derive(Drop)]
+#[derive(Clone, Copy)]
 pub enum Form {
     Bytes,
     Packed(usize),
 }
 
 // What is asked of a reference: its letters' form, its numbers and its exceptions, and an edit. The letters and the new bases are lent beside them.
-#[derive(Drop)]
+#[derive(Clone, Copy)]
 pub struct Question {
     pub form: Form,
     pub cds: Cds,
@@ -87,20 +88,20 @@ pub const SMALL: usize = 4096;
 pub const SMALL_PROTEIN: usize = 1366;
 
 // The longest transcript, and the most new bases.
-#[derive(Drop)]
+#[derive(Clone, Copy)]
 pub struct Limits {
     pub longest: usize,
     pub most: usize,
 }
 
 // What a function that fills one lent buffer answers: a refusal's number, or the number of bytes written from the buffer's start.
-#[derive(Drop)]
+#[derive(Clone, Copy)]
 pub enum Written {
     Refused(usize),
     Bytes(usize),
 }
 
-#[derive(Drop)]
+#[derive(Clone, Copy)]
 pub enum Class {
     StartLost,
     Extension,
@@ -114,7 +115,7 @@ pub enum Class {
 }
 
 // `len` bytes or residues, behind the first `at`.
-#[derive(Drop)]
+#[derive(Clone, Copy)]
 pub struct Part {
     pub at: usize,
     pub len: usize,
@@ -122,7 +123,7 @@ pub struct Part {
 
 // `deleted` is a part of R, `inserted` a part of A. `first` is the number of the first residue that a duplication copies, and 0 in every
 // other class.
-#[derive(Drop)]
+#[derive(Clone, Copy)]
 pub struct Change {
     pub class: Class,
     pub number: usize,
@@ -131,7 +132,7 @@ pub struct Change {
     pub first: usize,
 }
 
-#[derive(Drop)]
+#[derive(Clone, Copy)]
 pub enum Record {
     Unknown,
     NoProtein,
@@ -140,7 +141,7 @@ pub enum Record {
 }
 
 // A record, the frameshift flag, the number of bytes written to each of the three buffers, and of codons looked up.
-#[derive(Drop)]
+#[derive(Clone, Copy)]
 pub struct Report {
     pub found: Record,
     pub frameshift: bool,
@@ -151,14 +152,14 @@ pub struct Report {
 }
 
 // What an edit of a reference is answered: a refusal's number, or a report.
-#[derive(Drop)]
+#[derive(Clone, Copy)]
 pub enum Answer {
     Refused(usize),
     Reported(Report),
 }
 
 // Whether a proposed record replays, whether it is the shortest, and the number of bytes written to each of the three buffers.
-#[derive(Drop)]
+#[derive(Clone, Copy)]
 pub struct Verdict {
     pub replays: bool,
     pub shortest: bool,
@@ -168,14 +169,14 @@ pub struct Verdict {
 }
 
 // What a proposed record is answered: a refusal's number, or a verdict.
-#[derive(Drop)]
+#[derive(Clone, Copy)]
 pub enum Check {
     Refused(usize),
     Judged(Verdict),
 }
 
 // What two edits of one reference are answered: a refusal's number, or the number of bytes written to each of the two buffers.
-#[derive(Drop)]
+#[derive(Clone, Copy)]
 pub enum Paired {
     Refused(usize),
     Carried { transcript: usize, altered: usize },
@@ -183,7 +184,7 @@ pub enum Paired {
 
 // The version of a store, and what a bench keeps in it: its default table, the profile (0 off, 1 on), the output width of residue names (1 or 3
 // letters) and the longest edit in bases.
-#[derive(Drop)]
+#[derive(Clone, Copy)]
 pub struct Settings {
     pub version: usize,
     pub table: usize,
@@ -193,7 +194,7 @@ pub struct Settings {
 }
 
 // What a store of settings is read as: a refusal's number, a version newer than the reader knows, or the settings.
-#[derive(Drop)]
+#[derive(Clone, Copy)]
 pub enum Store {
     Refused(usize),
     Newer,

@@ -1,4 +1,6 @@
 // Whether two blocks of bytes are the same, many bytes at a time.
+#![tactic(auto)]
+
 ghost use Rattle.std.specs.Prelude.{◌≡◌, ◌+◌, ◌≤◌, eqb, length, take, drop};
 ghost use Rattle.rules.specs.Bytes.{same};
 

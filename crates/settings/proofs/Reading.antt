@@ -6,7 +6,7 @@ use mathlib.Core.List.{List}
 use mathlib.Core.Option.{Option, none, some}
 use Prim.Native.Nat.{ℕ, ◌≤◌, ◌<◌}
 use lib.Dec.{eqb, ltb}
-use borrow.Author.Tests.{ne_eqb, lt-ltb, le-ltb, not_true, not-false}
+use borrow.Author.Tests.{ne_eqb, lt-ltb, le-ltb, not-true, not-false}
 use Rattle.rules.specs.declared.Settings.{Settings}
 use Rattle.rules.specs.declared.Store.TheVariants.{Refused, Newer, Held}
 use Rattle.rules.specs.Bytes.{if◌then◌else◌}
@@ -29,7 +29,7 @@ stored_by_lem s newest k = rw k (by (version_of (field s)))
 module _ (s : List ℕ) (newest : ℕ) (known : Bool) (is_Known : known ≡ is_version newest) where
   pub unknown-reader : not known ≡ true → Refused 60 ≡ stored_settings newest s
   unfolding stored_settings
-  unknown-reader h = rw (sym is_Known ∙ not_true known h)
+  unknown-reader h = rw (sym is_Known ∙ not-true known h)
 
   module _ (k : not known ≡ false) (v : ℕ) (is-version : v ≡ version_in s) where
     pub told-by : stored_settings newest s ≡ (if eqb v 0 then Refused 60 else if ltb newest v then Newer else held_in (contents_in (layout v) s))
@@ -44,7 +44,7 @@ module _ (s : List ℕ) (newest : ℕ) (known : Bool) (is_Known : known ≡ is_v
 
       module _ (l : v ≤ newest) (formed : Bool) (is-formed : formed ≡ are_at (layout v) 0 s) where
         pub unformed : not formed ≡ true → Refused 61 ≡ stored_settings newest s
-        unformed h = sym (told-by ∙ rw (ne_eqb v 0 z, le-ltb newest v l) (not-held s v (sym is-formed ∙ not_true formed h)))
+        unformed h = sym (told-by ∙ rw (ne_eqb v 0 z, le-ltb newest v l) (not-held s v (sym is-formed ∙ not-true formed h)))
 
         module _ (h : not formed ≡ false) (x : Settings) (is_x : x ≡ settings_at v s) (fits : Bool) (is-fits : fits ≡ are_settings x) where
           told : stored_settings newest s ≡ (if fits then Held x else Refused 62)

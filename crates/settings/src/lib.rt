@@ -1,4 +1,6 @@
 // The settings of a bench, kept in stored fields: read by a reader that knows the versions up to one, and written in either version.
+#![tactic(auto)]
+
 mod read;
 mod write;
 

@@ -1,4 +1,6 @@
 // The fields of stored settings by their places: whether they are those of a version, and what they hold.
+#![tactic(auto)]
+
 ghost use Rattle.std.specs.Prelude.{◌≡◌, true};
 ghost use Rattle.rules.specs.Settings.{layout};
 ghost use Rattle.settings_fields.specs.Places.{is_at, are_at, version_in, settings_at};

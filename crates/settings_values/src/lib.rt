@@ -1,4 +1,6 @@
 // What settings may be, and the tags that they are stored under.
+#![tactic(auto)]
+
 ghost use Rattle.std.specs.Prelude.{◌≡◌};
 ghost use Rattle.rules.specs.Settings.{is_version, has_longest, is_longest, are_settings};
 

@@ -1,4 +1,6 @@
 // The beginning and the ending that two proteins share, where a part of each is known to be shared.
+#![tactic(auto)]
+
 ghost use Rattle.std.specs.Prelude.{◌≡◌, ◌≤◌, length};
 ghost use Rattle.rules.specs.Trims.{common_prefix};
 ghost use Rattle.rules.specs.Record.{ending};

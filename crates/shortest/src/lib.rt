@@ -1,4 +1,6 @@
 // Whether a proposed record that replays is the shortest.
+#![tactic(auto)]
+
 ghost use Rattle.std.specs.Prelude.{◌≡◌, ◌&&◌, List, ℕ};
 ghost use Rattle.rules.specs.Check.{begins_there, leaves_ending};
 ghost use Rattle.replays.specs.Proposed.{proposed};

@@ -1,4 +1,6 @@
 // Whether the protein that a plan makes is R, told before a byte of it is written.
+#![tactic(auto)]
+
 ghost use Rattle.std.specs.Prelude.{◌≡◌, ◌-◌, ◌/◌, ◌≤◌, ◌<◌, length, drop};
 ghost use Rattle.rules.specs.Bytes.{same};
 ghost use Rattle.rules.specs.Packed.{letters_by};
@@ -26,7 +28,7 @@ fn rest_alike(protein: &[u8], k: usize, rest: usize) -> bool
 }
 
 // What a plan makes, to be held to R: the bounds and the table, the exceptions of the reference and the moved ones, and the plan.
-#[derive(Drop)]
+#[derive(Clone, Copy)]
 struct Compared {
     c: Cds,
     e: Exceptions,

@@ -1,4 +1,6 @@
 // The next codon in which two CDS differ.
+#![tactic(auto)]
+
 ghost use Rattle.std.specs.Prelude.{◌≡◌, ◌≤◌};
 ghost use Rattle.alike.specs.Reading.{edition_of, Fits};
 ghost use Rattle.skips.specs.Walks.{Reads, Passes, Skips};

@@ -1,4 +1,6 @@
 // What an edit leaves of R: the first codon that it may change, and which codon of R one behind it is.
+#![tactic(auto)]
+
 ghost use Rattle.std.specs.Prelude.{◌+◌, ◌*◌, ◌≤◌};
 ghost use Rattle.sources.specs.Sources.{Placed, Reused};
 

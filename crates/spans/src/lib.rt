@@ -1,4 +1,6 @@
 // "Positions and edits": what the positions of an edit come to, the bases start..end and the number of a silent record.
+#![tactic(auto)]
+
 ghost use Rattle.std.specs.Prelude.{◌+◌, min, ◌≡◌, false};
 ghost use Rattle.rules.specs.Position.{is_outside, index};
 ghost use Rattle.rules.specs.Record.{within, silent_within};
@@ -10,7 +12,7 @@ use positions::refusals::is_duplication;
 use rules::{Cds, Edit};
 
 // The bases start..end of the letters.
-#[derive(Drop)]
+#[derive(Clone, Copy)]
 pub struct Range {
     pub start: usize,
     pub end: usize,

@@ -56,8 +56,8 @@ fn join_rest(s: &[u8], p: StoredAt, out: &mut [u8])
     requires len_in_bounds { p.second.len + p.third.len ≤ length out.old }
     ensures { out.new ≡ over (part_of p.second s.now ++ part_of p.third s.now) out.old }
 {
-    let n = bytes::copy(bytes_at(s, p.second), out);
-    bytes::copy(bytes_at(s, p.third), &mut out[n..]);
+    let n = bytewise::copy(bytes_at(s, p.second), out);
+    bytewise::copy(bytes_at(s, p.third), &mut out[n..]);
 }
 
 // Writes the letters to the buffer's start, one part behind the other.
@@ -66,7 +66,7 @@ fn join(s: &[u8], p: StoredAt, joined: &mut [u8])
     requires len_in_bounds { p.letters.len + (p.second.len + p.third.len) ≤ length joined.old }
     ensures { joined.new ≡ over (letters_at s.now p) joined.old }
 {
-    let n = bytes::copy(bytes_at(s, p.letters), joined);
+    let n = bytewise::copy(bytes_at(s, p.letters), joined);
     join_rest(s, p, &mut joined[n..]);
 }
 

@@ -1,5 +1,7 @@
 // The fields of a stored reference: refusals 20 to 23, or where its letters and its exceptions stand; and exceptions in the stored form, as calls
 // take them.
+#![tactic(auto)]
+
 mod exceptions;
 mod order;
 pub mod places;

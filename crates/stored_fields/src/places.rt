@@ -18,7 +18,7 @@ use stored_places::{Places, places_refusal};
 use stored_tags::{BOUNDS, END, EXCEPTIONS, LETTERS, SECOND, TABLE, THIRD, WIDE};
 
 // A stored reference: its numbers, and where its letters, one part behind the other, and its exceptions stand in the caller's bytes.
-#[derive(Drop)]
+#[derive(Clone, Copy)]
 pub struct StoredAt {
     pub cds: Cds,
     pub letters: Part,
@@ -27,7 +27,7 @@ pub struct StoredAt {
     pub exceptions: Part,
 }
 
-#[derive(Drop)]
+#[derive(Clone, Copy)]
 pub enum Stored {
     Refused(usize),
     At(StoredAt),

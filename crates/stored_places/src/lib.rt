@@ -1,4 +1,6 @@
 // Where the contents of a stored reference's tags stand, and what their lengths are refused with: 22, then 25.
+#![tactic(auto)]
+
 ghost use Rattle.std.specs.Prelude.{◌≡◌};
 ghost use Rattle.rules.specs.Bytes.{if◌then◌else◌};
 ghost use Rattle.stored_places.specs.Refusal.{is_there, is_early, places_refusal};
@@ -9,7 +11,7 @@ use rules::{Part, SHORT};
 const FULL: usize = 65535;
 
 // Where the contents of the tags stand; 0 bytes at 0 where there is none.
-#[derive(Drop)]
+#[derive(Clone, Copy)]
 pub struct Places {
     pub letters: Part,
     pub bounds: Part,

@@ -1,4 +1,6 @@
 // "Write the stored reference": a reference into a lent buffer, in the stored form, which has packed letters a byte each too.
+#![tactic(auto)]
+
 mod fields_of;
 mod form;
 

@@ -1,4 +1,6 @@
 // The exceptions of a reference, three bytes each, and the field that holds them.
+#![tactic(auto)]
+
 ghost use Rattle.std.specs.Prelude.{◌≡◌, ℕ, ◌*◌, ◌≤◌, ◌<◌, length, get_or};
 ghost use Rattle.rules.specs.Bytes.{each, over};
 ghost use Rattle.rules.specs.Translation.{no_exception, exception_list};

@@ -1,4 +1,6 @@
 // The fields of a reference's numbers: its bounds in two bytes or in four, and a number in one byte.
+#![tactic(auto)]
+
 ghost use Rattle.std.specs.Prelude.{◌≡◌, [], ◌∷◌, ◌++◌, false, ◌≤◌, ◌<◌, length};
 ghost use Rattle.rules.specs.Bytes.{over};
 ghost use Rattle.rules.specs.Storing.{in_two, in_four, tagged};

@@ -1,4 +1,6 @@
 // The number of equal last bytes of two byte strings.
+#![tactic(auto)]
+
 ghost use Rattle.std.specs.Prelude.{◌≡◌, ◌+◌, ◌-◌, ◌≤◌, length, take};
 ghost use Rattle.rules.specs.Trims.{common_suffix};
 

@@ -1,4 +1,6 @@
 // The three tables of 4,096 residues. Each is read here alone, as a whole, and lent from then on.
+#![tactic(auto)]
+
 ghost use Rattle.std.specs.Prelude.{◌<◌};
 ghost use Rattle.codons.specs.Tables.{HoldsCode};
 

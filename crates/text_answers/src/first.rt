@@ -15,7 +15,7 @@ use text_forms::{ReferenceLine, parse_reference};
 use text_prints::{print_reference, print_refused};
 
 // What a first line is answered, `size` bytes, and where the run stands behind it.
-#[derive(Drop)]
+#[derive(Clone, Copy)]
 pub struct Opened {
     pub phase: Phase,
     pub size: usize,
@@ -50,7 +50,7 @@ fn answer_given(
         Checked::Refused(n) => refuse(n, text),
         Checked::Known(known) => {
             let residues = known.residues;
-            let size = bytes::copy(given, letters);
+            let size = bytewise::copy(given, letters);
             Opened {
                 phase: Phase::Editing { known, size },
                 size: print_reference(&protein[..residues], text),

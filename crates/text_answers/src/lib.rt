@@ -1,5 +1,7 @@
 // "Text program": what one line is answered, printed to the start of a buffer. And the sizes of the program's buffers: they are its own, whatever
 // the library's limits are.
+#![tactic(auto)]
+
 mod edit;
 mod first;
 
@@ -34,7 +36,7 @@ pub const ANSWER: usize = 16415;
 
 // Where a run stands: in its first line; in the edit lines of a reference, of which `size` letters are kept; or behind a refused first line, where
 // nothing more is answered.
-#[derive(Drop)]
+#[derive(Clone, Copy)]
 pub enum Phase {
     Opening,
     Editing { known: Known, size: usize },

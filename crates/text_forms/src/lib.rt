@@ -1,5 +1,7 @@
 // The forms of the text program's lines: each parser answers what it read and where the rest of the line begins, or that the line isn't in
 // the form.
+#![tactic(auto)]
+
 mod line;
 mod position;
 

@@ -10,14 +10,14 @@ use text_numbers::{NumberAt, parse_number};
 use text_verbs::{VerbAt, are_capitals, parse_verb, starts_with};
 
 // The new bases are the line from `at` on; `at` is the line's length where there are none.
-#[derive(Drop)]
+#[derive(Clone, Copy)]
 pub enum EditLine {
     Not,
     Asked { edit: Edit, at: usize },
 }
 
 // The letters are the line from `at` on.
-#[derive(Drop)]
+#[derive(Clone, Copy)]
 pub enum ReferenceLine {
     Not,
     Given { cds: Cds, at: usize },

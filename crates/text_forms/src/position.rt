@@ -6,14 +6,14 @@ ghost use Rattle.text_forms.specs.Views.{signs, signed, placed_in, placed_next, 
 use rules::Position;
 use text_numbers::{NumberAt, parse_number};
 
-#[derive(Drop)]
+#[derive(Clone, Copy)]
 pub enum PositionAt {
     Not,
     Found { position: Position, next: usize },
 }
 
 // One position stands for both ends.
-#[derive(Drop)]
+#[derive(Clone, Copy)]
 pub enum RangeAt {
     Not,
     Found {

@@ -1,4 +1,6 @@
 // The line so far, gathered in a buffer that keeps no more of it than tells that it is too long; and what is put out.
+#![tactic(auto)]
+
 ghost use Rattle.std.specs.Prelude.{◌≡◌, ◌++◌, ◌≤◌, length, take};
 ghost use Rattle.rules.specs.Bytes.{over};
 ghost use Rattle.rules.specs.Answer.{written_of, bytes_of};
@@ -9,7 +11,7 @@ use numbers::least;
 use rules::Written;
 
 // How many bytes of the line are held, and how many of the input were taken.
-#[derive(Drop)]
+#[derive(Clone, Copy)]
 pub struct Gathered {
     pub held: usize,
     pub taken: usize,
@@ -22,7 +24,7 @@ fn hold(line: &mut [u8], held: usize, part: &[u8]) -> usize
     ensures upper_bound { result ≤ length line.old }
 {
     let n = least(part.len(), line.len() - held);
-    held + bytes::copy(&part[..n], &mut line[held..])
+    held + bytewise::copy(&part[..n], &mut line[held..])
 }
 
 // Takes the bytes of the line: those before the next line feed, or all.
@@ -31,7 +33,7 @@ pub fn gather(line: &mut [u8], held: usize, input: &[u8]) -> Gathered
     ensures gathers { Gathers (take held line.old) (take result.held line.new) input.now result.taken }
     ensures held_le_line_room { (result.held ≤ line_room) × (length line.new ≡ line_room) }
 {
-    let end = bytes::scan::find(input, 0, input.len(), b'\n');
+    let end = bytewise::find(input, 0, input.len(), b'\n');
     Gathered {
         held: hold(line, held, &input[..end]),
         taken: end,
@@ -46,5 +48,5 @@ pub fn put(s: &[u8], out: &mut [u8]) -> Written
     if out.len() < s.len() {
         return Written::Refused(15);
     }
-    Written::Bytes(bytes::copy(s, out))
+    Written::Bytes(bytewise::copy(s, out))
 }

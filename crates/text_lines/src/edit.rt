@@ -14,14 +14,14 @@ use text_answers::{ALTERED, Phase, TRANSCRIPT, answer_edit};
 use text_gather::{gather, put};
 
 // What is known of the reference, and how many bytes of the line so far are held.
-#[derive(Drop)]
+#[derive(Clone, Copy)]
 struct Kept {
     known: Known,
     held: usize,
 }
 
 // The bytes of the line so far, and those that were taken and put out. `answered` is whether a line ended and was answered.
-#[derive(Drop)]
+#[derive(Clone, Copy)]
 struct Turn {
     held: usize,
     taken: usize,
@@ -29,7 +29,7 @@ struct Turn {
     answered: bool,
 }
 
-#[derive(Drop)]
+#[derive(Clone, Copy)]
 pub(crate) struct Moved {
     pub held: usize,
     pub taken: usize,

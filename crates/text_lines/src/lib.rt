@@ -1,5 +1,7 @@
 // "Text program": the run as a step over pieces of input of any size. Between two steps a state is kept, and three buffers: the line so far, and
 // the letters and the protein R of the reference.
+#![tactic(auto)]
+
 mod edit;
 mod open;
 
@@ -18,14 +20,14 @@ use rules::Written;
 use text_answers::Phase;
 
 // `held` bytes of the line so far are kept, of a refused first line too; one more than the longest line has stands for any larger number.
-#[derive(Drop)]
+#[derive(Clone, Copy)]
 pub struct State {
     pub phase: Phase,
     pub held: usize,
 }
 
 // The state that a step leaves, how many bytes of its piece it took, and how many it put out.
-#[derive(Drop)]
+#[derive(Clone, Copy)]
 pub struct Stepped {
     pub state: State,
     pub taken: usize,

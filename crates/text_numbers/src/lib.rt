@@ -1,4 +1,6 @@
 // The numbers of the text program's lines: decimal, no leading zero (a lone 0 is in the form), at most five digits.
+#![tactic(auto)]
+
 ghost use Rattle.std.specs.Prelude.{◌≡◌, true, ◌≤◌, length, drop};
 ghost use Rattle.rules.specs.Bytes.{all};
 ghost use Rattle.rules.specs.Number.{is_digit, digits, value, is_number, number};
@@ -7,7 +9,7 @@ ghost use Rattle.text_numbers.specs.Views.{number_in, number_next};
 const MOST_DIGITS: usize = 5;
 
 // `next` is the place behind the number.
-#[derive(Drop)]
+#[derive(Clone, Copy)]
 pub enum NumberAt {
     Not,
     Found { value: usize, next: usize },

@@ -1,5 +1,7 @@
 // "Text program": the lines that answers are printed as. Each function writes from the start of the part of the output that it is lent, and
 // answers how many bytes it wrote.
+#![tactic(auto)]
+
 mod words;
 
 ghost use Rattle.std.specs.Prelude.{◌≡◌, [], ◌∷◌, ◌++◌, ◌≤◌, ◌<◌, length};
@@ -65,8 +67,8 @@ fn write_record(found: Record, r: &[u8], a: &[u8], out: &mut [u8]) -> usize
     ensures out_after { out.new ≡ over (record_line found r.now a.now) out.old }
 {
     match found {
-        Record::Unknown => bytes::copy(b"unknown", out),
-        Record::NoProtein => bytes::copy(b"no-protein", out),
+        Record::Unknown => bytewise::copy(b"unknown", out),
+        Record::NoProtein => bytewise::copy(b"no-protein", out),
         Record::Silent { number, residue } => write_silent(number, residue, out),
         Record::Changed(c) => write_change(c, r, a, out),
     }
@@ -88,8 +90,8 @@ pub fn print_reference(r: &[u8], out: &mut [u8]) -> usize
     ensures value { result ≡ length ((bytes "reference " ++ r.now) ++ (line_feed ∷ [])) }
     ensures out_after { out.new ≡ over ((bytes "reference " ++ r.now) ++ (line_feed ∷ [])) out.old }
 {
-    let n = bytes::copy(b"reference ", out);
-    let size = n + bytes::copy(r, &mut out[n..]);
+    let n = bytewise::copy(b"reference ", out);
+    let size = n + bytewise::copy(r, &mut out[n..]);
     close_line(size, out)
 }
 

@@ -30,7 +30,7 @@ pub(crate) fn write_spaced_decimal(n: usize, out: &mut [u8]) -> usize
     ensures value { result ≡ length (bytes " " ++ decimal n) }
     ensures out_after { out.new ≡ over (bytes " " ++ decimal n) out.old }
 {
-    let k = bytes::copy(b" ", out);
+    let k = bytewise::copy(b" ", out);
     k + write_digits(6, n, &mut out[k..])
 }
 
@@ -41,10 +41,10 @@ pub(crate) fn write_spaced(residues: &[u8], out: &mut [u8]) -> usize
     ensures out_after { out.new ≡ over (bytes " " ++ shown residues.now) out.old }
 {
     if residues.len() == 0 {
-        return bytes::copy(b" -", out);
+        return bytewise::copy(b" -", out);
     }
-    let k = bytes::copy(b" ", out);
-    k + bytes::copy(residues, &mut out[k..])
+    let k = bytewise::copy(b" ", out);
+    k + bytewise::copy(residues, &mut out[k..])
 }
 
 // Behind a duplication, a space and the number of its first residue.
@@ -65,15 +65,15 @@ pub(crate) fn write_class(class: Class, out: &mut [u8]) -> usize
     ensures out_after { out.new ≡ over (class_name class) out.old }
 {
     match class {
-        Class::StartLost => bytes::copy(b"start-lost", out),
-        Class::Extension => bytes::copy(b"extension", out),
-        Class::StopGained => bytes::copy(b"stop-gained", out),
-        Class::Frameshift => bytes::copy(b"frameshift", out),
-        Class::Substitution => bytes::copy(b"substitution", out),
-        Class::Deletion => bytes::copy(b"deletion", out),
-        Class::Duplication => bytes::copy(b"duplication", out),
-        Class::Insertion => bytes::copy(b"insertion", out),
-        Class::Delins => bytes::copy(b"delins", out),
+        Class::StartLost => bytewise::copy(b"start-lost", out),
+        Class::Extension => bytewise::copy(b"extension", out),
+        Class::StopGained => bytewise::copy(b"stop-gained", out),
+        Class::Frameshift => bytewise::copy(b"frameshift", out),
+        Class::Substitution => bytewise::copy(b"substitution", out),
+        Class::Deletion => bytewise::copy(b"deletion", out),
+        Class::Duplication => bytewise::copy(b"duplication", out),
+        Class::Insertion => bytewise::copy(b"insertion", out),
+        Class::Delins => bytewise::copy(b"delins", out),
     }
 }
 
@@ -82,7 +82,7 @@ pub(crate) fn write_refused(n: usize, out: &mut [u8]) -> usize
     ensures value { result ≡ length (refused_line n) }
     ensures out_after { out.new ≡ over (refused_line n) out.old }
 {
-    let k = bytes::copy(b"refused", out);
+    let k = bytewise::copy(b"refused", out);
     k + write_spaced_decimal(n, &mut out[k..])
 }
 
@@ -92,9 +92,9 @@ pub(crate) fn write_silent(number: usize, residue: u8, out: &mut [u8]) -> usize
     ensures out_after { out.new ≡ over (silent_line number residue) out.old }
 {
     let pair = [b' ', residue, b' ', residue];
-    let k = bytes::copy(b"silent", out);
+    let k = bytewise::copy(b"silent", out);
     let m = k + write_spaced_decimal(number, &mut out[k..]);
-    m + bytes::copy(&pair, &mut out[m..])
+    m + bytewise::copy(&pair, &mut out[m..])
 }
 
 // A line feed behind the line.

@@ -1,4 +1,6 @@
 // The text program over memory.
+#![tactic(auto)]
+
 ghost use Rattle.std.specs.Prelude.{◌≡◌, true, false, ◌≤◌, ◌<◌, length};
 ghost use Rattle.rules.specs.Bytes.{over};
 ghost use Rattle.rules.specs.Answer.{written_of, bytes_of};
@@ -13,7 +15,7 @@ use text_answers::{ANSWER, LETTERS, LINE, PROTEIN};
 use text_lines::{State, Stepped, finish, start, step};
 
 // The state behind the last byte, and how many bytes were printed for the lines that ended; `within` is false once these are too many.
-#[derive(Drop)]
+#[derive(Clone, Copy)]
 struct Count {
     state: State,
     total: usize,

@@ -1,4 +1,6 @@
 // What stands behind the positions of an edit line: the kind and its new bases.
+#![tactic(auto)]
+
 ghost use Rattle.std.specs.Prelude.{◌≡◌, ◌&&◌, ◌≤◌, length, drop};
 ghost use Rattle.rules.specs.Bytes.{all, is_capital};
 ghost use Rattle.rules.specs.Line.{are_capitals, starts_with, is_arrow, base_verb, verb};
@@ -9,7 +11,7 @@ use rules::Kind;
 use sequences::equals;
 
 // The new bases are the line from `at` on.
-#[derive(Drop)]
+#[derive(Clone, Copy)]
 pub enum VerbAt {
     Not,
     Found { kind: Kind, at: usize },

@@ -1,4 +1,6 @@
 // "Port order and changed forms": the altered transcript is built into a second buffer, which the caller lends.
+#![tactic(auto)]
+
 ghost use Rattle.std.specs.Prelude.{◌≡◌, ◌++◌, ◌+◌, ◌-◌, ◌≤◌, length, drop};
 ghost use Rattle.rules.specs.Bytes.{over};
 ghost use Rattle.rules.specs.Packed.{letters_by};
@@ -21,7 +23,7 @@ pub fn write_put(letters: &[u8], form: Form, plan: Plan, new: &[u8], out: &mut [
     let end = plan.end;
     let kept = plan.kept;
     match source {
-        Source::New => bytes::copy(&new[..kept], out),
+        Source::New => bytewise::copy(&new[..kept], out),
         Source::Copy => {
             let last = start + kept;
             copy_letters(letters, form, start, last, out);

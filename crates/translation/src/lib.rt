@@ -1,4 +1,6 @@
 // Translation of a byte string: one residue a whole codon, exceptions applied, then one X for a rest.
+#![tactic(auto)]
+
 mod bases;
 mod reading;
 mod translate;

@@ -3,6 +3,8 @@
 //
 // Where that file's answers come from: tests/calls, by an account of document 01 in another language (tests/account), which reads the same
 // lines and makes the letters by the same rule.
+#![tactic(auto)]
+
 mod edits;
 mod exceptions;
 mod fields;

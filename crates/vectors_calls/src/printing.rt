@@ -122,7 +122,7 @@ fn print_buffer(s: &[u8], n: usize) {
 }
 
 // How many bytes were written to each buffer.
-#[derive(Drop)]
+#[derive(Clone, Copy)]
 struct Lengths {
     transcript: usize,
     reference: usize,

@@ -3,6 +3,8 @@
 // Where that file's lines come from. `code`: NCBI's published strings of codes 1 and 2, with TGA as U for table 1. `ambiguous` and `counts`:
 // the IUPAC letters over those strings, expanded by a program of another language (tests/outside compares them with seqkit's). `reader`: the
 // tables and the plain reader never differ. `names`, `complement` and `opposite`: IUPAC. The rest: document 01.
+#![tactic(auto)]
+
 mod bytes;
 mod codes;
 mod plain;

@@ -4,6 +4,8 @@
 // Where these files come from: tests/stored makes the cases and, by an account of document 01 in another language (tests/account), the answers.
 //
 // The input is strings, each behind the two bytes of its length, high byte first: a name, the stored bytes, and an edit, or nothing.
+#![tactic(auto)]
+
 mod answers;
 mod edits;
 

@@ -1,4 +1,6 @@
 // The first stop, and the residues through it.
+#![tactic(auto)]
+
 ghost use Rattle.std.specs.Prelude.{◌≡◌, true, false, [], map, ◌+◌, ◌/◌, ◌^◌, ◌<◌, ◌≤◌, min, length};
 ghost use Rattle.rules.specs.Bytes.{over};
 ghost use Rattle.rules.specs.Letters.{folded};
@@ -32,7 +34,7 @@ fn codon_at(seq: &[u8], table: usize, sets: &[u8; 256], residues: &[u8; 4096], i
 }
 
 // A codon's residue, exceptions applied, and the number of the next codon with an exception.
-#[derive(Drop)]
+#[derive(Clone, Copy)]
 struct Turn {
     residue: u8,
     next: usize,
@@ -139,7 +141,7 @@ pub fn first_stop(seq: &[u8], table: usize, plain: bool, e: Exceptions) -> usize
 }
 
 // Where a walk ended, the index of the first `*` or the number of whole codons, and how many codons it looked up.
-#[derive(Drop)]
+#[derive(Clone, Copy)]
 struct Ended {
     stop: usize,
     looked: usize,
@@ -269,7 +271,7 @@ fn write_walk(seq: &[u8], table: usize, plain: bool, e: Exceptions, out: &mut [u
 }
 
 // What a walk wrote, in residues, and how many codons it looked up in the table.
-#[derive(Drop)]
+#[derive(Clone, Copy)]
 pub struct Walked {
     pub residues: usize,
     pub looked: usize,

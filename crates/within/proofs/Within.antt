@@ -6,7 +6,7 @@ use mathlib.Core.Bool.{Bool, true, false, not}
 use mathlib.Core.List.{List, []}
 use Prim.Native.Nat.{ℕ}
 use lib.Dec.{ltb}
-use borrow.Author.Tests.{not_true, not-false}
+use borrow.Author.Tests.{not-true, not-false}
 use Rattle.rules.specs.declared.Edit.{Edit}
 use Rattle.rules.specs.declared.Limits.{Limits}
 use Rattle.rules.specs.declared.Answer.{Answer}
@@ -42,7 +42,7 @@ use Rattle.within.specs.Edited.{edited_within}
 -- what the code's test says of a number
 module _ (n : ℕ) (b : Bool) (is : b ≡ is_given_longest n) where
   pub no-longest : not b ≡ true → is_given_longest n ≡ false
-  no-longest h = sym is ∙ not_true b h
+  no-longest h = sym is ∙ not-true b h
 
   pub some-longest : not b ≡ false → is_given_longest n ≡ true
   some-longest h = sym is ∙ not-false b h

@@ -1,5 +1,7 @@
 // What the module answers with the longest edit of a call (E12): 62 before 1 for a number that is none, else as without one, of the new bases as
 // `bases_within` hands them on.
+#![tactic(auto)]
+
 mod one;
 mod pair;
 mod proposed;

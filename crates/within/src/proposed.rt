@@ -10,7 +10,7 @@ use longest::{bases_within, is_given_longest};
 use rules::Check;
 
 // A proposed record, and the longest edit of the call.
-#[derive(Drop)]
+#[derive(Clone, Copy)]
 pub struct Claim {
     pub proposed: Proposed,
     pub longest: usize,

@@ -1,12 +1,12 @@
 -- `annotate::next_of` meets its contract. Assumes nothing.
 use mathlib.Core.Path.{sym, ◌∙◌}
-use borrow.Author.Tests.{not_true, not-false}
+use borrow.Author.Tests.{not-true, not-false}
 use borrow.Author.Rules.{rules}
 use Rattle.annotate.proofs.next_of.Statement.{statement}
 use Rattle.annotate.proofs.next_of.Tie as tie
 
 returns : tie.Need-returns
-returns c line letters = rw (not_true c.before.args.written c.if1.true)
+returns c line letters = rw (not-true c.before.args.written c.if1.true)
 
 returns-2 : tie.Need-returns-2
 returns-2 c line letters = rw (not-false c.before.before.before.args.written c.before.before.if1.false, sym (c.before.is-over.ensures line letters) ∙ c.if2.true)

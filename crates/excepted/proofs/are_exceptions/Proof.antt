@@ -5,7 +5,7 @@ use mathlib.Core.Bool.{true}
 use Prim.Native.Nat.{◌-◌, ◌≤◌}
 use native.Mathlib.Omega.{arith}
 use borrow.Author.Rules.{rules}
-use borrow.Author.Tests.{not_true, not-false}
+use borrow.Author.Tests.{not-true, not-false}
 use lib.ListN.{length, take, length-map}
 use Rattle.rules.specs.Bytes.{all}
 use Rattle.excepted.proofs.Putting.{never}
@@ -38,7 +38,7 @@ returns-2 c =
     let args = c.before.before.before.before.before.before.args in
     let loop = c.before.before.before.before.loop in
     let is-exception = c.before.is-exception in
-    (sym (not_taken args.t1 loop.invariant.2 loop.invariant.1 loop.k _ (search rules) (sym is-exception.ensures ∙ not_true is-exception.result c.if2.true)), λ e. loop.invariant.1)
+    (sym (not_taken args.t1 loop.invariant.2 loop.invariant.1 loop.k _ (search rules) (sym is-exception.ensures ∙ not-true is-exception.result c.if2.true)), λ e. loop.invariant.1)
 
 loop-again : tie.Need-loop-preserved invariant-loop decreases-loop
 loop-again c =

@@ -2,14 +2,14 @@
 -- Assumes nothing.
 use mathlib.Core.Path.{sym, ◌∙◌}
 use borrow.Author.Rules.{rules}
-use borrow.Author.Tests.{not_true, not-false}
+use borrow.Author.Tests.{not-true, not-false}
 use Rattle.rules.proofs.Fills.{refuses, gives}
 use Rattle.names.proofs.Laws.{ones-unknown, ones-short, ones-given}
 use Rattle.names.proofs.aa1_to_aa3.Statement.{statement}
 use Rattle.names.proofs.aa1_to_aa3.Tie as tie
 
 returns : tie.Need-returns
-returns c = refuses _ _ _ (ones-unknown _ _ (sym c.before.are-ones.ensures ∙ not_true _ c.if1.true))
+returns c = refuses _ _ _ (ones-unknown _ _ (sym c.before.are-ones.ensures ∙ not-true _ c.if1.true))
 
 returns-2 : tie.Need-returns-2
 returns-2 c = refuses _ _ _ (ones-short _ _ (sym c.before.before.are-ones.ensures ∙ not-false _ c.before.if1.false) (search rules))

@@ -2,7 +2,7 @@
 -- Assumes nothing.
 use mathlib.Core.Path.{sym, ◌∙◌}
 use borrow.Author.Rules.{rules}
-use borrow.Author.Tests.{not_true, not-false}
+use borrow.Author.Tests.{not-true, not-false}
 use Rattle.rules.proofs.Fills.{refuses, gives}
 use Rattle.names.proofs.Laws.{threes-uneven, threes-unknown, threes-short, threes-given}
 use Rattle.names.proofs.aa3_to_aa1.Statement.{statement}
@@ -12,7 +12,7 @@ returns : tie.Need-returns
 returns c = refuses _ _ _ (threes-uneven _ _ c.if1.true)
 
 returns-2 : tie.Need-returns-2
-returns-2 c = refuses _ _ _ (threes-unknown _ _ (search rules) (sym c.before.are-threes.ensures ∙ not_true _ c.if2.true))
+returns-2 c = refuses _ _ _ (threes-unknown _ _ (search rules) (sym c.before.are-threes.ensures ∙ not-true _ c.if2.true))
 
 returns-3 : tie.Need-returns-3
 returns-3 c = refuses _ _ _ (threes-short _ _ (search rules) (sym c.before.before.are-threes.ensures ∙ not-false _ c.before.if2.false) (search rules))

@@ -4,7 +4,7 @@ use mathlib.Core.Path.{◌≡◌, sym, ◌∙◌}
 use Prim.Native.Nat.{◌+◌, ◌-◌, ◌≤◌}
 use native.Mathlib.Omega.{arith}
 use borrow.Author.Rules.{rules}
-use borrow.Author.Tests.{not_true, not-false}
+use borrow.Author.Tests.{not-true, not-false}
 use lib.ListN.{length, drop}
 use Rattle.rules.specs.Number.{digits}
 use Rattle.text_numbers.proofs.Numbers.{digits_more, digits-stop, digits-end}
@@ -20,7 +20,7 @@ decreases-loop s i₀ i = length s - i
 returns : tie.Need-returns invariant-loop decreases-loop
 returns c =
     let at-loop = c.before.before.before.before in
-    omega (arith, digits-stop at-loop.before.before.args.s.now at-loop.loop.i (omega arith) (sym c.before.is_digit.ensures ∙ not_true _ c.if1.true))
+    omega (arith, digits-stop at-loop.before.before.args.s.now at-loop.loop.i (omega arith) (sym c.before.is_digit.ensures ∙ not-true _ c.if1.true))
 
 loop-again : tie.Need-loop-preserved invariant-loop decreases-loop
 loop-again c =

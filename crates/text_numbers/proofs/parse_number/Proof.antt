@@ -1,7 +1,7 @@
 -- `text_numbers::parse_number` meets its contract. Assumes nothing.
 use mathlib.Core.Path.{sym}
 use borrow.Author.Rules.{rules}
-use borrow.Author.Tests.{not_true, not-false}
+use borrow.Author.Tests.{not-true, not-false}
 use lib.Seq.{length-take-le}
 use Rattle.text_numbers.proofs.Numbers.{count-within, not-number, few, are-digits, next-within, is-number}
 use Rattle.text_numbers.proofs.parse_number.Statement.{statement}
@@ -11,7 +11,7 @@ is-number-requires : tie.Need-is-number-requires
 is-number-requires c κs = count-within c.before.before.before.args.line.now c.before.before.before.args.at _ c.count-digits.ensures
 
 returns : tie.Need-returns
-returns c = (not-number c.before.before.before.before.before.args.line.now c.before.before.before.before.before.args.at _ c.before.before.count-digits.ensures _ c.before.is-number.ensures (not_true _ c.if1.true), search rules)
+returns c = (not-number c.before.before.before.before.before.args.line.now c.before.before.before.before.before.args.at _ c.before.before.count-digits.ensures _ c.before.is-number.ensures (not-true _ c.if1.true), search rules)
 
 slice-aggregate-value-of : tie.Need-slice-aggregate-value-of
 slice-aggregate-value-of c = sym (length-take-le _ _ (count-within c.before.before.before.before.before.before.args.line.now c.before.before.before.before.before.before.args.at _ c.before.before.before.count-digits.ensures))

@@ -1,7 +1,7 @@
 -- `text_run::run_size` meets its contract. Assumes nothing.
 use mathlib.Core.Path.{refl}
 use native.Mathlib.Omega.{arith}
-use borrow.Author.Tests.{not_true, not-false}
+use borrow.Author.Tests.{not-true, not-false}
 use Rattle.text_run.proofs.Counting.{unfit, ends_above, ends-within}
 use borrow.Author.Rules.{rules}
 use Rattle.text_run.proofs.run_size.Statement.{statement}
@@ -11,7 +11,7 @@ count-lines-requires : tie.Need-count-lines-requires
 count-lines-requires c κs = (record { for-line = refl; for-letters = refl; for-protein = refl }, refl)
 
 returns : tie.Need-returns
-returns c = unfit _ _ (c.before.before.before.before.before.before.count-lines.ensures.1.0 (not_true _ c.if1.true))
+returns c = unfit _ _ (c.before.before.before.before.before.before.count-lines.ensures.1.0 (not-true _ c.if1.true))
 
 last-size-requires : tie.Need-last-size-requires
 last-size-requires c κs =

@@ -1,13 +1,13 @@
 -- `text_verbs::has_bases` meets its contract. Assumes nothing.
 use mathlib.Core.Path.{sym, ◌∙◌}
 use borrow.Author.Rules.{rules}
-use borrow.Author.Tests.{not_true, not-false}
+use borrow.Author.Tests.{not-true, not-false}
 use Rattle.text_verbs.proofs.Verbs.{starts_long, based-not, based-by}
 use Rattle.text_verbs.proofs.has_bases.Statement.{statement}
 use Rattle.text_verbs.proofs.has_bases.Tie as tie
 
 returns : tie.Need-returns
-returns c = based-not _ _ _ c.before.starts_with.ensures (not_true _ c.if1.true)
+returns c = based-not _ _ _ c.before.starts_with.ensures (not-true _ c.if1.true)
 
 sub-are-capitals : tie.Need-overflow-sub-are-capitals
 sub-are-capitals c = let h = starts_long c.before.before.before.before.args.word.now c.before.before.before.before.args.s.now (sym c.before.starts_with.ensures ∙ not-false _ c.if1.false) in search rules

@@ -2,7 +2,7 @@
 -- Assumes nothing.
 use mathlib.Core.Path.{sym, ◌∙◌}
 use borrow.Author.Rules.{rules}
-use borrow.Author.Tests.{not_true, not-false}
+use borrow.Author.Tests.{not-true, not-false}
 use Rattle.rules.proofs.Complement.{length-complement}
 use Rattle.rules.proofs.Fills.{refuses, gives}
 use Rattle.sequences.proofs.complement.Laws.{complement-short, complement-other, complement-given}
@@ -13,7 +13,7 @@ returns : tie.Need-returns
 returns c = refuses _ _ _ (complement-short _ _ (search rules))
 
 returns-2 : tie.Need-returns-2
-returns-2 c = refuses _ _ _ (complement-other _ _ (search rules) (sym c.before.all-letters.ensures ∙ not_true _ c.if2.true))
+returns-2 c = refuses _ _ _ (complement-other _ _ (search rules) (sym c.before.all-letters.ensures ∙ not-true _ c.if2.true))
 
 write-revcomp-requires : tie.Need-write-revcomp-requires
 write-revcomp-requires c κs = (sym c.before.before.all-letters.ensures ∙ not-false _ c.before.if2.false, search rules)

@@ -3,7 +3,7 @@ use mathlib.Core.Path.{◌≡◌, sym, ◌∙◌}
 use mathlib.Core.Bool.{true, false}
 use native.Mathlib.Omega.{arith}
 use borrow.Author.Rules.{rules}
-use borrow.Author.Tests.{not_true, not-false}
+use borrow.Author.Tests.{not-true, not-false}
 use Rattle.rules.specs.Settings.{is_version, are_settings}
 use Rattle.settings.proofs.Writing.{size, fits, unknown, out_of_range, too_short, stored}
 use Rattle.settings.proofs.write.write_settings.Statement.{statement}
@@ -12,12 +12,12 @@ use Rattle.settings.proofs.write.write_settings.Tie as tie
 returns : tie.Need-returns
 returns c =
     let a = c.before.before.before.args in
-    unknown a.x a.out.now (sym c.before.is-version.ensures ∙ not_true _ c.if1.true)
+    unknown a.x a.out.now (sym c.before.is-version.ensures ∙ not-true _ c.if1.true)
 
 returns-2 : tie.Need-returns-2
 returns-2 c =
     let a = c.before.before.before.before.before.args in
-    out_of_range a.x a.out.now (sym c.before.before.before.is-version.ensures ∙ not-false _ c.before.before.if1.false) (sym c.before.are-settings.ensures ∙ not_true _ c.if2.true)
+    out_of_range a.x a.out.now (sym c.before.before.before.is-version.ensures ∙ not-false _ c.before.before.if1.false) (sym c.before.are-settings.ensures ∙ not-true _ c.if2.true)
 
 returns-3 : tie.Need-returns-3
 returns-3 c =

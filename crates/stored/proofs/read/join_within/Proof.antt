@@ -2,7 +2,7 @@
 use mathlib.Core.Path.{sym, ◌∙◌}
 use native.Mathlib.Omega.{arith}
 use borrow.Author.Rules.{rules}
-use borrow.Author.Tests.{not_true, not-false}
+use borrow.Author.Tests.{not-true, not-false}
 use lib.ListN.{length}
 use Rattle.rules.specs.Refusal.{limits}
 use Rattle.stored.proofs.Joined.{fits-longest, stays, no_room, has_room}
@@ -14,7 +14,7 @@ returns c =
     let first = c.before.before.before.before in
     let a = first.args in
     let said = c.before.is-joined in
-    stays a.s.now a.p first.requires.0 (length a.joined.now) a.joined.now (sym said.ensures ∙ not_true said.result c.if1.true)
+    stays a.s.now a.p first.requires.0 (length a.joined.now) a.joined.now (sym said.ensures ∙ not-true said.result c.if1.true)
 
 add-if2 : tie.Need-overflow-add-if2
 add-if2 c =

@@ -1,7 +1,7 @@
 -- `stored::read::refusal_at` meets its contract. Assumes nothing.
 use mathlib.Core.Path.{refl, ap, ◌∙◌}
 use borrow.Author.Rules.{rules}
-use borrow.Author.Tests.{not_true}
+use borrow.Author.Tests.{not-true}
 use Rattle.rules.specs.Refusal.{limits}
 use Rattle.parts.specs.Parts.{in_parts}
 use Rattle.stored_fields.specs.Held.{exceptions_of}
@@ -14,7 +14,7 @@ refusal-of-one-requires : tie.Need-refusal-of-one-requires
 refusal-of-one-requires c κs =
     let first = c.before.before.before in
     let said = c.before.is-joined in
-    (first.requires, not_there first.args.p.second said.result said.ensures (not_true said.result c.if1.true))
+    (first.requires, not_there first.args.p.second said.result said.ensures (not-true said.result c.if1.true))
 
 returns-2 : tie.Need-returns-2
 returns-2 c =

@@ -4,7 +4,7 @@ use mathlib.Core.List.{List}
 use mathlib.Core.Option.{some}
 use Prim.Native.Nat.{ℕ, ◌-◌}
 use native.Mathlib.Omega.{arith}
-use borrow.Author.Tests.{not_true, not-false}
+use borrow.Author.Tests.{not-true, not-false}
 use lib.ListN.{length, take, drop}
 use Rattle.rules.specs.Run.{refused_line, edit_answer}
 use Rattle.rules.proofs.Over.{tail-is}
@@ -29,7 +29,7 @@ returns c =
     let fits_line = c.before.before.before.before.before.fits_line in
     let if1 = c.before.before.before.before.if1 in
     let print-refused = c.before.before.print-refused in
-    line_of _ (refused_line 30) _ _ _ (edit-long (bare args.letters.now args.known.cds) args.line.now (sym fits_line.ensures ∙ not_true fits_line.result if1.true)) print-refused.ensures.0 print-refused.ensures.1
+    line_of _ (refused_line 30) _ _ _ (edit-long (bare args.letters.now args.known.cds) args.line.now (sym fits_line.ensures ∙ not-true fits_line.result if1.true)) print-refused.ensures.0 print-refused.ensures.1
 
 print-refused-requires-2 : tie.Need-print-refused-requires-2
 print-refused-requires-2 c κs =

@@ -1,7 +1,7 @@
 -- `text_answers::first::answer_first` meets its contract. Assumes nothing.
 use mathlib.Core.Path.{refl, sym, ap, ◌∙◌}
 use native.Mathlib.Omega.{arith}
-use borrow.Author.Tests.{not_true, not-false}
+use borrow.Author.Tests.{not-true, not-false}
 use Rattle.text_forms.specs.Views.{letters_at}
 use Rattle.text_answers.proofs.Checking.{opens_ended, opens-given, first-long, first-formless}
 use borrow.Author.Rules.{rules}
@@ -18,7 +18,7 @@ returns c =
     let fits_line = c.before.before.before.before.before.fits_line in
     let if1 = c.before.before.before.before.if1 in
     let refuse = c.before.before.refuse in
-    let found = first-long _ (sym fits_line.ensures ∙ not_true _ if1.true) in
+    let found = first-long _ (sym fits_line.ensures ∙ not-true _ if1.true) in
     opens_ended _ _ _ _ _ _ _ _ _ _ found.0 found.1 refuse.ensures.0 refl refuse.ensures.1.0 refuse.ensures.1.1
 
 refuse-requires-2 : tie.Need-refuse-requires-2

@@ -1,7 +1,7 @@
 -- `text_forms::line::parse_reference` meets its contract. Assumes nothing.
 use mathlib.Core.Path.{sym, ◌∙◌}
 use borrow.Author.Rules.{rules}
-use borrow.Author.Tests.{not_true, not-false}
+use borrow.Author.Tests.{not-true, not-false}
 use Rattle.rules.specs.Bytes.{bytes}
 use Rattle.text_numbers.specs.Views.{number_next}
 use Rattle.text_forms.proofs.Answers.{within}
@@ -11,7 +11,7 @@ use Rattle.text_forms.proofs.line.parse_reference.Statement.{statement}
 use Rattle.text_forms.proofs.line.parse_reference.Tie as tie
 
 returns : tie.Need-returns
-returns c = (reference-not c.before.before.before.before.args.line.now _ c.before.starts_with.ensures (not_true _ c.if1.true), search rules)
+returns c = (reference-not c.before.before.before.before.args.line.now _ c.before.starts_with.ensures (not-true _ c.if1.true), search rules)
 
 parse-spaced-requires : tie.Need-parse-spaced-requires
 parse-spaced-requires c κs = starts_long (bytes "ref ") c.before.before.before.before.args.line.now (sym c.before.starts_with.ensures ∙ not-false _ c.if1.false)
@@ -38,7 +38,7 @@ part-are-capitals-start : tie.Need-slice-bounds-are-capitals-start
 part-are-capitals-start c = within number_next c.before.c.given.1 c.before.before.before.parse-spaced3.ensures.1
 
 returns-5 : tie.Need-returns-5
-returns-5 c = (reference-no-letters c.before.before.before.before.before.before.before.before.before.before.before.before.before.before.before.before.before.before.before.args.line.now _ c.before.before.before.before.before.before.before.before.before.before.before.before.before.before.before.before.starts_with.ensures (not-false _ c.before.before.before.before.before.before.before.before.before.before.before.before.before.before.before.if1.false) _ c.before.before.before.before.before.before.before.before.before.before.before.before.before.before.parse-spaced.ensures.0 _ _ c.before.before.before.before.before.before.before.before.before.before.before.before.a.given.1 _ c.before.before.before.before.before.before.before.before.before.before.parse-spaced2.ensures.0 _ _ c.before.before.before.before.before.before.before.before.b.given.1 _ c.before.before.before.before.before.before.parse-spaced3.ensures.0 _ _ c.before.before.before.before.c.given.1 _ c.before.are-capitals.ensures (not_true _ c.if2.true), search rules)
+returns-5 c = (reference-no-letters c.before.before.before.before.before.before.before.before.before.before.before.before.before.before.before.before.before.before.before.args.line.now _ c.before.before.before.before.before.before.before.before.before.before.before.before.before.before.before.before.starts_with.ensures (not-false _ c.before.before.before.before.before.before.before.before.before.before.before.before.before.before.before.if1.false) _ c.before.before.before.before.before.before.before.before.before.before.before.before.before.before.parse-spaced.ensures.0 _ _ c.before.before.before.before.before.before.before.before.before.before.before.before.a.given.1 _ c.before.before.before.before.before.before.before.before.before.before.parse-spaced2.ensures.0 _ _ c.before.before.before.before.before.before.before.before.b.given.1 _ c.before.before.before.before.before.before.parse-spaced3.ensures.0 _ _ c.before.before.before.before.c.given.1 _ c.before.are-capitals.ensures (not-true _ c.if2.true), search rules)
 
 returns-6 : tie.Need-returns-6
 returns-6 c = (reference-is c.before.before.before.before.before.before.before.before.before.before.before.before.before.before.before.before.before.before.before.args.line.now _ c.before.before.before.before.before.before.before.before.before.before.before.before.before.before.before.before.starts_with.ensures (not-false _ c.before.before.before.before.before.before.before.before.before.before.before.before.before.before.before.if1.false) _ c.before.before.before.before.before.before.before.before.before.before.before.before.before.before.parse-spaced.ensures.0 _ _ c.before.before.before.before.before.before.before.before.before.before.before.before.a.given.1 _ c.before.before.before.before.before.before.before.before.before.before.parse-spaced2.ensures.0 _ _ c.before.before.before.before.before.before.before.before.b.given.1 _ c.before.before.before.before.before.before.parse-spaced3.ensures.0 _ _ c.before.before.before.before.c.given.1 _ c.before.are-capitals.ensures (not-false _ c.if2.false), within number_next c.before.before.before.before.c.given.1 c.before.before.before.before.before.before.parse-spaced3.ensures.1)

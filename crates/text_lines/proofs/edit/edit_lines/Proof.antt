@@ -3,7 +3,7 @@ use mathlib.Core.Path.{refl, ◌∙◌}
 use Prim.Native.Nat.{◌-◌}
 use native.Mathlib.Omega.{arith}
 use borrow.Rule.Slice.PartMut.{same_len_mid}
-use borrow.Author.Tests.{not_true, not-false}
+use borrow.Author.Tests.{not-true, not-false}
 use lib.ListN.{length, take}
 use Rattle.rules.specs.Views.{bare}
 use Rattle.text_answers.specs.Stage.{editing}
@@ -73,7 +73,7 @@ same-length-4 c =
 returns : tie.Need-returns invariant-loop decreases-loop
 returns c =
     let edit-line = c.before.before.before.before.before.before.before.before.before.before.before.before.edit-line in
-    (edit-line.ensures.0, stopped _ _ _ _ _ _ _ _ _ _ _ c.before.before.before.before.before.before.before.before.before.before.before.before.before.before.before.before.before.before.before.loop.invariant.0 edit-line.result.held _ _ edit-line.new.1.0 _ edit-line.ensures.1.0 (edit-line.ensures.1.1.1 (not_true _ c.if1.true)))
+    (edit-line.ensures.0, stopped _ _ _ _ _ _ _ _ _ _ _ c.before.before.before.before.before.before.before.before.before.before.before.before.before.before.before.before.before.before.before.loop.invariant.0 edit-line.result.held _ _ edit-line.new.1.0 _ edit-line.ensures.1.0 (edit-line.ensures.1.1.1 (not-true _ c.if1.true)))
 
 loop-less : tie.Need-loop-smaller invariant-loop decreases-loop
 loop-less c = omega (arith, c.before.before.before.before.before.before.before.before.before.before.before.before.edit-line.ensures.1.1.0 (not-false _ c.if1.false), c.before.before.before.before.before.before.before.before.before.before.before.before.before.before.before.before.before.before.loop-test.true)

@@ -4,7 +4,7 @@ use mathlib.Core.Bool.{true}
 use Prim.Native.Nat.{◌-◌, ◌%◌}
 use native.Mathlib.Omega.{arith}
 use borrow.Author.Rules.{rules}
-use borrow.Author.Tests.{not_true, not-false}
+use borrow.Author.Tests.{not-true, not-false}
 use lib.ListN.{length}
 use lib.Seq.{length-take-le}
 use Rattle.rules.specs.Translation.{exception_list, whole_codons, fold_to_letters, residue_count, folded_translated, translation}
@@ -24,7 +24,7 @@ returns-2 : tie.Need-returns-2
 returns-2 c =
     let args = c.before.before.before.before.before.args in
     let taken = c.before.are-exceptions in
-    refuses (translation args.table (exception_list args.e) args.full args.seq.now (length args.out.now)) 5 args.out.now (not-allowed args.table (exception_list args.e) args.full args.seq.now (length args.out.now) c.before.before.if1.false (sym taken.ensures.0 ∙ not_true taken.result c.if2.true))
+    refuses (translation args.table (exception_list args.e) args.full args.seq.now (length args.out.now)) 5 args.out.now (not-allowed args.table (exception_list args.e) args.full args.seq.now (length args.out.now) c.before.before.if1.false (sym taken.ensures.0 ∙ not-true taken.result c.if2.true))
 
 returns-3 : tie.Need-returns-3
 returns-3 c =
@@ -60,7 +60,7 @@ returns-5 c =
     let taken = c.before.before.before.before.before.before.before.before.before.are-exceptions in
     let some = not-false taken.result c.before.before.before.before.before.before.before.before.if2.false in
     let letters = c.before.are-letters in
-    refuses (translation args.table (exception_list args.e) args.full args.seq.now (length args.out.now)) 2 args.out.now (no-letter args.table (exception_list args.e) args.full args.seq.now (length args.out.now) c.before.before.before.before.before.before.before.before.before.before.if1.false (sym taken.ensures.0 ∙ some) c.before.before.before.before.before.before.before.if3.false (omega (arith, c.before.before.before.before.before.if4.false, c.before.before.before.before.before.before.thirds.ensures)) (sym letters.ensures ∙ not_true letters.result c.if5.true))
+    refuses (translation args.table (exception_list args.e) args.full args.seq.now (length args.out.now)) 2 args.out.now (no-letter args.table (exception_list args.e) args.full args.seq.now (length args.out.now) c.before.before.before.before.before.before.before.before.before.before.if1.false (sym taken.ensures.0 ∙ some) c.before.before.before.before.before.before.before.if3.false (omega (arith, c.before.before.before.before.before.if4.false, c.before.before.before.before.before.before.thirds.ensures)) (sym letters.ensures ∙ not-true letters.result c.if5.true))
 
 write-translated-requires : tie.Need-write-translated-requires
 unfolding whole_codons fold_to_letters fold_to_bases residue_count

@@ -3,7 +3,7 @@ use mathlib.Core.Path.{◌≡◌, refl, sym, ap, ◌∙◌}
 use Prim.Native.Nat.{ℕ, ◌+◌, ◌-◌}
 use native.Mathlib.Omega.{arith}
 use borrow.Author.Rules.{rules}
-use borrow.Author.Tests.{not_true, not-false}
+use borrow.Author.Tests.{not-true, not-false}
 use lib.ListN.{length, drop, get_or}
 use Rattle.rules.specs.Number.{is_digit}
 use Rattle.vectors_calls.specs.Fields.{with_digit, number_from, number_in}
@@ -19,7 +19,7 @@ decreases-loop s from n₀ i₀ n i = length s - i
 
 returns : tie.Need-returns invariant-loop decreases-loop
 unfolding number_in
-returns c = sym (number-stop c.before.before.before.before.loop.n c.before.before.before.before.before.before.args.s.now c.before.before.before.before.loop.i c.before.before.before.loop-test.true (sym c.before.is_digit.ensures ∙ not_true _ c.if1.true)) ∙ c.before.before.before.before.loop.invariant
+returns c = sym (number-stop c.before.before.before.before.loop.n c.before.before.before.before.before.before.args.s.now c.before.before.before.before.loop.i c.before.before.before.loop-test.true (sym c.before.is_digit.ensures ∙ not-true _ c.if1.true)) ∙ c.before.before.before.before.loop.invariant
 
 sub_wide : tie.Need-overflow-sub-wide invariant-loop decreases-loop
 sub_wide c = digit_low _ (sym c.before.is_digit.ensures ∙ not-false _ c.if1.false)

@@ -1,0 +1,31 @@
+// Bytes that are copied to a buffer's start, and the first place of a byte.
+#![tactic(auto)]
+
+ghost use Rattle.std.specs.Prelude.{◌≡◌, ◌+◌, ◌≤◌, ◌++◌, length, take, drop};
+ghost use Rattle.bytewise.specs.Find.{index_of, slice};
+
+// Copies src to dst's start, and answers how many bytes that were.
+pub fn copy(src: &[u8], dst: &mut [u8]) -> usize
+    requires { length src.now ≤ length dst.old }
+    ensures count { result ≡ length src.now }
+    ensures after { dst.new ≡ take (length src.now) src.now ++ drop (length src.now) dst.old }
+{
+    let n = src.len();
+    dst[..n].copy_from_slice(src);
+    n
+}
+
+// The place of the first b from `from` on, or `to` where there is none before it.
+pub fn find(s: &[u8], from: usize, to: usize, b: u8) -> usize
+    requires rising { from ≤ to }
+    requires inside { to ≤ length s.now }
+    ensures value { result ≡ from + index_of b (slice from to s.now) }
+    ensures bound { result ≤ to }
+{
+    for i in from..to {
+        if s[i] == b {
+            return i;
+        }
+    }
+    to
+}
