@@ -4,7 +4,7 @@
 mod pair;
 
 ghost use Rattle.std.specs.Prelude.{◌+◌, ◌-◌, ◌≤◌, ◌≡◌};
-ghost use Rattle.rules.specs.Bytes.{first_of};
+ghost use Rattle.rules.specs.Bytes.{first_number};
 ghost use Rattle.rules.specs.Refusal.{room_tests};
 ghost use Rattle.reference.specs.Bounds.{Bounded};
 
@@ -22,7 +22,7 @@ pub fn room_refusal(
 ) -> usize
     requires bounded { Bounded c }
     requires cs_in_bounds { c.cs - 1 ≤ length }
-    ensures { result ≡ first_of (room_tests (c.ce + 1 - c.cs) c.cs length (record { transcript = transcript; reference = reference; altered = altered })) }
+    ensures { result ≡ first_number (room_tests (c.ce + 1 - c.cs) c.cs length (record { transcript = transcript; reference = reference; altered = altered })) }
 {
     let front = c.cs - 1;
     if transcript < length {

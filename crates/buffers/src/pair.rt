@@ -1,6 +1,6 @@
 // The same of two edits, whose answer has two buffers.
 ghost use Rattle.std.specs.Prelude.{◌≡◌, ◌-◌, ◌≤◌};
-ghost use Rattle.rules.specs.Bytes.{first_of};
+ghost use Rattle.rules.specs.Bytes.{first_number};
 ghost use Rattle.rules.specs.Pair.{pair_room_tests};
 ghost use Rattle.reference.specs.Bounds.{Bounded};
 
@@ -11,7 +11,7 @@ use rules::Cds;
 pub fn pair_room_refusal(c: Cds, length: usize, transcript: usize, altered: usize) -> usize
     requires bounded { Bounded c }
     requires cs_in_bounds { c.cs - 1 ≤ length }
-    ensures { result ≡ first_of (pair_room_tests c.cs length (record { transcript = transcript; altered = altered })) }
+    ensures { result ≡ first_number (pair_room_tests c.cs length (record { transcript = transcript; altered = altered })) }
 {
     if transcript < length {
         return 11;

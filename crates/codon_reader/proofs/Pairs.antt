@@ -16,7 +16,7 @@ use Rattle.letters.proofs.Listed.{listed, at_each}
 use Rattle.letters.proofs.Sets.{and_left, and_right}
 use Rattle.codons.specs.Tables.{HoldsPlain}
 use Rattle.mixes.specs.Mixes.{joined}
-use Rattle.codon_reader.specs.Pairs.{is_base_set, first_number, are_all, agreed_on, pair_rule, two_pairs, mixed_rule}
+use Rattle.codon_reader.specs.Pairs.{is_base_set, first_residue, are_all, agreed_on, pair_rule, two_pairs, mixed_rule}
 
 -- two bases, at the place pair * 16 + third set: as they are read, and by the rule; an empty third set is left out
 abbrev read_at : ℕ → ℕ → ℕ
@@ -58,10 +58,10 @@ third_read t code holds pair c hp hc =
     (agreed_third t pair c hp hc)
 
 -- all agree with the first, or one does not
-pub agreed-same : (a c t g s r : ℕ) → r ≡ first_number a c t g s → are_all r c t g s ≡ true → r ≡ agreed_on a c t g s
+pub agreed-same : (a c t g s r : ℕ) → r ≡ first_residue a c t g s → are_all r c t g s ≡ true → r ≡ agreed_on a c t g s
 agreed-same a c t g s r e h = rw (rw e at h) e
 
-pub agreed_not : (a c t g s r : ℕ) → r ≡ first_number a c t g s → are_all r c t g s ≡ false → residue_x ≡ agreed_on a c t g s
+pub agreed_not : (a c t g s r : ℕ) → r ≡ first_residue a c t g s → are_all r c t g s ≡ false → residue_x ≡ agreed_on a c t g s
 agreed_not a c t g s r e h = rw (rw e at h)
 
 -- a mixed pair with no pairs of bases, and with two

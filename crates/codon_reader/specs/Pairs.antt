@@ -11,8 +11,8 @@ abbrev pub is_base_set : ℕ → Bool
 is_base_set s = ((eqb s 1 || eqb s 2) || eqb s 4) || eqb s 8
 
 -- of the residues with A, C, T and G as the third base: that of the first base of a set, in the order A, C, G, T
-abbrev pub first_number : ℕ → ℕ → ℕ → ℕ → ℕ → ℕ
-first_number a c t g s =
+abbrev pub first_residue : ℕ → ℕ → ℕ → ℕ → ℕ → ℕ
+first_residue a c t g s =
     if eqb (s % 2) 1 then a
     else if eqb (s / 2 % 2) 1 then c
     else if eqb (s / 4 % 2) 1 then g
@@ -24,7 +24,7 @@ are_all r c t g s = ((eqb (s / 2 % 2) 0 || eqb c r) && (eqb (s / 4 % 2) 0 || eqb
 
 -- the one residue that all bases of the set give, else X
 abbrev pub agreed_on : ℕ → ℕ → ℕ → ℕ → ℕ → ℕ
-agreed_on a c t g s = if are_all (first_number a c t g s) c t g s then first_number a c t g s else residue_x
+agreed_on a c t g s = if are_all (first_residue a c t g s) c t g s then first_residue a c t g s else residue_x
 
 -- the residue of two bases, by the numbers of their letters, and a third letter's set
 unfoldable pub pair_rule : ℕ → ℕ → ℕ → ℕ

@@ -5,7 +5,7 @@ ghost use Rattle.std.specs.Prelude.{◌≡◌, ◌-◌, ◌<◌, ◌≤◌, get_
 ghost use Rattle.rules.specs.Codons.{genetic_code, residue_x, codon_rule};
 ghost use Rattle.codons.specs.Tables.{HoldsPlain};
 ghost use Rattle.codon_reader.specs.Expansion.{codon_count, expanded, joined_all};
-ghost use Rattle.codon_reader.specs.Pairs.{is_base_set, first_of, agreed_on, pair_rule, two_pairs, mixed_rule};
+ghost use Rattle.codon_reader.specs.Pairs.{is_base_set, first_residue, agreed_on, pair_rule, two_pairs, mixed_rule};
 
 use mixes::join;
 
@@ -78,7 +78,7 @@ fn is_base_set(s: usize) -> bool
 
 // Of the residues with A, C, T and G as the third base: that of the first base, in the order A, C, G, T, that the third letter stands for.
 fn first_of(a: u8, c: u8, t: u8, g: u8, third: usize) -> u8
-    ensures { result ≡ first_of a c t g third }
+    ensures { result ≡ first_residue a c t g third }
 {
     if third % 2 == 1 {
         return a;

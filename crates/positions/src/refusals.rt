@@ -1,6 +1,6 @@
 // "Refusal numbers": 7 to 10, over both positions. Of the transcript only its length plays a part.
 ghost use Rattle.std.specs.Prelude.{ℕ, ◌≡◌, false, List, length};
-ghost use Rattle.rules.specs.Bytes.{first_of};
+ghost use Rattle.rules.specs.Bytes.{first_number};
 ghost use Rattle.rules.specs.Position.{is_outside};
 ghost use Rattle.rules.specs.Edit.{kind_number, is, ends_past, is_misplaced, is_disordered, is_out_of_cds, are_new_bases, fit_bases, edit_tests};
 ghost use Rattle.rules.specs.declared.Kind.TheVariants.{Substitution, Insertion, Duplication};
@@ -139,7 +139,7 @@ fn is_out_of_cds(edit: Edit) -> bool
 // The lowest of 7 to 10 that applies, or 0.
 pub fn edit_refusal(size: usize, c: Cds, most: usize, edit: Edit, new: &[u8]) -> usize
     requires { Bounded c }
-    ensures { (s : List ℕ) → length s ≡ size → result ≡ first_of (edit_tests most (bare s c) (asked edit new.now)) }
+    ensures { (s : List ℕ) → length s ≡ size → result ≡ first_number (edit_tests most (bare s c) (asked edit new.now)) }
 {
     if is_misplaced(size, c, edit) {
         return 7;

@@ -3,7 +3,7 @@
 #![tactic(auto)]
 
 ghost use Rattle.std.specs.Prelude.{◌≡◌, List, ℕ};
-ghost use Rattle.rules.specs.Bytes.{first_of};
+ghost use Rattle.rules.specs.Bytes.{first_number};
 ghost use Rattle.rules.specs.Edit.{is};
 ghost use Rattle.rules.specs.declared.Kind.TheVariants.{Substitution};
 ghost use Rattle.rules.specs.Packed.{letters_by};
@@ -89,7 +89,7 @@ fn is_naming(kind: Kind) -> bool
 
 // The lowest of 40 to 43, by what the four tests say, or 0.
 fn first_refusal(bases: bool, of_panel: bool, uneven: bool, names: bool) -> usize
-    ensures { result ≡ first_of (tests_by bases of_panel uneven names) }
+    ensures { result ≡ first_number (tests_by bases of_panel uneven names) }
 {
     if !bases {
         return 40;
@@ -109,7 +109,7 @@ fn first_refusal(bases: bool, of_panel: bool, uneven: bool, names: bool) -> usiz
 // The lowest of 40 to 43 that applies, or 0.
 pub fn profile_refusal(letters: &[u8], known: Known, edit: Edit, new: &[u8], named: usize) -> usize
     requires { Editable (letters_by known.form letters.now) known (asked edit new.now) }
-    ensures { result ≡ first_of (profile_tests (bare (letters_by known.form letters.now) known.cds) (asked edit new.now) named) }
+    ensures { result ≡ first_number (profile_tests (bare (letters_by known.form letters.now) known.cds) (asked edit new.now) named) }
 {
     let form = known.form;
     let c = known.cds;
