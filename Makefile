@@ -9,11 +9,11 @@ VERSION = $(shell sed -n 's/^\#define GARUMBOTT_VERSION "\(.*\)"/\1/p' include/g
 root = $(DESTDIR)$(PREFIX)
 
 lib:
-	rt staticlib garumbott
+	tools/archive
 
 # The archive is proved and built here only where there is none.
 $(ARCHIVE):
-	rt staticlib garumbott
+	tools/archive
 
 install: $(ARCHIVE)
 	install -d '$(root)/lib/pkgconfig' '$(root)/include'

@@ -94,11 +94,12 @@ def progress():
             put("here/annotate", f.read())
         put("here/crates.txt", "# in no order\nannotate: b c libc\nc: b # of c\n\nb: a\na:\nother: a\n")
         put("here/crates/a/src/lib.rt", "")
-        put("kit/bin/rt", '#!/bin/sh\nfor n in a b c annotate; do echo "fn $n::f: proved"; [ $n = b ] || sleep 2; echo "rt: $n proved (2 s)"; done\n'
-            'echo "rt: ok, 4 crates proved"; [ ! -e broken ] || exit 1; mkdir -p target/bin; echo built >target/bin/annotate\n')
-        put(f"kit/on/{os.uname().machine}/toolchain/lib/ld-linux-x86-64.so.2", "#!/bin/sh\ncat\n")
+        put("here/crates/annotate/src/main.rt", "")
+        put("kit/bin/rt", '#!/bin/sh\n[ "$* in ${PWD##*/}" = "run in annotate" ] || exit 2\n'
+            'for n in a b c annotate; do echo "fn $n::f: proved"; [ $n = b ] || sleep 2; echo "crate $n: modules loaded=9 checked=9"; echo "logic=proved functions=1"; done\n'
+            '[ ! -e ../../broken ] || exit 1; mkdir -p out; printf "#!/bin/sh\\ncat\\n" >out/annotate; chmod 755 out/annotate\n')
+        put("kit/bin/qemu-x86_64", "#!/bin/sh\ncat\n")
         words, more = [os.path.join(room, "here/annotate")], dict(input=b"line\n", capture_output=True, env={**os.environ, "PATH": f"{room}/kit/bin:{os.environ['PATH']}"})
-        more["env"].pop("RATTLE_HOME", None)
         started = b"annotate: proving and building the program; this takes some minutes the first time\n"
         steps = b"annotate: proving a, 1 of 4\nannotate: proving c, 3 of 4\nannotate: proving annotate, 4 of 4\n"
         first = subprocess.run(words, **more)

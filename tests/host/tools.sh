@@ -17,21 +17,19 @@ need() { # COMMAND PACKAGE..
   { apt-get install -y -qq "$@" || { apt-get update -qq && apt-get install -y -qq "$@"; }; } >/dev/null 2>&1 </dev/null || fail "can't install $*"
 }
 
-rt=$(command -v rt) || fail "the Rattle toolchain is missing: its command rt is not on the PATH"
+command -v rt >/dev/null || fail "the Rattle toolchain is missing: its command rt is not on the PATH"
 if [ "$(uname -m)" = x86_64 ]; then
   need gcc gcc libc6-dev
 else
   need x86_64-linux-gnu-gcc gcc-x86-64-linux-gnu libc6-dev-amd64-cross
   cc=x86_64-linux-gnu-gcc nm=x86_64-linux-gnu-nm static=-static cxx=x86_64-linux-gnu-g++ cxx_package=g++-x86-64-linux-gnu
-  emulator=${RATTLE_HOME:-$(dirname "$(dirname "$(readlink -f "$rt")")")}/on/$(uname -m)/toolchain/bin/qemu-x86_64
-  if [ ! -x "$emulator" ]; then
-    need qemu-x86_64 qemu-user
-    emulator=qemu-x86_64
-  fi
+  need qemu-x86_64 qemu-user
+  emulator=qemu-x86_64
 fi
 
-if [ ! -e $archive ] || [ -n "$(find crates.txt crates -type f -newer $archive -print -quit)" ]; then
+# what rt makes, in folders out, is no source
+if [ ! -e $archive ] || [ -n "$(find crates.txt crates -type d -name out -prune -o -type f -newer $archive -print -quit)" ]; then
   log=$(mktemp) || exit 1
-  rt staticlib garumbott >"$log" 2>&1 || { tail -n 5 "$log"; rm -f "$log"; fail "the library was not proved"; }
+  tools/archive >"$log" 2>&1 || { tail -n 5 "$log"; rm -f "$log"; fail "the library was not proved"; }
   rm -f "$log"
 fi

@@ -2,7 +2,6 @@
 wrong. The account of the documents (tests/account) must say the same. Prints what was tried; exits 1 if something differs."""
 import os
 import random
-import shutil
 import signal
 import subprocess
 import sys
@@ -210,15 +209,14 @@ def building():
                 f.write(text)
             os.chmod(path, 0o755)
 
-        for name in ("check-records", "tools/check-records.c", "tools/lines.h", "include/garumbott.h"):
+        for name in ("check-records", "tools/archive", "tools/check-records.c", "tools/lines.h", "include/garumbott.h"):
             with open(name, encoding="utf-8") as f:
                 put(f"here/{name}", f.read())
         put("here/crates.txt", "garumbott:\n")
         put("here/crates/garumbott/src/lib.rt", "")
-        put("kit/bin/rt", '#!/bin/sh\n[ "$*" = "staticlib garumbott" ] || exit 2\n[ ! -e broken ] || { echo "a wrong proof"; exit 1; }\n'
-            f'mkdir -p target/staticlib && cp "{os.path.abspath("target/staticlib/libgarumbott.a")}" target/staticlib/\n')
-        real = os.path.dirname(os.path.dirname(os.path.realpath(shutil.which("rt"))))
-        env = {"RATTLE_HOME": real, **os.environ, "PATH": f"{room}/kit/bin:{os.environ['PATH']}"}
+        put("kit/bin/rt", '#!/bin/sh\n[ "$* in ${PWD##*/}" = "lib in garumbott" ] || exit 2\n[ ! -e ../../broken ] || { echo "a wrong proof"; exit 1; }\n'
+            f'mkdir -p out && cp "{os.path.abspath("target/staticlib/libgarumbott.a")}" out/\n')
+        env = {**os.environ, "PATH": f"{room}/kit/bin:{os.environ['PATH']}"}
         ran = lambda: subprocess.run([os.path.join(room, "here/check-records")], input=W + b"8A>G 3 K R\n", capture_output=True, env=env)
         started, counted = b"check-records: proving the library and building the program; this takes some minutes the first time\n", b"check-records: 1 yes yes, 0 yes no, 0 no no\n"
         for what, before in (("a first run", started), ("a second run", b"")):

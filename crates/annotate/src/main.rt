@@ -2,8 +2,8 @@
 // has document 01's thirteen lines, lines that tell readings of it apart, long lines and some fourteen thousand random edits; the file stdout was written by an
 // account of document 01 in another language (tests/account).
 //
-// A program has no exit status: what went wrong is said on standard error, in a line that begins with `error: `, and the script ./annotate makes a
-// status of it. A line that begins with `hint: ` is for the reader alone.
+// What went wrong is said on standard error, in a line that begins with `error: `, and the exit status is 1; where nobody reads the answers any more, it is
+// 141 and nothing is said. A line that begins with `hint: ` is for the reader alone.
 #![tactic(auto)]
 
 mod says;
@@ -14,20 +14,34 @@ ghost use Rattle.text_gather.specs.Steps.{after, Steps};
 ghost use Rattle.text_lines.specs.Memory.{stage_of, Rooms, Keeps};
 ghost use Rattle.annotate.specs.Turns.{piece_room, next_by, is_read, Turned};
 
-use libc::{STDIN_FILENO, STDOUT_FILENO};
 use rules::Written;
 use says::{hint_return, say_unread, say_unwritten};
+use std::io::{ErrorKind, Read, Stderr, Stdin, Stdout, Write};
+use std::process::ExitCode;
 use text_answers::{LETTERS, LINE, PROTEIN};
 use text_lines::{State, Stepped};
 
 // What is read and written at once.
 const PIECE: usize = 65536;
 
-// The state behind a piece of input, and whether its answers were written.
+// The exit status where something went wrong, and a shell's for a program that a broken pipe has ended.
+const FAILED: u8 = 1;
+
+const CLOSED: u8 = 141;
+
+// Whether bytes were written, and whether they weren't because nobody reads them any more.
+#[derive(Clone, Copy)]
+struct Sent {
+    written: bool,
+    closed: bool,
+}
+
+// The state behind a piece of input, whether its answers were written, and whether nobody reads them any more.
 #[derive(Clone, Copy)]
 struct Ran {
     state: State,
     written: bool,
+    closed: bool,
 }
 
 // What comes behind a read: another; the answer to the last line, at the input's end; nothing, behind a refused first line; or the read or a write
@@ -41,23 +55,39 @@ enum Next {
     Unwritten,
 }
 
-// The state behind `came` bytes that were read.
+// The state behind `came` bytes that were read, and whether nobody reads the answers any more.
 #[derive(Clone, Copy)]
 struct Turn {
     state: State,
     came: usize,
     next: Next,
+    closed: bool,
 }
 
-// A step over a piece, and whether what it put out was written.
+// A step over a piece, whether what it put out was written, and whether nobody reads that any more.
 #[derive(Clone, Copy)]
 struct Put {
     stepped: Stepped,
     written: bool,
+    closed: bool,
+}
+
+fn send(stdout: &mut Stdout, bytes: &[u8]) -> Sent {
+    match stdout.write_all(bytes) {
+        Ok(()) => Sent {
+            written: true,
+            closed: false,
+        },
+        Err(e) => Sent {
+            written: false,
+            closed: matches!(e.kind(), ErrorKind::BrokenPipe),
+        },
+    }
 }
 
 // Answers as much of a piece as there is room for, and writes the answers out.
 fn put_some(
+    stdout: &mut Stdout,
     state: State,
     line: &mut [u8],
     letters: &mut [u8],
@@ -73,12 +103,17 @@ fn put_some(
 {
     let stepped = text_lines::step(state, line, letters, protein, input, out);
     let used = stepped.used;
-    let written = io::write_all(STDOUT_FILENO, &out[..used]);
-    Put { stepped, written }
+    let sent = send(stdout, &out[..used]);
+    Put {
+        stepped,
+        written: sent.written,
+        closed: sent.closed,
+    }
 }
 
 // Answers a piece of input, and writes the answers out whenever the output is full and at the piece's end.
 fn run_piece(
+    stdout: &mut Stdout,
     state: State,
     line: &mut [u8],
     letters: &mut [u8],
@@ -95,7 +130,7 @@ fn run_piece(
     let mut reached = state;
     let mut at = 0;
     while at < input.len() {
-        let put = put_some(reached, line, letters, protein, &input[at..], out);
+        let put = put_some(stdout, reached, line, letters, protein, &input[at..], out);
         let stepped = put.stepped;
         reached = stepped.state;
         at = at + stepped.taken;
@@ -103,12 +138,14 @@ fn run_piece(
             return Ran {
                 state: reached,
                 written: false,
+                closed: put.closed,
             };
         }
     }
     Ran {
         state: reached,
         written: true,
+        closed: false,
     }
 }
 
@@ -127,6 +164,8 @@ fn next_of(state: State, written: bool) -> Next
 
 // Reads once, and answers what came. A read that fails ends the run: what came before it is written.
 fn run_once(
+    stdin: &mut Stdin,
+    stdout: &mut Stdout,
     state: State,
     line: &mut [u8],
     letters: &mut [u8],
@@ -141,28 +180,29 @@ fn run_once(
     ensures came_in_bounds { result.came ≤ length input.new }
     ensures turned { Turned result.next (stage_of state line.old letters.old) (stage_of result.state line.new letters.new) (take result.came input.new) }
 {
-    let got = libc::read(STDIN_FILENO, input);
-    if got < 0 {
-        return Turn {
+    match stdin.read(input) {
+        Err(_) => Turn {
             state,
             came: 0,
             next: Next::Unread,
-        };
-    }
-    if got == 0 {
-        return Turn {
+            closed: false,
+        },
+        Ok(0) => Turn {
             state,
             came: 0,
             next: Next::Finish,
-        };
-    }
-    let came = io::count(got, input);
-    let ran = run_piece(state, line, letters, protein, &input[..came], out);
-    let reached = ran.state;
-    Turn {
-        state: reached,
-        came,
-        next: next_of(reached, ran.written),
+            closed: false,
+        },
+        Ok(came) => {
+            let ran = run_piece(stdout, state, line, letters, protein, &input[..came], out);
+            let reached = ran.state;
+            Turn {
+                state: reached,
+                came,
+                next: next_of(reached, ran.written),
+                closed: ran.closed,
+            }
+        }
     }
 }
 
@@ -181,6 +221,8 @@ fn is_read(next: Next) -> bool
 // Reads and answers to the end. A proved loop has to end, and nothing says that the input does: the loop counts its turns down, from a number that no
 // run uses up.
 fn run_reads(
+    stdin: &mut Stdin,
+    stdout: &mut Stdout,
     line: &mut [u8],
     letters: &mut [u8],
     protein: &mut [u8],
@@ -195,11 +237,12 @@ fn run_reads(
         state: text_lines::start(),
         came: 0,
         next: Next::Read,
+        closed: false,
     };
     let mut turns = u64::MAX;
     while turns > 0 {
         let state = turn.state;
-        turn = run_once(state, line, letters, protein, input, out);
+        turn = run_once(stdin, stdout, state, line, letters, protein, input, out);
         let next = turn.next;
         if !is_read(next) {
             return turn;
@@ -209,44 +252,94 @@ fn run_reads(
     turn
 }
 
-// Answers a last line that no line feed ends.
-fn run_last(state: State, line: &mut [u8], letters: &mut [u8], protein: &mut [u8], out: &mut [u8])
+// Says that answers are missing, unless nobody reads them any more, and gives the exit status.
+fn end_unwritten(stderr: &mut Stderr, closed: bool) -> u8 {
+    if closed {
+        return CLOSED;
+    }
+    say_unwritten(stderr);
+    FAILED
+}
+
+// Answers a last line that no line feed ends, and gives the exit status.
+fn run_last(
+    stdout: &mut Stdout,
+    stderr: &mut Stderr,
+    state: State,
+    line: &mut [u8],
+    letters: &mut [u8],
+    protein: &mut [u8],
+    out: &mut [u8],
+) -> u8
     requires rooms { Rooms line.old letters.old protein.old }
     requires keeps { Keeps state letters.old protein.old }
 {
     match text_lines::finish(state, line, letters, protein, out) {
-        Written::Refused(_) => say_unwritten(),
+        Written::Refused(_) => end_unwritten(stderr, false),
         Written::Bytes(n) => {
-            if !io::write_all(STDOUT_FILENO, &out[..n]) {
-                say_unwritten();
+            let sent = send(stdout, &out[..n]);
+            if sent.written {
+                return 0;
             }
+            end_unwritten(stderr, sent.closed)
         }
     }
 }
 
-// What comes behind the last read.
-fn end_run(turn: Turn, line: &mut [u8], letters: &mut [u8], protein: &mut [u8], out: &mut [u8])
+// What comes behind the last read, and the exit status.
+fn end_run(
+    stdout: &mut Stdout,
+    stderr: &mut Stderr,
+    turn: Turn,
+    line: &mut [u8],
+    letters: &mut [u8],
+    protein: &mut [u8],
+    out: &mut [u8],
+) -> u8
     requires rooms { Rooms line.old letters.old protein.old }
     requires keeps { Keeps turn.state letters.old protein.old }
 {
     let state = turn.state;
     let next = turn.next;
-    hint_return(state, line);
+    hint_return(stderr, state, line);
     match next {
-        Next::Read => {}
-        Next::Finish => run_last(state, line, letters, protein, out),
-        Next::Stop => {}
-        Next::Unread => say_unread(),
-        Next::Unwritten => say_unwritten(),
+        Next::Read => 0,
+        Next::Finish => run_last(stdout, stderr, state, line, letters, protein, out),
+        Next::Stop => 0,
+        Next::Unread => {
+            say_unread(stderr);
+            FAILED
+        }
+        Next::Unwritten => end_unwritten(stderr, turn.closed),
     }
 }
 
-fn main() {
+fn main(rt: HostRuntime) -> ExitCode {
+    let mut stdin = rt.stdin();
+    let mut stdout = rt.stdout();
+    let mut stderr = rt.stderr();
     let mut line = [0u8; LINE];
     let mut letters = [0u8; LETTERS];
     let mut protein = [0u8; PROTEIN];
     let mut input = [0u8; PIECE];
     let mut out = [0u8; PIECE];
-    let turn = run_reads(&mut line, &mut letters, &mut protein, &mut input, &mut out);
-    end_run(turn, &mut line, &mut letters, &mut protein, &mut out);
+    let turn = run_reads(
+        &mut stdin,
+        &mut stdout,
+        &mut line,
+        &mut letters,
+        &mut protein,
+        &mut input,
+        &mut out,
+    );
+    let status = end_run(
+        &mut stdout,
+        &mut stderr,
+        turn,
+        &mut line,
+        &mut letters,
+        &mut protein,
+        &mut out,
+    );
+    ExitCode::from(status)
 }

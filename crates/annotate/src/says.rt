@@ -3,17 +3,22 @@ ghost use Rattle.std.specs.Prelude.{◌≡◌, List, ℕ, ◌≤◌, length};
 ghost use Rattle.text_lines.specs.Memory.{stage_of};
 ghost use Rattle.annotate.specs.Turns.{is_editing, ends_in_return};
 
-use libc::STDERR_FILENO;
+use std::io::{Stderr, Write};
 use text_answers::Phase;
 use text_lines::State;
 
-pub(crate) fn say_unread() {
-    io::write_all(STDERR_FILENO, b"error: standard input can't be read\n");
+// What can't be written there is let go: there is nowhere left to say it.
+fn say(stderr: &mut Stderr, line: &[u8]) {
+    let _ = stderr.write_all(line);
 }
 
-pub(crate) fn say_unwritten() {
-    io::write_all(
-        STDERR_FILENO,
+pub(crate) fn say_unread(stderr: &mut Stderr) {
+    say(stderr, b"error: standard input can't be read\n");
+}
+
+pub(crate) fn say_unwritten(stderr: &mut Stderr) {
+    say(
+        stderr,
         b"error: standard output can't be written: answers are missing\n",
     );
 }
@@ -41,7 +46,7 @@ fn ends_in_return(line: &[u8]) -> bool
 }
 
 // A first line that ends in a carriage return isn't in the form, and is held where it was refused: the file is likely another system's.
-pub(crate) fn hint_return(state: State, line: &[u8])
+pub(crate) fn hint_return(stderr: &mut Stderr, state: State, line: &[u8])
     requires { state.held ≤ length line.now }
 {
     let held = state.held;
@@ -49,8 +54,8 @@ pub(crate) fn hint_return(state: State, line: &[u8])
         return;
     }
     if ends_in_return(&line[..held]) {
-        io::write_all(
-            STDERR_FILENO,
+        say(
+            stderr,
             b"hint: the first line ends in a carriage return: a file with CR LF line ends?\n",
         );
     }

@@ -1,5 +1,5 @@
 -- The first place of a byte.
-use Rattle.std.specs.Prelude.{ℕ, zero, suc, ◌-◌, Bool, true, false, List, [], ◌∷◌, eqb, take, drop}
+use Rattle.std.specs.Prelude.{ℕ, suc, ◌-◌, Bool, true, false, List, [], ◌∷◌, eqb, take, drop}
 
 -- the bytes from..to
 abbrev pub slice : ℕ → ℕ → List ℕ → List ℕ

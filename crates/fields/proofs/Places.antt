@@ -8,8 +8,6 @@ use native.Mathlib.Omega.{arith}
 use lib.Dec.{leb}
 use lib.ListN.{length, take, drop, length-drop}
 use lib.Seq.{length-take-le, drop-drop}
-use denote.Enum.Declared.{tag_of}
-use types.Run.{OneOf, miss}
 use borrow.Author.Tests.{leb-true, eq-eqb, ne_eqb}
 use Rattle.rules.specs.declared.Part.{Part}
 use Rattle.rules.specs.Bytes.{if◌then◌else◌}
@@ -20,17 +18,10 @@ use Rattle.fields.specs.declared.reader.Field.{Field}
 use Rattle.fields.specs.declared.reader.Field.TheVariants.{Whole, Cut, End}
 use Rattle.fields.specs.declared.lookup.Content.TheVariants.{At, Missing}
 use Rattle.fields.specs.Places.{placed, field_at, Within, whole_then, whole_from, whole_fields, place_of, content_at}
-use Rattle.fields.specs.contracts.reader.Field.{the_type}
 
 pub length_of_part : (s : List ℕ) (p : Part) → p.at + p.len ≤ length s → length (part_of p s) ≡ p.len
 unfolding part_of
 length_of_part s p h = length-take-le p.len (drop p.at s) (omega (arith, length-drop p.at s))
-
--- a field that is cut off, or none
-pub not_whole : (f : Field) → OneOf (1 ∷ 2 ∷ []) (tag_of the_type f) → (t : ℕ) (p : Part) → f ≡ Whole t p → ⊥
-not_whole (Whole x q) h t p e = miss (1 ∷ 2 ∷ []) 0 tt h
-not_whole (Cut x) h t p e = let z : ◌≡◌ {A = ℕ} 0 1 = cc in omega arith
-not_whole End h t p e = let z : ◌≡◌ {A = ℕ} 0 1 = cc in omega arith
 
 -- bytes that begin with a whole field
 record Begins (s c r : List ℕ) : Type 0 where

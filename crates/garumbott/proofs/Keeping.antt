@@ -6,9 +6,9 @@ use Rattle.rules.specs.Bytes.{Result, given, refused}
 use Rattle.rules.specs.Reference.{Reference, size}
 use Rattle.rules.specs.Refusal.{limits}
 use Rattle.rules.specs.Stored.{read_reference}
-use Rattle.stored_fields.specs.declared.places.StoredAt.{StoredAt}
-use Rattle.stored_fields.specs.declared.places.Stored.{Stored}
-use Rattle.stored_fields.specs.declared.places.Stored.TheVariants.{Refused, At}
+use Rattle.stored_fields.specs.declared.field_places.StoredAt.{StoredAt}
+use Rattle.stored_fields.specs.declared.field_places.Stored.{Stored}
+use Rattle.stored_fields.specs.declared.field_places.Stored.TheVariants.{Refused, At}
 use Rattle.stored_fields.specs.Reading.{placed_reference, told_reference, Reads}
 use Rattle.stored.proofs.Joined.{size-at, read_fits}
 use Rattle.garumbott.specs.Keeping.{refused_numbers, placed_numbers, numbers_by, stored_numbers}

@@ -7,7 +7,7 @@ use Rattle.rules.specs.Refusal.{limits}
 use Rattle.rules.specs.Stored.{reference_form, fields, is_joined, read_reference}
 use Rattle.rules.specs.Values.{flag_number}
 use Rattle.fields.specs.Places.{content_at, part_or_empty}
-use Rattle.stored_fields.specs.declared.places.StoredAt.{StoredAt}
+use Rattle.stored_fields.specs.declared.field_places.StoredAt.{StoredAt}
 use Rattle.stored_fields.specs.Reading.{is_there}
 use Rattle.garumbott.specs.declared.reading.GarumbottStored.{GarumbottStored}
 

@@ -1,5 +1,5 @@
 -- Laws of a test of each letter that packed bytes hold, by whole bytes and the last: proved once, for whichever test. Assumes nothing.
-use Rattle.std.proofs.Common.{◌≡◌, ℕ, zero, suc, ◌+◌, ◌-◌, ◌*◌, ◌/◌, ◌%◌, ◌<◌, ◌≤◌, Bool, true, false, not, ◌&&◌, eqb, List, [], ◌∷◌, map, length, get_or, take, replicate, sym, refl, ap, ◌∙◌, arith, eq-eqb}
+use Rattle.std.proofs.Common.{◌≡◌, ℕ, zero, suc, ◌+◌, ◌*◌, ◌/◌, ◌%◌, ◌<◌, ◌≤◌, Bool, true, false, not, ◌&&◌, eqb, List, [], ◌∷◌, length, get_or, take, replicate, sym, refl, ap, ◌∙◌, arith, eq-eqb}
 use mathlib.Core.Bool.{and-true, and-false, and_assoc}
 use lib.ListN.{get_or-eq_default}
 use borrow.Author.Tests.{not-true, not-false}

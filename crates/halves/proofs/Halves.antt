@@ -1,14 +1,13 @@
 -- Laws of packed letters: the sets at places, and the letters of sets. Assumes nothing.
-use Rattle.std.proofs.Common.{◌≡◌, ℕ, zero, suc, ◌+◌, ◌-◌, ◌*◌, ◌/◌, ◌%◌, ◌<◌, ◌≤◌, Bool, true, false, ◌&&◌, eqb, ltb, List, [], ◌∷◌, ◌++◌, map, length, get_or, take, drop, sym, refl, ap, ◌∙◌, arith, lit<, get_or-drop, get_or-take, ltb-true}
-use lib.ListN.{length-map, get_or-map}
-use Rattle.rules.specs.Bytes.{all}
+use Rattle.std.proofs.Common.{◌≡◌, ℕ, zero, suc, ◌+◌, ◌-◌, ◌*◌, ◌/◌, ◌%◌, ◌<◌, ◌≤◌, true, false, ltb, List, [], ◌∷◌, length, get_or, take, drop, refl, ap, ◌∙◌, arith, lit<, get_or-drop, get_or-take, ltb-true}
+use lib.ListN.{get_or-map}
 use Rattle.rules.specs.Letters.{letter_set, is_letter, upper, folded}
 use Rattle.rules.specs.Altered.{part}
 use Rattle.rules.proofs.Parts.{length_part}
-use Rattle.rules.proofs.Packed.{length-letters, held}
+use Rattle.rules.proofs.Packed.{length-letters}
 use Rattle.letters.specs.Sets.{folded_set}
 use Rattle.letters.proofs.Listed.{at_each}
-use Rattle.rules.specs.Packed.{halves, set_at, letter_of, letters_in, unpacked}
+use Rattle.rules.specs.Packed.{halves, set_at, letter_of, letters_in}
 
 pub high_at : (bs : List ℕ) (j : ℕ) → set_at bs (j * 2) ≡ get_or bs j 0 / 16 % 16
 unfolding halves set_at

@@ -3,7 +3,7 @@
 use mathlib.Core.Path.{◌≡◌, refl, sym, ap, ◌∙◌}
 use mathlib.Core.Bool.{Bool, true, false}
 use mathlib.Core.List.{List, [], ◌∷◌, ◌++◌, append-nil}
-use Prim.Native.Nat.{ℕ, zero, suc, ◌+◌, ◌-◌, ◌/◌, ◌%◌, ◌≤◌, ◌<◌}
+use Prim.Native.Nat.{ℕ, suc, ◌+◌, ◌-◌, ◌/◌, ◌%◌, ◌≤◌}
 use native.Mathlib.Omega.{arith}
 use lib.Dec.{eqb, ltb}
 use lib.ListN.{length, get_or, take, drop, length-take, length-drop}
@@ -14,7 +14,7 @@ use Rattle.rules.specs.declared.Exceptions.{Exceptions}
 use Rattle.rules.specs.Bytes.{byte, if◌then◌else◌, all, count}
 use Rattle.rules.specs.Letters.{is_letter}
 use Rattle.rules.specs.Translation.{exception_list, translated, residue_count, before_stop, whole_codons, folded_translated}
-use Rattle.rules.specs.Reference.{at_stop, cds_size, cds, reference_protein}
+use Rattle.rules.specs.Reference.{cds_size, reference_protein}
 use Rattle.rules.specs.Views.{reference_of}
 use Rattle.rules.proofs.Tests.{all_take}
 use Rattle.rules.proofs.Translation.{length-translated}

@@ -1,20 +1,20 @@
 -- Laws of residues that a loop has still to write, a turn at a time. Assumes nothing.
 use mathlib.Core.Path.{◌≡◌, refl, sym, ap, ◌∙◌}
-use mathlib.Core.Bool.{Bool, true, false, and-eq-true_iff}
+use mathlib.Core.Bool.{Bool, true, and-eq-true_iff}
 use mathlib.Core.List.{List, [], ◌∷◌, ◌++◌, map}
 use Prim.Native.Nat.{ℕ, zero, suc, ◌+◌, ◌-◌, ◌*◌, ◌/◌, ◌%◌, ◌≤◌, ◌<◌}
 use native.Mathlib.Omega.{arith}
 use lib.ListN.{length, get_or, take, drop, set, length-set, length-map, length-drop, get_or-map}
 use lib.Seq.{get_or-take, length-take-le, take-add}
 use Rattle.rules.specs.declared.Exception.{Exception}
-use Rattle.rules.specs.Bytes.{byte, all, over}
+use Rattle.rules.specs.Bytes.{byte, all}
 use Rattle.rules.specs.Letters.{is_letter, upper, folded}
 use Rattle.rules.specs.Codons.{codon_rule, codon}
 use Rattle.rules.specs.Translation.{excepted, residues_from, translated, residue_count, folded_translated, whole_codons, fold_to_letters}
 use Rattle.rules.proofs.Lists.{all_at, all_append, all_map}
 use Rattle.rules.proofs.Over.{over_from, from_end, from_turn}
 use Rattle.rules.proofs.Translation.{length-residues}
-use Rattle.rules.proofs.Reading.{rest_of, residues-more, residues-rest, length_whole}
+use Rattle.rules.proofs.Reading.{rest_of, residues-more, residues-rest}
 use Rattle.letters.specs.Sets.{folded_set, folds_to_base}
 use Rattle.letters.proofs.Sets.{plain_some}
 use Rattle.places.specs.Places.{codon_at, fold_to_bases}

@@ -13,7 +13,7 @@ use Rattle.rules.specs.declared.Exceptions.{Exceptions}
 use Rattle.rules.specs.Bytes.{byte, if◌then◌else◌, all, count, ◌↯◌, first_number}
 use Rattle.rules.specs.Letters.{is_letter}
 use Rattle.rules.specs.Translation.{exception_list, translated, residue_count, before_stop, whole_codons, folded_translated}
-use Rattle.rules.specs.Reference.{Reference, at_stop, is_short_end, size, cds_size, cds, codons, reference_protein, ends_in_stop, is_cut_short, reference_tests}
+use Rattle.rules.specs.Reference.{Reference, at_stop, is_short_end, size, cds_size, reference_protein, ends_in_stop, is_cut_short, reference_tests}
 use Rattle.rules.specs.Views.{reference_of}
 use Rattle.rules.proofs.Tests.{all_take}
 use Rattle.rules.proofs.Translation.{length-translated}

@@ -1,18 +1,17 @@
 -- Laws of the last CDS codon: its residue, exceptions applied, is the last of the reference protein.
 -- Assumes nothing.
-use mathlib.Core.Path.{◌≡◌, refl, sym, ap, ◌∙◌}
-use mathlib.Core.List.{List, ◌++◌}
+use mathlib.Core.Path.{◌≡◌, refl, ap, ◌∙◌}
+use mathlib.Core.List.{List}
 use Prim.Native.Nat.{ℕ, ◌+◌, ◌-◌, ◌*◌, ◌/◌, ◌%◌, ◌≤◌, ◌<◌}
 use native.Mathlib.Omega.{arith}
 use lib.Dec.{eqb}
-use lib.ListN.{length, take, drop, get_or, take-append-drop}
-use lib.Seq.{length-take-le, get_or-take, get_or-drop, get_or_at}
-use Rattle.rules.specs.declared.Exception.{Exception}
+use lib.ListN.{length, drop, get_or}
+use lib.Seq.{get_or-take, get_or-drop}
 use Rattle.rules.specs.declared.Exceptions.{Exceptions}
 use Rattle.rules.specs.Bytes.{byte}
 use Rattle.rules.specs.Letters.{letter_set, is_letter}
 use Rattle.rules.specs.Codons.{codon_rule, codon}
-use Rattle.rules.specs.Translation.{exception_list, excepted, residues_from, translated, residue_count}
+use Rattle.rules.specs.Translation.{exception_list, excepted}
 use Rattle.rules.specs.Reference.{at_stop, size, cds_size, cds, codons, reference_protein, ends_in_stop}
 use Rattle.rules.proofs.Lists.{all_at}
 use Rattle.rules.proofs.Reading.{residue_at_lem}

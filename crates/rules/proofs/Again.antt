@@ -5,20 +5,20 @@ use mathlib.Core.Bool.{Bool, true, false, ◌&&◌, ◌||◌, not}
 use mathlib.Core.List.{List, [], ◌∷◌, ◌++◌, append_assoc, append-nil}
 use mathlib.Core.Option.{Option, none, some}
 use mathlib.Core.Logic.{◌⊎◌, inl, inr, ⊎_elim}
-use Prim.Native.Nat.{ℕ, zero, suc, ◌+◌, ◌*◌, ◌/◌, ◌%◌, ◌≤◌, ◌<◌}
+use Prim.Native.Nat.{ℕ, zero, suc, ◌+◌, ◌*◌, ◌/◌, ◌%◌, ◌≤◌}
 use native.Mathlib.Omega.{arith}
 use lib.Dec.{eqb, leb, ltb}
-use lib.ListN.{length, take, drop, get_or, length-append, drop_of_length-le}
+use lib.ListN.{length, take, drop, get_or, drop_of_length-le}
 use lib.Seq.{take_all, take-nil, drop-drop, take_at, drop_at}
-use borrow.Author.Tests.{ltb-true, leb-true, eqb-true, eq-eqb, not-false}
+use borrow.Author.Tests.{leb-true, eqb-true, not-false}
 use Rattle.rules.specs.Bytes.{if◌then◌else◌, is_none, all, each, first_number, Result, given, refused, unless}
 use Rattle.rules.specs.Reference.{Reference, at_stop, is_short_end, size}
 use Rattle.rules.specs.Refusal.{reference_refusal}
 use Rattle.rules.specs.Stored.{two_bytes, four_bytes, Tagged, fields, content_of, reference_form, exceptions_in, or_empty, is_there, Contents, contents_of, joined_letters, is_incomplete, is_full, is_begun_early, are_wrong_bounds, content_tests, bounds_in, reference_in, assembled, assembled_in, checked, stored_reference}
-use Rattle.rules.specs.Storing.{in_two, in_four, tagged, fields_bytes, exception_bytes, is_long, held_by, filled, reference_fields, stored_form}
-use Rattle.rules.proofs.Tests.{and_left, and_right, and_implies, or_left, or_right, first_clear}
-use Rattle.rules.proofs.Reference.{Accepted, accepted}
-use Rattle.rules.proofs.Fields.{is_byte, two_of, Rising, Read, written_read}
+use Rattle.rules.specs.Storing.{in_two, in_four, fields_bytes, exception_bytes, is_long, held_by, filled, reference_fields, stored_form}
+use Rattle.rules.proofs.Tests.{and_left, and_right, or_left, or_right, first_clear}
+use Rattle.rules.proofs.Reference.{accepted}
+use Rattle.rules.proofs.Fields.{is_byte, two_of, Read, written_read}
 use Rattle.rules.proofs.Filled.{Found, found, bytes_of, up_to, by_tag, told}
 use Rattle.rules.proofs.Storing.{some_taken_of, narrow, wide, end_in, eight}
 

@@ -1,10 +1,9 @@
 -- What the two answers of a checked record mean, and that our own records get them.
 -- Assumes nothing.
-use mathlib.Core.Path.{◌≡◌, refl, sym, ap, ap₂, ◌∙◌}
-use mathlib.Core.Bool.{Bool, true, false, ◌&&◌}
+use mathlib.Core.Path.{◌≡◌, sym, ap, ◌∙◌}
+use mathlib.Core.Bool.{true, false, ◌&&◌}
 use mathlib.Core.List.{List, ◌++◌}
 use Prim.Native.Nat.{ℕ, ◌+◌, ◌-◌, ◌≤◌}
-use native.Mathlib.Nat.{le_refl}
 use native.Mathlib.Omega.{arith}
 use lib.Dec.{eqb}
 use lib.ListN.{length, take, drop, length-append, length-drop, take-append-drop}
@@ -20,9 +19,9 @@ use Rattle.rules.specs.Altered.{frameshift}
 use Rattle.rules.specs.Protein.{altered_protein}
 use Rattle.rules.specs.Record.{ending, part_of, change_at, change_of, record_of, replayed}
 use Rattle.rules.specs.Check.{Proposal, stands, replays, begins_there, leaves_ending, is_shortest}
-use Rattle.rules.proofs.Tests.{and_left, and_right, and_both}
+use Rattle.rules.proofs.Tests.{and_left, and_right}
 use Rattle.rules.proofs.Trims.{same_self, same-is, cp_le_l, cp_le_r, cs_le_l, cs_le_r}
-use Rattle.rules.proofs.Demand.{deleted_by, inserted_by, Tells, Splits, Least, Demand, demand, covers, tells_of, least_of}
+use Rattle.rules.proofs.Demand.{deleted_by, inserted_by, Tells, Splits, demand, covers, tells_of, least_of}
 
 -- the deleted residues stand in R at the number, and replacing them gives A
 pub record Replays (p : Proposal) (R A : List ℕ) : Type 0 where

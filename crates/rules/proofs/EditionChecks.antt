@@ -3,8 +3,6 @@ use mathlib.Core.Path.{◌≡◌, refl}
 use mathlib.Core.List.{List, [], ◌∷◌, ◌++◌, map}
 use Prim.Native.Nat.{ℕ, zero, suc}
 use Prim.Native.String.{String}
-use lib.ListN.{length}
-use Rattle.rules.specs.declared.Exception.{Exception}
 use Rattle.rules.specs.Bytes.{bytes, each, Result, given, refused}
 use Rattle.rules.specs.Reference.{Reference}
 use Rattle.rules.specs.Refusal.{limits}

@@ -2,15 +2,15 @@
 -- the same letters and residues; with the editions swapped it is the same with its residues swapped.
 -- Assumes nothing.
 use mathlib.Core.Path.{◌≡◌, refl, sym, ap, ◌∙◌}
-use mathlib.Core.Bool.{Bool, true, false, ◌&&◌, not}
-use mathlib.Core.List.{List, [], ◌∷◌, ◌++◌, map}
+use mathlib.Core.Bool.{Bool, true, false, ◌&&◌}
+use mathlib.Core.List.{List, [], ◌∷◌, map}
 use Prim.Native.Nat.{ℕ, zero, suc, ◌+◌, ◌-◌, ◌*◌, ◌≤◌, ◌<◌, max}
 use native.Mathlib.Omega.{arith}
 use lib.Dec.{eqb, ltb}
-use lib.ListN.{length, take, drop, get_or, length-take, length-drop, length-append, take-append-drop, drop_of_length-le}
+use lib.ListN.{length, take, drop}
 use lib.Seq.{ext_get_or, take-add, take_all}
 use borrow.Author.Tests.{eq-eqb, ne_eqb, eqb-true, eqb-false, ltb-true, lt-ltb}
-use Rattle.rules.specs.Bytes.{if◌then◌else◌, same, count, all, each}
+use Rattle.rules.specs.Bytes.{if◌then◌else◌, same, count, each}
 use Rattle.rules.specs.Translation.{residue_count}
 use Rattle.rules.specs.Reference.{Reference, cds, reference_protein}
 use Rattle.rules.specs.Altered.{part}

@@ -1,18 +1,18 @@
 -- Laws of written fields, over any form: reading them gives the fields, and writing what was read gives the bytes.
 -- Assumes nothing.
 use mathlib.Core.Path.{◌≡◌, refl, sym, ap, ◌∙◌}
-use mathlib.Core.Bool.{Bool, true, false, ◌&&◌, not, and-eq-true_iff}
+use mathlib.Core.Bool.{Bool, true, false, ◌&&◌}
 use mathlib.Core.List.{List, [], ◌∷◌, ◌++◌}
-use Prim.Native.Nat.{ℕ, zero, suc, ◌+◌, ◌*◌, ◌/◌, ◌%◌, ◌≤◌, ◌<◌}
+use Prim.Native.Nat.{ℕ, zero, suc, ◌+◌, ◌/◌, ◌%◌, ◌≤◌, ◌<◌}
 use native.Mathlib.Omega.{arith}
 use lib.Dec.{leb, ltb}
 use lib.ListN.{length, take, drop, length-append, take-append-drop}
 use lib.Seq.{length-take-le, take-append_seam, drop-append_seam}
-use borrow.Author.Tests.{le-leb, leb-true, ltb-true, lt-ltb, not-false}
+use borrow.Author.Tests.{le-leb, leb-true, ltb-true}
 use Rattle.rules.specs.Bytes.{if◌then◌else◌, all, each, Result, given, refused}
 use Rattle.rules.specs.Stored.{two_bytes, Field, ended, cut, whole, field, Form, is_wrong_tag, is_wrong_content, Tagged, with_field, met, fields_from, fields}
 use Rattle.rules.specs.Storing.{in_two, field_bytes, fields_bytes}
-use Rattle.rules.proofs.Tests.{and_left, and_right, all_take, all_drop}
+use Rattle.rules.proofs.Tests.{and_left, and_right, all_drop}
 
 -- a byte
 abbrev pub is_byte : ℕ → Bool

@@ -4,16 +4,14 @@ use mathlib.Core.Path.{◌≡◌, refl, sym, ap, ◌∙◌}
 use mathlib.Core.List.{List, [], ◌++◌}
 use Prim.Native.Nat.{ℕ, zero, suc}
 use native.Mathlib.Omega.{arith}
-use lib.ListN.{length}
-use Rattle.rules.specs.declared.Paired.{Paired}
-use Rattle.rules.specs.declared.Paired.TheVariants.{Refused, Carried}
+use Rattle.rules.specs.declared.Paired.TheVariants.{Refused}
 use Rattle.rules.specs.Bytes.{all, Test, first_number, over}
 use Rattle.rules.specs.Reference.{Reference, reference_tests}
 use Rattle.rules.specs.Edit.{Asked, edit_tests}
 use Rattle.rules.specs.Refusal.{reference_refusal}
 use Rattle.rules.specs.Pair.{pair_tests, pair_transcript, pair_protein, pair_length, PairRoom, pair_room_tests, PairLimits, pair_refusal, PairOutcome, pair_by, pair_outcome, Pairs}
 use Rattle.rules.proofs.Tests.{first_behind, first_before}
-use Rattle.rules.proofs.Pairs.{length_commutes, pair-commutes, protein-commutes, tests_commute, touches_of, Joins, joins}
+use Rattle.rules.proofs.Pairs.{length_commutes, pair-commutes, protein-commutes, tests_commute, touches_of, joins}
 
 -- an outcome that writes nothing
 unfoldable pub pair_nothing : ℕ → PairOutcome

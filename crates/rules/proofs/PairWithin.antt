@@ -14,7 +14,7 @@ use Rattle.rules.specs.Refusal.{limits, reference_refusal}
 use Rattle.rules.specs.Views.{asked}
 use Rattle.rules.specs.Pair.{PairRoom, PairLimits, pair_limits, pair_refusal, pair_outcome}
 use Rattle.rules.specs.Longest.{is_given_longest, limits_with}
-use Rattle.rules.proofs.WithLongest.{bases_within, handed, edits-within, bases-clear}
+use Rattle.rules.proofs.WithLongest.{handed, edits-within, bases-clear}
 use Rattle.rules.proofs.PairAnswers.{reference-refused, first-refused, second-refused, past-edits}
 
 same-refusal : (m l : PairLimits) (r : Reference) (a b : Asked) (room : PairRoom) → pair_refusal m r a b room ≡ pair_refusal l r a b room

@@ -3,24 +3,23 @@
 -- Assumes nothing.
 use mathlib.Core.Path.{◌≡◌, refl, sym, ap, ◌∙◌}
 use mathlib.Core.Bool.{Bool, true, false, ◌&&◌, ◌||◌, not}
-use mathlib.Core.List.{List, [], ◌∷◌, ◌++◌, append_assoc}
-use Prim.Native.Nat.{ℕ, zero, suc, ◌+◌, ◌-◌, ◌≤◌, ◌<◌}
+use mathlib.Core.List.{List, ◌++◌, append_assoc}
+use Prim.Native.Nat.{ℕ, ◌+◌, ◌-◌, ◌≤◌, ◌<◌}
 use native.Mathlib.Omega.{arith}
-use lib.Dec.{ltb}
 use lib.ListN.{length, take, drop, length-append, length-drop}
 use lib.Seq.{length-take-le}
-use borrow.Author.Tests.{lt-ltb, le-ltb, ltb-true, ltb-false, not-false}
+use borrow.Author.Tests.{le-ltb, ltb-true, not-false}
 use Rattle.rules.specs.declared.Kind.{Kind}
 use Rattle.rules.specs.declared.Kind.TheVariants.{Substitution, Deletion, Delins, Insertion, Duplication, Inversion, Identity, Other}
 use Rattle.rules.specs.declared.Limits.{Limits}
-use Rattle.rules.specs.Bytes.{if◌then◌else◌, all, first_number}
-use Rattle.rules.specs.Reference.{Reference, size, reference_tests}
+use Rattle.rules.specs.Bytes.{if◌then◌else◌, first_number}
+use Rattle.rules.specs.Reference.{Reference, size}
 use Rattle.rules.specs.Edit.{Asked, is, kind_of, start_index, end_index, edit_tests}
 use Rattle.rules.specs.Altered.{part, Swap, carried, is_inserting, swap_by, swap, frame, has_stop, through_stop_codon, cut_at_stop, finds_stop, kept, deleted, inserted}
 use Rattle.rules.specs.Record.{is_unknown}
-use Rattle.rules.specs.Refusal.{reference_refusal, refusal}
-use Rattle.rules.specs.Pair.{touched_from, touched_to, is_ahead, are_apart, pair_tests, moved_by, moved_swap, pair_transcript, pair_protein, pair_length, PairRoom, pair_room_tests, pair_refusal, pair_by, pair_outcome}
-use Rattle.rules.proofs.Tests.{or_left, or_right, first_clear, first_behind}
+use Rattle.rules.specs.Refusal.{reference_refusal}
+use Rattle.rules.specs.Pair.{touched_from, touched_to, is_ahead, are_apart, pair_tests, moved_by, moved_swap, pair_transcript, pair_protein, pair_length}
+use Rattle.rules.proofs.Tests.{or_left, or_right, first_clear}
 use Rattle.rules.proofs.Parts.{length_part}
 use Rattle.rules.proofs.Refusal.{refused-edit}
 use Rattle.rules.proofs.Span.{Indexes, Span, indexes, span}

@@ -15,8 +15,6 @@ use Rattle.rules.specs.Bytes.{bytes, Result, given, refused}
 use Rattle.rules.specs.Reference.{Reference, reference_protein}
 use Rattle.rules.specs.Edit.{Asked}
 use Rattle.rules.specs.Protein.{altered_protein}
-use Rattle.rules.specs.Refusal.{Room}
-use Rattle.rules.specs.Answer.{Outcome}
 use Rattle.rules.specs.Longest.{outcome_within, check_within}
 use Rattle.rules.specs.Settings.{stored_settings, written_settings}
 use Rattle.rules.specs.Line.{edit_line}

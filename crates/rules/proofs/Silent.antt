@@ -11,7 +11,7 @@ use lib.ListN.{length, take, drop, get_or, length-drop, drop_of_length-le, take-
 use lib.Seq.{drop-cons, take_all, get_or-take}
 use borrow.Author.Tests.{eqb-true, eqb-false, eq-eqb, ne_eqb}
 use Rattle.rules.specs.declared.Exception.{Exception}
-use Rattle.rules.specs.Bytes.{byte, if◌then◌else◌, same, count}
+use Rattle.rules.specs.Bytes.{byte, same, count}
 use Rattle.rules.specs.Codons.{codon}
 use Rattle.rules.specs.Translation.{excepted, residues_from, translated, residue_count, through_stop}
 use Rattle.rules.specs.Reference.{Reference, at_stop, is_short_end, size, cds_size, cds, reference_protein, is_cut_short}

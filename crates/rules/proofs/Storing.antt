@@ -1,26 +1,25 @@
 -- The stored form of a reference: read back it is the same reference, and what was read is written with the same bytes, but for an empty tag 4.
 -- Assumes nothing.
 use mathlib.Core.Path.{◌≡◌, refl, sym, ap, ◌∙◌}
-use mathlib.Core.Bool.{Bool, true, false, ◌&&◌, ◌||◌, not}
+use mathlib.Core.Bool.{Bool, true, false, ◌&&◌, not}
 use mathlib.Core.List.{List, [], ◌∷◌, ◌++◌, append_assoc}
-use mathlib.Core.Option.{Option, none, some}
-use Prim.Native.Nat.{ℕ, zero, suc, ◌+◌, ◌-◌, ◌*◌, ◌/◌, ◌%◌, ◌≤◌, ◌<◌}
+use Prim.Native.Nat.{ℕ, suc, ◌+◌, ◌*◌, ◌%◌, ◌≤◌, ◌<◌}
 use native.Mathlib.Decide.{dec_lt}
 use native.Mathlib.Omega.{arith}
 use lib.Dec.{eqb, leb, ltb}
-use lib.ListN.{length, take, drop, get_or, length-append, length-take, length-drop, take-append-drop, drop_of_length-le}
-use lib.Seq.{length-take-le, take_all, take-nil, drop-drop, take_at, drop_at}
-use borrow.Author.Tests.{ltb-true, ltb-false, leb-true, lt-ltb, le-ltb, le-leb, eqb-true, eq-eqb, ne_eqb, not-false}
+use lib.ListN.{length, take, drop, get_or, length-take, length-drop, take-append-drop, drop_of_length-le}
+use lib.Seq.{length-take-le, take-nil, drop-drop}
+use borrow.Author.Tests.{le-leb, eqb-true, eq-eqb}
 use Rattle.rules.specs.declared.Exception.{Exception}
-use Rattle.rules.specs.Bytes.{if◌then◌else◌, is_none, all, each, first_number, Result, given, refused, unless}
-use Rattle.rules.specs.Reference.{Reference, at_stop, is_short_end, size, codons, cds_size, is_cut_short}
+use Rattle.rules.specs.Bytes.{if◌then◌else◌, is_none, each, first_number, Result, given, unless}
+use Rattle.rules.specs.Reference.{Reference, at_stop, is_short_end, size, is_cut_short}
 use Rattle.rules.specs.Refusal.{reference_refusal}
 use Rattle.rules.specs.Stored.{two_bytes, four_bytes, Tagged, fields, content_of, reference_form, exceptions_in, or_empty, is_there, Contents, contents_of, joined_letters, is_incomplete, is_full, is_begun_early, are_wrong_bounds, content_tests, bounds_in, reference_in, assembled, assembled_in, checked, stored_reference}
-use Rattle.rules.specs.Storing.{in_two, in_four, tagged, fields_bytes, exception_bytes, is_long, held_by, filled, reference_fields, stored_form}
-use Rattle.rules.proofs.Tests.{and_left, and_right}
-use Rattle.rules.proofs.Reference.{Accepted, accepted, Excepts, rising_cons}
-use Rattle.rules.proofs.Fields.{is_byte, two_back, two_of, Rising, read-written, Read, written_read}
-use Rattle.rules.proofs.Filled.{rise, Fits, AllFit, fit_none, fit-one, filled-rise, unless_none, or_empty_unless, content_filled, Found, found, bytes_of, up_to, by_tag, told}
+use Rattle.rules.specs.Storing.{in_two, in_four, tagged, exception_bytes, is_long, held_by, filled, reference_fields, stored_form}
+use Rattle.rules.proofs.Tests.{and_left}
+use Rattle.rules.proofs.Reference.{Accepted, accepted}
+use Rattle.rules.proofs.Fields.{two_back, read-written}
+use Rattle.rules.proofs.Filled.{rise, Fits, AllFit, fit_none, fit-one, filled-rise, unless_none, or_empty_unless, content_filled}
 
 -- exceptions in bytes, and back
 pub exceptions_back : (es : List Exception) → exceptions_in (each exception_bytes es) ≡ es

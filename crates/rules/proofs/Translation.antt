@@ -10,7 +10,7 @@ use lib.ListN.{length, take, replicate, length-append, length-take, length-repli
 use lib.Seq.{take-append-le}
 use Rattle.rules.specs.declared.Exception.{Exception}
 use Rattle.rules.specs.declared.Exceptions.{Exceptions}
-use Rattle.rules.specs.Bytes.{byte, if◌then◌else◌, count}
+use Rattle.rules.specs.Bytes.{byte, if◌then◌else◌}
 use Rattle.rules.specs.Translation.{no_exception, exception_list, residues_from, translated, residue_count, before_stop, through_stop}
 
 -- as many exceptions as counted; at most sixteen are the first of all

@@ -1,10 +1,10 @@
 -- Laws of the longest edit of a call (E12): an edit with more new bases than that is answered as the same edit without any is within the module's own
 -- limits, for 10 refuses both in the same place.
 -- Assumes nothing.
-use mathlib.Core.Path.{◌≡◌, refl, sym, ap, ◌∙◌}
-use mathlib.Core.Bool.{Bool, true, false, ◌&&◌, not}
-use mathlib.Core.List.{List, [], ◌∷◌, ◌++◌}
-use Prim.Native.Nat.{ℕ, zero, suc, ◌≤◌, ◌<◌}
+use mathlib.Core.Path.{◌≡◌, refl, sym, ap}
+use mathlib.Core.Bool.{Bool, true, false, ◌&&◌}
+use mathlib.Core.List.{List, []}
+use Prim.Native.Nat.{ℕ, zero, suc, ◌≤◌}
 use native.Mathlib.Omega.{arith}
 use lib.Dec.{eqb, leb, ltb}
 use lib.ListN.{length}
@@ -15,7 +15,7 @@ use Rattle.rules.specs.declared.Edit.{Edit}
 use Rattle.rules.specs.Bytes.{if◌then◌else◌, all, first_number}
 use Rattle.rules.specs.Letters.{is_letter}
 use Rattle.rules.specs.Reference.{Reference, reference_tests}
-use Rattle.rules.specs.Edit.{Asked, is, kind_of, is_misplaced, ends_past, end_place, is_disordered, start_place, is_out_of_cds, are_new_bases, fit_bases, edit_tests}
+use Rattle.rules.specs.Edit.{Asked, is_misplaced, ends_past, end_place, is_disordered, start_place, is_out_of_cds, are_new_bases, fit_bases, edit_tests}
 use Rattle.rules.specs.Record.{is_unknown}
 use Rattle.rules.specs.Refusal.{limits, refusal, Room, room_refusal}
 use Rattle.rules.specs.Views.{asked}

@@ -25,9 +25,9 @@ use Rattle.rules.proofs.Answers.{refused-by, Alike, single}
 use Rattle.altseq.proofs.Answering.{writes_nothing_lem}
 use Rattle.altseq.proofs.Promised as promised
 use Rattle.altseq.proofs.Promised.{Replays}
-use Rattle.stored_fields.specs.declared.places.StoredAt.{StoredAt}
-use Rattle.stored_fields.specs.declared.places.Stored.{Stored}
-use Rattle.stored_fields.specs.declared.places.Stored.TheVariants.{At}
+use Rattle.stored_fields.specs.declared.field_places.StoredAt.{StoredAt}
+use Rattle.stored_fields.specs.declared.field_places.Stored.{Stored}
+use Rattle.stored_fields.specs.declared.field_places.Stored.TheVariants.{At}
 use Rattle.stored_fields.specs.Held.{exceptions_of}
 use Rattle.stored.specs.Outcomes.{outcome_of}
 use Rattle.stored_fields.specs.Reading.{is_there, letters_at, placed_reference, Placed, Reads}

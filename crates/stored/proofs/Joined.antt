@@ -15,7 +15,7 @@ use Rattle.rules.specs.Refusal.{reference_refusal}
 use Rattle.rules.specs.Stored.{reference_form, fields, assembled_in, checked, stored_reference, is_joined, fitted, read_reference, joined_by}
 use Rattle.rules.proofs.Reference.{accepted}
 use Rattle.fields.proofs.Places.{length_of_part}
-use Rattle.stored_fields.specs.declared.places.StoredAt.{StoredAt}
+use Rattle.stored_fields.specs.declared.field_places.StoredAt.{StoredAt}
 use Rattle.stored_fields.specs.Reading.{is_there, letters_at, placed_reference, Placed}
 
 module _ (s : List ℕ) (p : StoredAt) (in_place : Placed s p) where

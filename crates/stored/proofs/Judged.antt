@@ -26,9 +26,9 @@ use Rattle.reference.specs.declared.Judged.TheVariants as judged
 use Rattle.reference.specs.Known.{judged_of}
 use Rattle.reference.proofs.Judging.{was-refused, was-clear}
 use Rattle.fields.proofs.Places.{length_of_part}
-use Rattle.stored_fields.specs.declared.places.StoredAt.{StoredAt}
-use Rattle.stored_fields.specs.declared.places.Stored.{Stored}
-use Rattle.stored_fields.specs.declared.places.Stored.TheVariants.{Refused, At}
+use Rattle.stored_fields.specs.declared.field_places.StoredAt.{StoredAt}
+use Rattle.stored_fields.specs.declared.field_places.Stored.{Stored}
+use Rattle.stored_fields.specs.declared.field_places.Stored.TheVariants.{Refused, At}
 use Rattle.stored_fields.specs.Held.{exceptions_of}
 use Rattle.stored_fields.specs.Reading.{is_there, letters_at, placed_reference, told_reference, Placed, Reads}
 use Rattle.stored_fields.proofs.Held.{list-few, list_length}

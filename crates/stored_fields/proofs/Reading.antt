@@ -26,9 +26,9 @@ use Rattle.fields.proofs.Order.{given-fields}
 use Rattle.fields.proofs.Contents.{content_in, has, found}
 use Rattle.stored_places.specs.declared.Places.{Places}
 use Rattle.stored_places.specs.Refusal.{is_there, is_early, places_refusal}
-use Rattle.stored_fields.specs.declared.places.StoredAt.{StoredAt}
-use Rattle.stored_fields.specs.declared.places.Stored.{Stored}
-use Rattle.stored_fields.specs.declared.places.Stored.TheVariants.{Refused, At}
+use Rattle.stored_fields.specs.declared.field_places.StoredAt.{StoredAt}
+use Rattle.stored_fields.specs.declared.field_places.Stored.{Stored}
+use Rattle.stored_fields.specs.declared.field_places.Stored.TheVariants.{Refused, At}
 use Rattle.stored_fields.specs.Reading.{bounds_by, cds_in, Fit, placed_reference, told_reference, Stand, Placed, Reads}
 use Rattle.stored_fields.proofs.Form.{bounds-length, wide-length, second-length, third-length, table-length, exceptions-length}
 

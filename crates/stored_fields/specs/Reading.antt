@@ -12,9 +12,9 @@ use Rattle.fields.specs.Places.{content_at, part_or_empty}
 use Rattle.fields.specs.Refusals.{refusal_in}
 use Rattle.stored_places.specs.declared.Places.{Places}
 pub use Rattle.stored_places.specs.Refusal.{is_there}
-use Rattle.stored_fields.specs.declared.places.StoredAt.{StoredAt}
-use Rattle.stored_fields.specs.declared.places.Stored.{Stored}
-use Rattle.stored_fields.specs.declared.places.Stored.TheVariants.{Refused, At}
+use Rattle.stored_fields.specs.declared.field_places.StoredAt.{StoredAt}
+use Rattle.stored_fields.specs.declared.field_places.Stored.{Stored}
+use Rattle.stored_fields.specs.declared.field_places.Stored.TheVariants.{Refused, At}
 
 -- the bounds that the contents of tags 2 and 7 hold, one of them empty
 abbrev pub bounds_by : List ℕ → List ℕ → Bounds

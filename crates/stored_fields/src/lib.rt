@@ -3,8 +3,8 @@
 #![tactic(auto)]
 
 mod exceptions;
+pub mod field_places;
 mod order;
-pub mod places;
 
 pub use exceptions::exceptions_in;
-pub use places::{Stored, StoredAt, find_stored};
+pub use field_places::{Stored, StoredAt, find_stored};

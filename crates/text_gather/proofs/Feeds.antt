@@ -9,7 +9,7 @@ use lib.Dec.{eqb}
 use lib.ListN.{length, take, get_or}
 use lib.Seq.{take-length}
 use borrow.Author.Tests.{eqb-true, eqb-false}
-use Rattle.bytes.specs.Bytes.{slice, index_after, index_of}
+use Rattle.bytewise.specs.Find.{slice, index_after, index_of}
 use Rattle.rules.specs.Run.{line_feed}
 use Rattle.text_gather.proofs.Pieces.{Plain, none, more}
 

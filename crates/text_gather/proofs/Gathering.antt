@@ -10,7 +10,7 @@ use lib.ListN.{length, take, drop}
 use lib.Seq.{length-take-le, take_all, take-length, take_at, take-append-add}
 use borrow.Rule.Slice.PartMut.{put_mid}
 use borrow.Author.Tests.{leb-true, leb-false}
-use Rattle.bytes.specs.Bytes.{slice, index_of}
+use Rattle.bytewise.specs.Find.{slice, index_of}
 use Rattle.rules.specs.Run.{line_feed}
 use Rattle.text_answers.specs.Rooms.{line_room}
 use Rattle.text_gather.specs.Steps.{kept, Gathers}

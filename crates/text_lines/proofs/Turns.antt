@@ -8,7 +8,7 @@ use native.Mathlib.Omega.{arith}
 use lib.ListN.{length, take, drop, get_or, length-append, length-drop}
 use lib.Seq.{take-suc, take-add, length-take-le}
 use borrow.Rule.Slice.PartMut.{put_mid}
-use Rattle.bytes.specs.Bytes.{index_of}
+use Rattle.bytewise.specs.Find.{index_of}
 use Rattle.rules.specs.Bytes.{over}
 use Rattle.rules.specs.Run.{line_feed}
 use Rattle.rules.proofs.Over.{length_over, lent_on_by, tail-is}

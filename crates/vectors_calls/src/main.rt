@@ -5,60 +5,68 @@
 // lines and makes the letters by the same rule.
 #![tactic(auto)]
 
-mod edits;
-mod exceptions;
+mod edit_calls;
 mod fields;
-mod letters;
+mod given_exceptions;
+mod given_letters;
 mod plain;
 mod printing;
 
 ghost use Rattle.std.specs.Prelude.{◌≤◌, length};
 
-use crate::edits::answer_edit;
+use crate::edit_calls::answer_edit;
 use crate::fields::{byte_at, end_of};
 use crate::plain::{
     answer_complement, answer_letters, answer_names, answer_record, answer_shared,
     answer_translation,
 };
 use crate::printing::print;
+use numbers::least;
+use std::io;
+use std::io::{Read, Stdout};
+
+// The most bytes of input that are read.
+const INPUT_ROOM: usize = 65536;
 
 // By the first byte: the words translation, names, letters, complement, shared and record name a function, and a number begins an edit.
-fn answer(line: &[u8]) {
+fn answer(stdout: &mut Stdout, line: &[u8]) -> io::Result<()> {
     let first = byte_at(line, 0);
-    print(b":");
+    print(stdout, b":")?;
     match first {
-        b't' => answer_translation(line),
-        b'n' => answer_names(line),
-        b'l' => answer_letters(line),
-        b'c' => answer_complement(line),
-        b's' => answer_shared(line),
-        b'r' => answer_record(line),
-        _ => answer_edit(line),
+        b't' => answer_translation(stdout, line),
+        b'n' => answer_names(stdout, line),
+        b'l' => answer_letters(stdout, line),
+        b'c' => answer_complement(stdout, line),
+        b's' => answer_shared(stdout, line),
+        b'r' => answer_record(stdout, line),
+        _ => answer_edit(stdout, line),
     }
 }
 
 // A line that begins with # is a heading.
-fn answer_line(line: &[u8]) {
-    print(line);
+fn answer_line(stdout: &mut Stdout, line: &[u8]) -> io::Result<()> {
+    print(stdout, line)?;
     if byte_at(line, 0) != b'#' {
-        answer(line);
+        answer(stdout, line)?;
     }
-    print(b"\n");
+    print(stdout, b"\n")
 }
 
-fn answer_lines(s: &[u8])
+fn answer_lines(stdout: &mut Stdout, s: &[u8]) -> io::Result<()>
     requires { length s.now ≤ 65536 }
 {
     let mut at = 0;
     while at < s.len() {
         let end = end_of(s, at, b'\n');
-        answer_line(&s[at..end]);
+        answer_line(stdout, &s[at..end])?;
         at = end + 1;
     }
+    Ok(())
 }
 
-fn main() {
-    let mut input = io::large_buffer();
-    let n = io::read_full(0, &mut input);
-    answer_lines(&input[..n]);
+fn main(rt: HostRuntime) -> io::Result<()> {
+    let mut input = Vec::new(rt.alloc());
+    rt.reader().take(INPUT_ROOM as u64).read_to_end(&mut input)?;
+    let n = least(input.len(), INPUT_ROOM);
+    answer_lines(&mut rt.stdout(), &input[..n])
 }

@@ -4,6 +4,8 @@ ghost use Rattle.vectors_calls.specs.Printed.{check_value, are_markers};
 
 use numbers::wide;
 use rules::{Answer, Change, Class, Part, Record, Report};
+use std::io;
+use std::io::{Stdout, Write};
 
 // One more than any answer takes.
 pub const TRANSCRIPT_ROOM: usize = 32769;
@@ -12,63 +14,63 @@ pub const REFERENCE_ROOM: usize = 5462;
 
 pub const ALTERED_ROOM: usize = 10924;
 
-pub fn print(s: &[u8]) {
-    io::write_all(1, s);
+pub fn print(stdout: &mut Stdout, s: &[u8]) -> io::Result<()> {
+    stdout.write_all(s)
 }
 
-fn print_number(n: usize) {
-    io::print_decimal(1, n as u64);
+fn print_number(stdout: &mut Stdout, n: usize) -> io::Result<()> {
+    write!(stdout, "{n}")
 }
 
 // The number behind a space.
-pub fn print_next(n: usize) {
-    print(b" ");
-    print_number(n);
+pub fn print_next(stdout: &mut Stdout, n: usize) -> io::Result<()> {
+    print(stdout, b" ")?;
+    print_number(stdout, n)
 }
 
-fn print_class(class: Class) {
+fn print_class(stdout: &mut Stdout, class: Class) -> io::Result<()> {
     match class {
-        Class::StartLost => print(b" start-lost"),
-        Class::Extension => print(b" extension"),
-        Class::StopGained => print(b" stop-gained"),
-        Class::Frameshift => print(b" frameshift"),
-        Class::Substitution => print(b" substitution"),
-        Class::Deletion => print(b" deletion"),
-        Class::Duplication => print(b" duplication"),
-        Class::Insertion => print(b" insertion"),
-        Class::Delins => print(b" delins"),
+        Class::StartLost => print(stdout, b" start-lost"),
+        Class::Extension => print(stdout, b" extension"),
+        Class::StopGained => print(stdout, b" stop-gained"),
+        Class::Frameshift => print(stdout, b" frameshift"),
+        Class::Substitution => print(stdout, b" substitution"),
+        Class::Deletion => print(stdout, b" deletion"),
+        Class::Duplication => print(stdout, b" duplication"),
+        Class::Insertion => print(stdout, b" insertion"),
+        Class::Delins => print(stdout, b" delins"),
     }
 }
 
-fn print_part(part: Part) {
-    print_next(part.at);
-    print_next(part.len);
+fn print_part(stdout: &mut Stdout, part: Part) -> io::Result<()> {
+    print_next(stdout, part.at)?;
+    print_next(stdout, part.len)
 }
 
-fn print_change(change: Change) {
+fn print_change(stdout: &mut Stdout, change: Change) -> io::Result<()> {
     let class = change.class;
-    print_class(class);
-    print_next(change.number);
-    print(b" deleted");
-    print_part(change.deleted);
-    print(b" inserted");
-    print_part(change.inserted);
-    print(b" first");
-    print_next(change.first);
+    print_class(stdout, class)?;
+    print_next(stdout, change.number)?;
+    print(stdout, b" deleted")?;
+    print_part(stdout, change.deleted)?;
+    print(stdout, b" inserted")?;
+    print_part(stdout, change.inserted)?;
+    print(stdout, b" first")?;
+    print_next(stdout, change.first)
 }
 
-pub fn print_record(found: Record) {
+pub fn print_record(stdout: &mut Stdout, found: Record) -> io::Result<()> {
     match found {
-        Record::Unknown => print(b" unknown"),
-        Record::NoProtein => print(b" no-protein"),
+        Record::Unknown => print(stdout, b" unknown"),
+        Record::NoProtein => print(stdout, b" no-protein"),
         Record::Silent { number, residue } => {
             let one = [residue; 1];
-            print(b" silent");
-            print_next(number);
-            print(b" ");
-            print(&one);
+            print(stdout, b" silent")?;
+            print_next(stdout, number)?;
+            print(stdout, b" ")?;
+            print(stdout, &one)
         }
-        Record::Changed(change) => print_change(change),
+        Record::Changed(change) => print_change(stdout, change),
     }
 }
 
@@ -99,26 +101,28 @@ fn keeps(s: &[u8], from: usize) -> bool
     true
 }
 
-fn print_report(report: Report) {
+fn print_report(stdout: &mut Stdout, report: Report) -> io::Result<()> {
     let found = report.found;
-    print_record(found);
+    print_record(stdout, found)?;
     if report.frameshift {
-        print(b" shifted");
+        print(stdout, b" shifted")?;
     }
+    Ok(())
 }
 
 // How many bytes were written, their check value, and whether the others stayed.
-fn print_buffer(s: &[u8], n: usize) {
-    print(b",");
-    print_next(n);
+fn print_buffer(stdout: &mut Stdout, s: &[u8], n: usize) -> io::Result<()> {
+    print(stdout, b",")?;
+    print_next(stdout, n)?;
     if n <= s.len() {
-        print_next(value_of(&s[0..n]));
+        print_next(stdout, value_of(&s[0..n]))?;
     }
     if keeps(s, n) {
-        print(b" kept");
+        print(stdout, b" kept")?;
     } else {
-        print(b" changed");
+        print(stdout, b" changed")?;
     }
+    Ok(())
 }
 
 // How many bytes were written to each buffer.
@@ -129,37 +133,44 @@ struct Lengths {
     altered: usize,
 }
 
-fn print_buffers(transcript: &[u8], reference: &[u8], altered: &[u8], n: Lengths) {
-    print_buffer(transcript, n.transcript);
-    print_buffer(reference, n.reference);
-    print_buffer(altered, n.altered);
+fn print_buffers(
+    stdout: &mut Stdout,
+    transcript: &[u8],
+    reference: &[u8],
+    altered: &[u8],
+    n: Lengths,
+) -> io::Result<()> {
+    print_buffer(stdout, transcript, n.transcript)?;
+    print_buffer(stdout, reference, n.reference)?;
+    print_buffer(stdout, altered, n.altered)
 }
 
 pub fn print_answer(
+    stdout: &mut Stdout,
     answer: Answer,
     transcript: &[u8; TRANSCRIPT_ROOM],
     reference: &[u8; REFERENCE_ROOM],
     altered: &[u8; ALTERED_ROOM],
-) {
+) -> io::Result<()> {
     match answer {
         Answer::Refused(n) => {
-            print(b" refused");
-            print_next(n);
+            print(stdout, b" refused")?;
+            print_next(stdout, n)?;
             let none = Lengths {
                 transcript: 0,
                 reference: 0,
                 altered: 0,
             };
-            print_buffers(transcript, reference, altered, none);
+            print_buffers(stdout, transcript, reference, altered, none)
         }
         Answer::Reported(report) => {
-            print_report(report);
+            print_report(stdout, report)?;
             let written = Lengths {
                 transcript: report.transcript,
                 reference: report.reference,
                 altered: report.altered,
             };
-            print_buffers(transcript, reference, altered, written);
+            print_buffers(stdout, transcript, reference, altered, written)
         }
     }
 }

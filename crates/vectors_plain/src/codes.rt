@@ -6,6 +6,8 @@ ghost use Rattle.vectors_plain.specs.Rows.{number_at, letters_from};
 use crate::plain::{count_of, print_answer, print_number};
 use codon_reader::read_codon;
 use codons::tables::residue_in;
+use std::io;
+use std::io::{Stdout, Write};
 use tables::residues_of;
 use translation::translate_cds;
 
@@ -24,13 +26,13 @@ const PLAIN: [u8; 192] = *b"\
     ATTATCATAATGACTACCACAACGAATAACAAAAAGAGTAGCAGAAGG\
     GTTGTCGTAGTGGCTGCCGCAGCGGATGACGAAGAGGGTGGCGGAGGG";
 
-fn print_code(table: usize) {
+fn print_code(stdout: &mut Stdout, table: usize) -> io::Result<()> {
     let seq = PLAIN;
     let mut out = [0u8; 64];
     let answer = translate_cds(&seq, table, true, &mut out);
-    io::write_all(1, b"code ");
-    print_number(table);
-    print_answer(answer, &out);
+    stdout.write_all(b"code ")?;
+    print_number(stdout, table)?;
+    print_answer(stdout, answer, &out)
 }
 
 // Which of the fifteen letters stands at a place of all their codons in a row, first letter slowest.
@@ -61,37 +63,38 @@ fn put_codons(seq: &mut [u8])
 }
 
 // How often a residue occurs, unless it doesn't.
-fn print_count(residues: &[u8], b: u8) {
+fn print_count(stdout: &mut Stdout, residues: &[u8], b: u8) -> io::Result<()> {
     let n = count_of(residues, b);
     if 0 < n {
         let one = [b; 1];
-        io::write_all(1, b" ");
-        io::write_all(1, &one);
-        print_number(n);
+        stdout.write_all(b" ")?;
+        stdout.write_all(&one)?;
+        print_number(stdout, n)?;
     }
+    Ok(())
 }
 
 // The number of each residue that occurs.
-fn print_counts(residues: &[u8]) {
+fn print_counts(stdout: &mut Stdout, residues: &[u8]) -> io::Result<()> {
     let mut b: u8 = 33;
     while b < 91 {
-        print_count(residues, b);
+        print_count(stdout, residues, b)?;
         b += 1;
     }
-    io::write_all(1, b"\n");
+    stdout.write_all(b"\n")
 }
 
-fn print_ambiguous(table: usize) {
+fn print_ambiguous(stdout: &mut Stdout, table: usize) -> io::Result<()> {
     let mut seq = [0u8; CODONS_LETTERS];
     put_codons(&mut seq);
     let mut out = [0u8; CODONS];
     let answer = translate_cds(&seq, table, true, &mut out);
-    io::write_all(1, b"ambiguous ");
-    print_number(table);
-    print_answer(answer, &out);
-    io::write_all(1, b"counts ");
-    print_number(table);
-    print_counts(&out);
+    stdout.write_all(b"ambiguous ")?;
+    print_number(stdout, table)?;
+    print_answer(stdout, answer, &out)?;
+    stdout.write_all(b"counts ")?;
+    print_number(stdout, table)?;
+    print_counts(stdout, &out)
 }
 
 // 1 where the table and the plain reader differ at a place of the table, which they never do.
@@ -135,14 +138,14 @@ fn differing(table: usize) -> usize
     n
 }
 
-pub fn print_table(table: usize)
+pub fn print_table(stdout: &mut Stdout, table: usize) -> io::Result<()>
     requires { table < 3 }
 {
-    print_code(table);
-    print_ambiguous(table);
-    io::write_all(1, b"reader ");
-    print_number(table);
-    io::write_all(1, b" ");
-    print_number(differing(table));
-    io::write_all(1, b"\n");
+    print_code(stdout, table)?;
+    print_ambiguous(stdout, table)?;
+    stdout.write_all(b"reader ")?;
+    print_number(stdout, table)?;
+    stdout.write_all(b" ")?;
+    print_number(stdout, differing(table))?;
+    stdout.write_all(b"\n")
 }

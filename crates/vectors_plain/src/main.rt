@@ -10,13 +10,16 @@ mod codes;
 mod plain;
 mod refused;
 
-fn main() {
-    codes::print_table(0);
-    codes::print_table(1);
-    codes::print_table(2);
-    plain::print_names();
-    plain::print_complement();
-    plain::print_lengths();
-    refused::print_refusals();
-    bytes::print_bytes();
+use std::io;
+
+fn main(rt: HostRuntime) -> io::Result<()> {
+    let mut stdout = rt.stdout();
+    codes::print_table(&mut stdout, 0)?;
+    codes::print_table(&mut stdout, 1)?;
+    codes::print_table(&mut stdout, 2)?;
+    plain::print_names(&mut stdout)?;
+    plain::print_complement(&mut stdout)?;
+    plain::print_lengths(&mut stdout)?;
+    refused::print_refusals(&mut stdout)?;
+    bytes::print_bytes(&mut stdout)
 }

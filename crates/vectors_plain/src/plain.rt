@@ -6,6 +6,8 @@ ghost use Rattle.rules.specs.Translation.{no_exception};
 use names::{aa1_to_aa3, aa3_to_aa1};
 use rules::{Exception, Exceptions, Written};
 use sequences::revcomp;
+use std::io;
+use std::io::{Stdout, Write};
 use translation::translate_cds;
 
 // One letter more than a transcript may have, and a residue more than they translate to.
@@ -30,43 +32,43 @@ pub fn no_exceptions() -> Exceptions
     }
 }
 
-pub fn print_number(n: usize) {
-    io::print_decimal(1, n as u64);
+pub fn print_number(stdout: &mut Stdout, n: usize) -> io::Result<()> {
+    write!(stdout, "{n}")
 }
 
 // What an answer says, behind a space: the bytes that it wrote, or its number.
-pub fn print_answer(answer: Written, out: &[u8]) {
+pub fn print_answer(stdout: &mut Stdout, answer: Written, out: &[u8]) -> io::Result<()> {
     match answer {
         Written::Bytes(n) => {
-            io::write_all(1, b" ");
+            stdout.write_all(b" ")?;
             if n <= out.len() {
-                io::write_all(1, &out[0..n]);
+                stdout.write_all(&out[0..n])?;
             }
         }
         Written::Refused(n) => {
-            io::write_all(1, b" refused ");
-            print_number(n);
+            stdout.write_all(b" refused ")?;
+            print_number(stdout, n)?;
         }
     }
-    io::write_all(1, b"\n");
+    stdout.write_all(b"\n")
 }
 
-pub fn print_names() {
+pub fn print_names(stdout: &mut Stdout) -> io::Result<()> {
     let mut three = [0u8; NAMES];
     let answer = aa1_to_aa3(b"ARNDCQEGHILKMFPSTWYVUXBZ*", &mut three);
-    io::write_all(1, b"names");
-    print_answer(answer, &three);
+    stdout.write_all(b"names")?;
+    print_answer(stdout, answer, &three)?;
     let mut one = [0u8; NAMED];
     let back = aa3_to_aa1(&three, &mut one);
-    io::write_all(1, b"names");
-    print_answer(back, &one);
+    stdout.write_all(b"names")?;
+    print_answer(stdout, back, &one)
 }
 
-pub fn print_complement() {
+pub fn print_complement(stdout: &mut Stdout) -> io::Result<()> {
     let mut out = [0u8; 15];
     let answer = revcomp(b"ACGTRYSWKMBDHVN", &mut out);
-    io::write_all(1, b"complement");
-    print_answer(answer, &out);
+    stdout.write_all(b"complement")?;
+    print_answer(stdout, answer, &out)
 }
 
 // How many of the bytes are b.
@@ -85,46 +87,46 @@ pub fn count_of(s: &[u8], b: u8) -> usize
 }
 
 // The number of residues, and how many of a buffer's bytes are K, X and as they were.
-fn print_counts(m: usize, out: &[u8]) {
-    io::write_all(1, b" residues ");
-    print_number(m);
-    io::write_all(1, b" K ");
-    print_number(count_of(out, b'K'));
-    io::write_all(1, b" X ");
-    print_number(count_of(out, b'X'));
-    io::write_all(1, b" kept ");
-    print_number(count_of(out, b'.'));
+fn print_counts(stdout: &mut Stdout, m: usize, out: &[u8]) -> io::Result<()> {
+    stdout.write_all(b" residues ")?;
+    print_number(stdout, m)?;
+    stdout.write_all(b" K ")?;
+    print_number(stdout, count_of(out, b'K'))?;
+    stdout.write_all(b" X ")?;
+    print_number(stdout, count_of(out, b'X'))?;
+    stdout.write_all(b" kept ")?;
+    print_number(stdout, count_of(out, b'.'))
 }
 
 // Translates so many letters A: the number of residues, and how many of them are K and X.
-fn print_length(letters: &[u8], n: usize) {
+fn print_length(stdout: &mut Stdout, letters: &[u8], n: usize) -> io::Result<()> {
     let mut out = [b'.'; RESIDUES];
-    io::write_all(1, b"length ");
-    print_number(n);
+    stdout.write_all(b"length ")?;
+    print_number(stdout, n)?;
     if letters.len() < n {
-        return;
+        return Ok(());
     }
     match translate_cds(&letters[0..n], 0, false, &mut out) {
-        Written::Bytes(m) => print_counts(m, &out),
+        Written::Bytes(m) => print_counts(stdout, m, &out)?,
         Written::Refused(m) => {
-            io::write_all(1, b" refused ");
-            print_number(m);
+            stdout.write_all(b" refused ")?;
+            print_number(stdout, m)?;
         }
     }
-    io::write_all(1, b"\n");
+    stdout.write_all(b"\n")
 }
 
-pub fn print_lengths() {
+pub fn print_lengths(stdout: &mut Stdout) -> io::Result<()> {
     let letters = [b'A'; LETTERS];
-    print_length(&letters, 0);
-    print_length(&letters, 1);
-    print_length(&letters, 2);
-    print_length(&letters, 3);
-    print_length(&letters, 4);
-    print_length(&letters, 5);
-    print_length(&letters, 6);
-    print_length(&letters, 16382);
-    print_length(&letters, 16383);
-    print_length(&letters, 16384);
-    print_length(&letters, 16385);
+    print_length(stdout, &letters, 0)?;
+    print_length(stdout, &letters, 1)?;
+    print_length(stdout, &letters, 2)?;
+    print_length(stdout, &letters, 3)?;
+    print_length(stdout, &letters, 4)?;
+    print_length(stdout, &letters, 5)?;
+    print_length(stdout, &letters, 6)?;
+    print_length(stdout, &letters, 16382)?;
+    print_length(stdout, &letters, 16383)?;
+    print_length(stdout, &letters, 16384)?;
+    print_length(stdout, &letters, 16385)
 }

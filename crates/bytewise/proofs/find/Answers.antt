@@ -1,5 +1,5 @@
 -- `bytewise::find` meets its contract.
-use Rattle.std.proofs.Common.{◌≡◌, ◌≢◌, ◌+◌, ◌-◌, ◌<◌, ◌≤◌, ℕ, suc, List, [], ◌∷◌, length, get_or, take, drop, refl, sym, ◌∙◌, ap, arith, drop-cons, add-one}
+use Rattle.std.proofs.Common.{◌≡◌, ◌≢◌, ◌+◌, ◌-◌, ◌<◌, ◌≤◌, ℕ, suc, List, ◌∷◌, length, get_or, ◌∙◌, ap, arith, drop-cons, add-one}
 use borrow.Author.Tests.{eq-eqb, ne_eqb}
 use Rattle.bytewise.specs.Find.{index_of, index_after, slice}
 use Rattle.bytewise.proofs.find.Goals as goal

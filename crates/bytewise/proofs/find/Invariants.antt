@@ -1,5 +1,5 @@
 -- No byte before i is b: the place is behind i, as far as b is in what is left.
-use Rattle.std.proofs.Common.{◌≡◌, ◌+◌, ◌-◌, drop, take}
+use Rattle.std.proofs.Common.{◌≡◌, ◌+◌}
 use Rattle.bytewise.specs.Find.{index_of, slice}
 use Rattle.bytewise.proofs.find.Given as goal
 

@@ -1,0 +1,17 @@
+-- `edits::plans::is_shift` meets its contract. Assumes nothing.
+use Rattle.rules.specs.Altered.{part}
+use Rattle.rules.specs.Packed.{letters_by}
+use Rattle.rules.specs.Views.{bare}
+use Rattle.edits.proofs.Planning.{shift-compared, shift_none}
+use Rattle.edits.proofs.plans.is_shift.Goals as goal
+
+pub returns-then-uneven-leaves : goal.returns-then-uneven-leaves
+unfolding part
+returns-then-uneven-leaves c =
+    let a = c.args in
+    λ e h. shift-compared (bare (letters_by a.form a.letters.now) a.c) e a.range a.new.now h c.same_by.result c.if-uneven-leaves.true c.same_by.ensures
+
+pub returns : goal.returns
+returns c =
+    let a = c.args in
+    λ e h. shift_none (bare (letters_by a.form a.letters.now) a.c) e a.range a.new.now h c.if-uneven-leaves.false

@@ -1,0 +1,28 @@
+-- `reference::stop::end_refusal` meets its contract. Assumes nothing.
+use mathlib.Core.Path.{ap}
+use mathlib.Core.Bool.{Bool}
+use Rattle.rules.specs.Bytes.{if◌then◌else◌}
+use Rattle.rules.specs.Packed.{letters_by}
+use Rattle.rules.specs.Views.{reference_of}
+use Rattle.reference.proofs.Cut.{end-six, end-twenty-eight}
+use Rattle.reference.proofs.stop.end_refusal.Goals as goal
+
+pub returns-then-ends_in_stop : goal.returns-then-ends_in_stop
+returns-then-ends_in_stop c =
+    let a = c.args in
+    end-six (reference_of (letters_by a.form a.letters.now) a.c a.e) c.ends_in_stop.result c.if-c-eq0.true c.ends_in_stop.ensures _ (ap (λ (t : Bool). if t then 0 else 6) c.if-ends_in_stop.true)
+
+pub returns-else-ends_in_stop : goal.returns-else-ends_in_stop
+returns-else-ends_in_stop c =
+    let a = c.args in
+    end-six (reference_of (letters_by a.form a.letters.now) a.c a.e) c.ends_in_stop.result c.if-c-eq0.true c.ends_in_stop.ensures _ (ap (λ (t : Bool). if t then 0 else 6) c.if-ends_in_stop.false)
+
+pub returns-then-is_cut_short : goal.returns-then-is_cut_short
+returns-then-is_cut_short c =
+    let a = c.args in
+    end-twenty-eight (reference_of (letters_by a.form a.letters.now) a.c a.e) c.is_cut_short.result c.if-c-eq0.false c.is_cut_short.ensures _ (ap (λ (t : Bool). if t then 0 else 28) c.if-is_cut_short.true)
+
+pub returns-else-is_cut_short : goal.returns-else-is_cut_short
+returns-else-is_cut_short c =
+    let a = c.args in
+    end-twenty-eight (reference_of (letters_by a.form a.letters.now) a.c a.e) c.is_cut_short.result c.if-c-eq0.false c.is_cut_short.ensures _ (ap (λ (t : Bool). if t then 0 else 28) c.if-is_cut_short.false)

@@ -1,0 +1,12 @@
+-- `rows::residues_by_number` meets its contract. The invariant: the first third letters are put. Assumes nothing.
+use native.Mathlib.Omega.{arith}
+use borrow.Author.Rules.{rules}
+use Rattle.rows.proofs.Rowed.{laid_none, laid-all}
+use Rattle.rows.proofs.residues_by_number.Goals as goal
+
+pub loop-c-init : goal.loop-c-init
+loop-c-init c = (search rules, laid_none c.args.table c.rows_of-rows.result c.rows_of-rows.ensures)
+
+pub returns : goal.returns
+returns c =
+    laid-all c.args.table c.rows_of-rows.result c.loop-c.all c.loop-c.c c.requires c.rows_of-rows.ensures c.loop-c.invariant.1 (omega arith)

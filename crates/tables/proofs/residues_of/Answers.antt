@@ -1,0 +1,17 @@
+-- `tables::residues_of` meets its contract: each of the three tables lists the rule, which antt computes. Assumes nothing.
+use native.Mathlib.Omega.{arith}
+use Rattle.rules.specs.Codons.{codon_rule}
+use Rattle.tables.proofs.Ruled.{rule_at, holds_code}
+use Rattle.tables.proofs.residues_of.Goals as goal
+
+pub returns-in-0 : goal.returns-in-0
+unfolding rule_at codon_rule
+returns-in-0 c = holds_code 0 c.args.table c.in-0.is
+
+pub returns-in-1 : goal.returns-in-1
+unfolding rule_at codon_rule
+returns-in-1 c = holds_code 1 c.args.table c.in-1.is
+
+pub returns-in_default : goal.returns-in_default
+unfolding rule_at codon_rule
+returns-in_default c = holds_code 2 c.args.table (omega (arith, c.in_default.in_default-own.rest.1, c.in_default.in_default-own.rest.0.1))

@@ -1,0 +1,27 @@
+use mathlib.Core.Path.{◌≡◌}
+use mathlib.Core.List.{[]}
+use Prim.Native.Nat.{◌-◌, ◌/◌, ◌≤◌}
+use lib.ListN.{length}
+use Rattle.rules.specs.Bytes.{over}
+use Rattle.rules.specs.Translation.{folded_translated}
+use Rattle.rules.proofs.Over.{over_from}
+use Rattle.places.proofs.Residues.{left_from}
+use Rattle.translation.proofs.reading.write_plain.Given as goal
+
+abbrev pub invariant-loop-i : goal.invariant-loop-i
+invariant-loop-i l =
+    (l.i ≤ length l.seq / 3)
+    × (length l.out ≡ length l.initial.out)
+    × (over_from l.i (left_from l.table [] l.seq l.i) l.out ≡ over (folded_translated l.table [] l.seq) l.initial.out)
+
+abbrev pub decreases-loop-i : goal.decreases-loop-i
+decreases-loop-i l = length l.seq / 3 - l.i
+
+abbrev pub invariant-loop-i-2 : goal.invariant-loop-i-2
+invariant-loop-i-2 l =
+    (l.i ≤ length l.seq / 3)
+    × (length l.out ≡ length l.initial.out)
+    × (over_from l.i (left_from l.table [] l.seq l.i) l.out ≡ over_from l.initial.i (left_from l.table [] l.seq l.initial.i) l.initial.out)
+
+abbrev pub decreases-loop-i-2 : goal.decreases-loop-i-2
+decreases-loop-i-2 l = length l.seq / 3 - l.i

@@ -1,0 +1,99 @@
+// What an edit of a stored reference is answered, as text.
+ghost use Rattle.std.specs.Prelude.{◌≡◌, eqb};
+ghost use Rattle.rules.specs.Bytes.{if◌then◌else◌};
+ghost use Rattle.rules.specs.Values.{kind_at};
+
+use crate::answers::print_number;
+use byte_numbers::two_bytes;
+use rules::{Answer, Change, Edit, Kind, Position, Record};
+use std::io;
+use std::io::{Stdout, Write};
+use stored::build_altseq_stored;
+
+// Room for each answer of the cases.
+const TRANSCRIPT_ROOM: usize = 32;
+
+const REFERENCE_ROOM: usize = 8;
+
+const ALTERED_ROOM: usize = 16;
+
+fn kind_of(number: u8) -> Kind
+    ensures { result ≡ kind_at number }
+{
+    match number {
+        1 => Kind::Substitution,
+        2 => Kind::Deletion,
+        3 => Kind::Delins,
+        4 => Kind::Insertion,
+        5 => Kind::Duplication,
+        6 => Kind::Inversion,
+        7 => Kind::Identity,
+        _ => Kind::Other,
+    }
+}
+
+fn position_of(sign: u8, n: usize) -> Position
+    ensures { result ≡ (if eqb sign 45 then Position.Minus n else if eqb sign 42 then Position.Star n else Position.Plus n) }
+{
+    match sign {
+        b'-' => Position::Minus(n),
+        b'*' => Position::Star(n),
+        _ => Position::Plus(n),
+    }
+}
+
+// The number, and how many residues are deleted and inserted.
+fn print_change(stdout: &mut Stdout, c: Change) -> io::Result<()> {
+    print_number(stdout, b": changed ", c.number)?;
+    print_number(stdout, b" ", c.deleted.len)?;
+    print_number(stdout, b" ", c.inserted.len)
+}
+
+fn print_record(stdout: &mut Stdout, found: Record) -> io::Result<()> {
+    match found {
+        Record::Unknown => stdout.write_all(b": unknown"),
+        Record::NoProtein => stdout.write_all(b": no-protein"),
+        Record::Silent { number, residue: _ } => print_number(stdout, b": silent ", number),
+        Record::Changed(c) => print_change(stdout, c),
+    }
+}
+
+fn print_answer(stdout: &mut Stdout, answer: Answer) -> io::Result<()> {
+    match answer {
+        Answer::Refused(n) => print_number(stdout, b": refused ", n),
+        Answer::Reported(p) => {
+            let found = p.found;
+            print_record(stdout, found)
+        }
+    }
+}
+
+fn print_bytes(stdout: &mut Stdout, s: &[u8]) -> io::Result<()> {
+    stdout.write_all(b" ")?;
+    stdout.write_all(s)
+}
+
+// The answer, and what the three buffers of dots hold then.
+fn print_outcome(stdout: &mut Stdout, s: &[u8], edit: Edit, new: &[u8]) -> io::Result<()> {
+    let mut transcript = [b'.'; TRANSCRIPT_ROOM];
+    let mut reference = [b'.'; REFERENCE_ROOM];
+    let mut altered = [b'.'; ALTERED_ROOM];
+    let answer = build_altseq_stored(s, edit, new, &mut transcript, &mut reference, &mut altered);
+    print_answer(stdout, answer)?;
+    print_bytes(stdout, &transcript)?;
+    print_bytes(stdout, &reference)?;
+    print_bytes(stdout, &altered)
+}
+
+// An edit: the kind's number, two positions, each a sign and a number of two bytes, and the new bases.
+pub fn print_edit(stdout: &mut Stdout, s: &[u8], e: &[u8]) -> io::Result<()> {
+    if e.len() < 7 {
+        return Ok(());
+    }
+    let edit = Edit {
+        kind: kind_of(e[0]),
+        start: position_of(e[1], two_bytes(e, 2)),
+        end: position_of(e[4], two_bytes(e, 5)),
+    };
+    print_outcome(stdout, s, edit, &e[7..])
+}
