@@ -38,7 +38,7 @@ def same(what, left, right):
 
 
 # results: every field is eight bytes, in the order of the source
-structs = dict(re.findall(r"#\[repr\(C\)\]\npub struct (\w+) \{(.*?)\n\}", source, re.S))
+structs = dict(re.findall(r"#\[repr\(C\)\]\n(?:#\[derive\([\w, ]*\)\]\n)?pub struct (\w+) \{(.*?)\n\}", source, re.S))
 if not structs:
     fail(f"no result in {' or '.join(SRC)}")
 for name, body in sorted(structs.items()):
@@ -58,7 +58,7 @@ for name, body in sorted(structs.items()):
         lines.append(f'_Static_assert(_Generic((({c} *)0)->{field}, {C_TYPE[kind]}: 1, default: 0), "type of {field} in {c}");')
 
 # entry points: declared again from the source; another declaration in the header doesn't compile
-entries = re.findall(r"#\[no_mangle\]\npub extern \"C\" fn (\w+)\((.*?)\) -> (\w+)", source, re.S)
+entries = re.findall(r"#\[unsafe\(no_mangle\)\]\npub extern \"C\" fn (\w+)\((.*?)\) -> (\w+)", source, re.S)
 for name, parameters, result in entries:
     words = []
     for p, kind in re.findall(r"(\w+): (&mut \[u8\]|&\[u8\]|\w+)", parameters):
@@ -88,22 +88,22 @@ if len(sys.argv) > 1:
 constants = {n: int(v) for n, v in re.findall(r"#define GARUMBOTT_(\w+) (\d+)", header)}
 values = text(f"{SPECS}/Values.antt")
 wanted = {}
-for sucs, kind in re.findall(r"^kindAt (.*) = kind\.(\w+)$", values, re.M):
+for sucs, kind in re.findall(r"^kind_at (.*) = kind\.(\w+)$", values, re.M):
     if kind != "Other":
         wanted[snake(kind).upper()] = sucs.count("suc")
-for kind, n in re.findall(r"^classNumber (\w+) = (\d+)$", values, re.M):
+for kind, n in re.findall(r"^class_number (\w+) = (\d+)$", values, re.M):
     wanted["CHANGE_" + snake(kind).upper()] = int(n)
 wanted["CHANGE_NONE"] = 0
-for kind, n in re.findall(r"^toldBy (\w+) = alone (\d+)$", values, re.M):
+for kind, n in re.findall(r"^told_by (\w+) = alone (\d+)$", values, re.M):
     wanted[snake(kind).upper()] = int(n)
-for kind, n in re.findall(r"^toldBy \((\w+) [^)]*\) =\s*record \{\s*answer = (\d+);", values, re.M):
+for kind, n in re.findall(r"^told_by \((\w+) [^)]*\) =\s*record \{\s*answer = (\d+);", values, re.M):
     wanted[snake(kind).upper()] = int(n)
-wanted["REFUSED"] = 0 if re.search(r"^valuesOf \(Refused n\) = record \{ refusal = n;.*told = alone 0; codons = 0 \}", values, re.M) else None
+wanted["REFUSED"] = 0 if re.search(r"^values_of \(Refused n\) = record \{ refusal = n;.*told = alone 0; codons = 0 \}", values, re.M) else None
 limits = re.search(r"^limits = record \{ longest = (\d+); most = (\d+) \}", text(f"{SPECS}/Refusal.antt"), re.M)
 wanted["LONGEST"], wanted["MOST_BASES"] = int(limits.group(1)), int(limits.group(2))
 wanted["MOST_EXCEPTIONS"], wanted["EXCEPTION_BYTES"] = 16, 3
 reference = text(f"{SPECS}/Reference.antt")
-for end, name in (("atStop", "STOP"), ("noStop", "NO_STOP"), ("cutCodon", "CUT_CODON")):
+for end, name in (("at_stop", "STOP"), ("no_stop", "NO_STOP"), ("cut_codon", "CUT_CODON")):
     wanted["END_" + name] = int(re.search(rf"^{end} = (\d+)$", reference, re.M).group(1))
 wanted |= {"TABLE_STANDARD": 0, "TABLE_SELENOCYSTEINE": 1, "TABLE_VERTEBRATE_MITOCHONDRIAL": 2}  # test.c translates by these
 wanted["TRANSCRIPT_ROOM"] = wanted["LONGEST"] + max(wanted["LONGEST"], wanted["MOST_BASES"])
@@ -111,17 +111,17 @@ wanted["REFERENCE_ROOM"] = (wanted["LONGEST"] + 2) // 3
 wanted["ALTERED_ROOM"] = (wanted["TRANSCRIPT_ROOM"] + 2) // 3
 packed = text(f"{SPECS}/Packed.antt")
 for name, number in (("Bytes", r"zero"), ("Packed size", r"\(suc zero\)")):
-    if not re.search(rf"^formAt {number} size = {name}$", packed, re.M):
-        fail(f"formAt gives another form than {name}")
+    if not re.search(rf"^form_at {number} size = {name}$", packed, re.M):
+        fail(f"form_at gives another form than {name}")
 wanted |= {"FORM_BYTES": 0, "FORM_PACKED": 1}
 editions = text(f"{SPECS}/Editions.antt")
-wanted["DIFFERENCE_BYTES"] = re.search(r"^differenceBytes d = (.*\[\])$", editions, re.M).group(1).count("∷")
+wanted["DIFFERENCE_BYTES"] = re.search(r"^difference_bytes d = (.*\[\])$", editions, re.M).group(1).count("∷")
 wanted["DIFFERENCES_ROOM"] = wanted["DIFFERENCE_BYTES"] * wanted["REFERENCE_ROOM"]
-wanted["OF_SECOND"] = int(re.search(r"↯ \((\d+) \+ referenceRefusal longest s\)", editions).group(1))
+wanted["OF_SECOND"] = int(re.search(r"↯ \((\d+) \+ reference_refusal longest s\)", editions).group(1))
 settings = text(f"{SPECS}/Settings.antt")
-versions = re.search(r"^isVersion v = leb (\d+) v && leb v (\d+)$", settings, re.M)
+versions = re.search(r"^is_version v = leb (\d+) v && leb v (\d+)$", settings, re.M)
 wanted["SETTINGS_FIRST"], wanted["SETTINGS_SECOND"] = int(versions.group(1)), int(versions.group(2))
-stored, added = re.search(r"^layout v = (.*) ∷ \(if hasLongest v then (.*) ∷ \[\] else \[\]\)$", settings, re.M).groups()
+stored, added = re.search(r"^layout v = (.*) ∷ \(if has_longest v then (.*) ∷ \[\] else \[\]\)$", settings, re.M).groups()
 sizes = [sum(3 + int(n) for n in re.findall(r"\(\d+, (\d+)\)", fields)) for fields in (stored, added)]
 wanted["SETTINGS_FIRST_ROOM"], wanted["SETTINGS_ROOM"] = sizes[0], sum(sizes)
 for name, n in sorted(wanted.items()):
@@ -129,7 +129,7 @@ for name, n in sorted(wanted.items()):
 refusals = set()
 for name in sorted(os.listdir(SPECS)):
     body = re.sub(r"--.*", "", text(f"{SPECS}/{name}"))
-    refusals |= {int(n) for n in re.findall(r"↯ (\d+)", body)} | {int(n) for n in re.findall(r"\b[rR]efused(?:Line)? (\d+)", body)}
+    refusals |= {int(n) for n in re.findall(r"↯ (\d+)", body)} | {int(n) for n in re.findall(r"\b[rR]efused(?:_line)? (\d+)", body)}
     refusals |= {int(n) for a, b in re.findall(r"refused \(if .* then (\d+) else (\d+)\)", body) for n in (a, b)}
 given = {v for n, v in constants.items() if n.startswith("REFUSAL_")}
 if given != refusals:

@@ -115,14 +115,14 @@ for number, row in rows.items():
             faults.append(f'the words of refusal {number} have no "{word}"')
 
 values, run = text("crates/rules/specs/Values.antt"), text("crates/rules/specs/Run.antt")
-printed = dict(re.findall(r'^className (\w+) = bytes "(.*)"$', run, re.M))
-classes = {n: printed.get(c) for c, n in re.findall(r"^classNumber (\w+) = (\d+)$", values, re.M)}
+printed = dict(re.findall(r'^class_name (\w+) = bytes "(.*)"$', run, re.M))
+classes = {n: printed.get(c) for c, n in re.findall(r"^class_number (\w+) = (\d+)$", values, re.M)}
 if len(classes) != 9 or said["class_name"] != {"?": "?", **classes}:
     faults.append(f"the names of classes are {said['class_name']}, and the text program's {classes}")
-printed = dict(re.findall(r'^recordLine \(?(\w+)[^=]*= bytes "([^" ]*) ?"', run, re.M))
-answers = {n: printed.get(r) for r, n in re.findall(r"^toldBy (\w+) = alone (\d+)$", values, re.M)}
-answers |= {n: printed.get(r, "changed") for r, n in re.findall(r"^toldBy \((\w+) [^)]*\) =\s*record \{\s*answer = (\d+);", values, re.M)}
-answers["0"] = re.search(r'^refusedLine n = bytes "(\w+) "', run, re.M).group(1)
+printed = dict(re.findall(r'^record_line \(?(\w+)[^=]*= bytes "([^" ]*) ?"', run, re.M))
+answers = {n: printed.get(r) for r, n in re.findall(r"^told_by (\w+) = alone (\d+)$", values, re.M)}
+answers |= {n: printed.get(r, "changed") for r, n in re.findall(r"^told_by \((\w+) [^)]*\) =\s*record \{\s*answer = (\d+);", values, re.M)}
+answers["0"] = re.search(r'^refused_line n = bytes "(\w+) "', run, re.M).group(1)
 if len(answers) != 5 or said["answer_name"] != {"?": "?", **answers}:
     faults.append(f"the names of answers are {said['answer_name']}, and the text program's {answers}")
 

@@ -1,5 +1,6 @@
 -- A codon's letters and its number tell the same.
 -- Assumes nothing.
+use Rattle.std.specs.Prelude.{if◌then◌else◌}
 use mathlib.Core.Path.{◌≡◌, refl, sym, ap, ◌∙◌}
 use mathlib.Core.Bool.{Bool, true, false, ◌&&◌}
 use mathlib.Core.List.{List, [], ◌∷◌}
@@ -10,7 +11,7 @@ use lib.Dec.{eqb, ltb}
 use lib.ListN.{length, get_or, take, drop, length-take, length-drop}
 use lib.Seq.{get_or-take, get_or-drop}
 use borrow.Author.Tests.{eqb-true, ltb-true, eq-eqb, ne_eqb}
-use Rattle.rules.specs.Bytes.{if◌then◌else◌, same, all}
+use Rattle.rules.specs.Bytes.{same, all}
 use Rattle.rules.specs.Letters.{pick, letters, letter_set, is_letter}
 use Rattle.rules.specs.Reference.{Reference, cds}
 use Rattle.rules.specs.Altered.{part}

@@ -1,15 +1,15 @@
 -- Laws of what a transcript and the one that a plan makes of it share: the beginning, and the ending behind it.
 -- Assumes nothing.
+use Rattle.std.specs.Prelude.{if◌then◌else◌}
 use mathlib.Core.Path.{◌≡◌, refl, sym, ap, ◌∙◌}
 use mathlib.Core.Bool.{Bool, true, false}
 use mathlib.Core.List.{List, [], ◌∷◌, ◌++◌, append_assoc, reverse, reverse-append}
 use Prim.Native.Nat.{ℕ, zero, suc, ◌+◌, ◌-◌, ◌≤◌, ◌<◌}
 use native.Mathlib.Omega.{arith}
-use lib.ListN.{length, take, drop, get_or, length-append, length-take, length-drop, length-reverse, take-append-drop}
+use lib.ListN.{length, take, drop, length-append, length-take, length-drop, length-reverse, take-append-drop}
 use lib.Dec.{eqb}
-use lib.Seq.{length-take-le, take-take, take-add, take_at, drop-drop, drop_at, drop-append-add, get_or-drop}
+use lib.Seq.{length-take-le, take-take, take-add, take_at, drop-drop, drop_at, drop-append-add}
 use Rattle.rules.specs.Trims.{common_prefix, common_suffix}
-use Rattle.rules.specs.Bytes.{if◌then◌else◌}
 use Rattle.rules.specs.Altered.{part, carried}
 use Rattle.rules.specs.Exceptions.{suffix_behind}
 use Rattle.rules.proofs.Trims.{cp_take, cp_append, cs_append, cs_drop, cs_le_l, cs_le_r}

@@ -24,7 +24,7 @@ use Rattle.rules.specs.Answer.{Outcome, writes_nothing, unknown_report, full_rep
 use Rattle.rules.specs.Views.{bare, asked, reference_of}
 use Rattle.rules.proofs.Refusal.{refused-reference, refused-edit}
 use Rattle.rules.proofs.Altered.{altered_length_lem}
-use Rattle.rules.proofs.Answers.{refused-by, unknown-by, room_by, all-by}
+use Rattle.rules.proofs.Answers.{refused-by, unknown-by, room_by as room_refused, all-by}
 use Rattle.rules.proofs.Records.{record-known}
 use Rattle.reference.specs.declared.Known.{Known}
 use Rattle.reference.specs.Known.{known_of, Knows}
@@ -132,7 +132,7 @@ module _ (m : Limits) (s : List ℕ) (k : Known) (e : Exceptions) (protein : Lis
       where
         by : (n : ℕ) → room_refusal (reference_of s k.cds e) a room ≡ n → outcome m (reference_of s k.cds e) a room ≡ decided_outcome (reference_of s k.cds e) (goes_by n p) a.new
         by zero h = all-by m (reference_of s k.cds e) a room none-refused not-unknown h ∙ sym (goes-all (reference_of s k.cds e) a p plan-is not-unknown m none-refused)
-        by (suc n) h = room_by m (reference_of s k.cds e) a room n none-refused not-unknown h
+        by (suc n) h = room_refused m (reference_of s k.cds e) a room n none-refused not-unknown h
 
   -- what was decided, with room or without, is the outcome
   pub decided-is : (room : Room) → outcome m (reference_of s k.cds e) a room

@@ -1,4 +1,5 @@
 -- Laws of A where it is written: read whole with exceptions, and in pieces without. Assumes nothing.
+use Rattle.std.specs.Prelude.{if◌then◌else◌}
 use mathlib.Core.Path.{◌≡◌, refl, sym, ap, ◌∙◌}
 use mathlib.Core.Bool.{Bool, true, ◌&&◌}
 use mathlib.Core.List.{List, []}
@@ -8,7 +9,7 @@ use lib.Dec.{eqb}
 use lib.ListN.{length, take, drop, length-drop}
 use borrow.Author.Tests.{eq-eqb, ne_eqb}
 use Rattle.rules.specs.declared.Exceptions.{Exceptions}
-use Rattle.rules.specs.Bytes.{byte, if◌then◌else◌, all, count}
+use Rattle.rules.specs.Bytes.{byte, all, count}
 use Rattle.rules.specs.Letters.{is_letter}
 use Rattle.rules.specs.Translation.{exception_list, translated, through_stop, residue_count, folded_translated}
 use Rattle.rules.specs.Reference.{Reference, size, reference_protein}

@@ -1,10 +1,10 @@
 -- What a plan makes of a checked reference, and what is known where it is carried out.
-use Rattle.std.specs.Prelude.{ℕ, ◌+◌, ◌-◌, ◌/◌, ◌≤◌, min, ◌≡◌, true, false, List, [], eqb, length, drop}
+use Rattle.std.specs.Prelude.{ℕ, ◌+◌, ◌-◌, ◌/◌, ◌≤◌, min, ◌≡◌, true, false, List, [], eqb, length, drop, if◌then◌else◌}
 use Rattle.rules.specs.declared.Edit.{Edit}
 use Rattle.rules.specs.declared.Exceptions.{Exceptions}
 use Rattle.rules.specs.declared.Limits.{Limits}
 use Rattle.rules.specs.declared.Report.{Report}
-use Rattle.rules.specs.Bytes.{if◌then◌else◌, all}
+use Rattle.rules.specs.Bytes.{all}
 use Rattle.rules.specs.Letters.{is_letter}
 use Rattle.rules.specs.Translation.{residue_count}
 use Rattle.rules.specs.Reference.{Reference, reference_protein}

@@ -1,7 +1,6 @@
 -- The altered transcript alone: refusals 1 to 11, Unknown before 11, else what is written.
-use Rattle.std.specs.Prelude.{ℕ, zero, suc, Bool, true, false, List, [], ltb, length}
+use Rattle.std.specs.Prelude.{ℕ, zero, suc, Bool, true, false, List, [], ltb, length, if◌then◌else◌}
 use Rattle.rules.specs.declared.Limits.{Limits}
-use Rattle.rules.specs.Bytes.{if◌then◌else◌}
 use Rattle.rules.specs.Reference.{Reference}
 use Rattle.rules.specs.Edit.{Asked}
 use Rattle.rules.specs.Altered.{altered_transcript, altered_length, frameshift}

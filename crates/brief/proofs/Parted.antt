@@ -1,4 +1,5 @@
 -- Laws of letters that are read in two parts, and of the letters that an edit touches. Assumes nothing.
+use Rattle.std.specs.Prelude.{if◌then◌else◌}
 use mathlib.Core.Path.{◌≡◌, refl, sym, ap, ap₂, ◌∙◌}
 use mathlib.Core.Bool.{Bool, true, false, ◌&&◌}
 use mathlib.Core.List.{List, [], ◌++◌, append-nil, map, map-append}
@@ -10,7 +11,7 @@ use lib.Seq.{length-take-le, take-add, drop-drop}
 use borrow.Author.Tests.{ltb-true, ltb-false}
 use borrow.Rule.Slice.PartMut.{put_mid}
 use Rattle.rules.specs.declared.Exceptions.{Exceptions}
-use Rattle.rules.specs.Bytes.{if◌then◌else◌, all, over}
+use Rattle.rules.specs.Bytes.{all, over}
 use Rattle.rules.specs.Letters.{is_letter, folded}
 use Rattle.rules.specs.Translation.{exception_list, residue_count, before_stop, through_stop, translated, folded_translated}
 use Rattle.rules.specs.Altered.{part}

@@ -1,4 +1,5 @@
 -- Laws of a plan's record over the parts of A. Assumes nothing.
+use Rattle.std.specs.Prelude.{if◌then◌else◌}
 use mathlib.Core.Path.{◌≡◌, refl, sym, ap, ap₂, ◌∙◌}
 use mathlib.Core.Bool.{Bool, true, false, ◌&&◌}
 use mathlib.Core.List.{List, [], ◌++◌, append-nil}
@@ -10,7 +11,7 @@ use lib.Seq.{length-take-le}
 use Rattle.rules.specs.declared.Cds.{Cds}
 use Rattle.rules.specs.declared.Exceptions.{Exceptions}
 use Rattle.rules.specs.declared.Record.{Record}
-use Rattle.rules.specs.Bytes.{if◌then◌else◌, all, over}
+use Rattle.rules.specs.Bytes.{all, over}
 use Rattle.rules.specs.Translation.{residue_count, before_stop, through_stop, folded_translated}
 use Rattle.rules.specs.Reference.{Reference, size, reference_protein}
 use Rattle.rules.specs.Record.{record_from}

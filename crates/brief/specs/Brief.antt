@@ -1,7 +1,7 @@
 -- Where R goes on behind what was read, the letters that an edit touches, and what is known where they are read. Assumes nothing: these are definitions.
-use Rattle.std.specs.Prelude.{ℕ, ◌+◌, ◌-◌, ◌*◌, ◌/◌, ◌%◌, ◌≤◌, ◌<◌, min, ◌≡◌, Bool, true, List, [], length}
+use Rattle.std.specs.Prelude.{ℕ, ◌+◌, ◌-◌, ◌*◌, ◌/◌, ◌%◌, ◌≤◌, ◌<◌, min, ◌≡◌, Bool, true, List, [], length, if◌then◌else◌}
 use Rattle.rules.specs.declared.Exceptions.{Exceptions}
-use Rattle.rules.specs.Bytes.{if◌then◌else◌, all}
+use Rattle.rules.specs.Bytes.{all}
 use Rattle.rules.specs.Letters.{is_letter}
 use Rattle.rules.specs.Translation.{exception_list, residue_count}
 use Rattle.letters.specs.Sets.{is_base}

@@ -1,5 +1,6 @@
 -- Laws of what is decided of an edit whose record is checked.
 -- Assumes nothing.
+use Rattle.std.specs.Prelude.{if◌then◌else◌}
 use mathlib.Core.Path.{◌≡◌, refl, sym, ap, ◌∙◌}
 use mathlib.Core.Bool.{Bool, true, false, not, ◌&&◌, ◌||◌}
 use mathlib.Core.List.{List, [], ◌∷◌}
@@ -11,7 +12,7 @@ use borrow.Author.Tests.{ltb-false}
 use Rattle.rules.specs.declared.Cds.{Cds}
 use Rattle.rules.specs.declared.Exception.{Exception}
 use Rattle.rules.specs.declared.Exceptions.{Exceptions}
-use Rattle.rules.specs.Bytes.{byte, if◌then◌else◌, is_none, same, count, first_number}
+use Rattle.rules.specs.Bytes.{byte, is_none, same, count, first_number}
 use Rattle.rules.specs.Codons.{residue_x, codon}
 use Rattle.rules.specs.Translation.{exception_list, excepted, residues_from, translated, through_stop}
 use Rattle.rules.specs.Trims.{common_prefix}

@@ -1,5 +1,6 @@
 -- Laws of the whole answer to a proposed record: what is decided, and what is judged, is the outcome of document 02.
 -- Assumes nothing.
+use Rattle.std.specs.Prelude.{if◌then◌else◌}
 use mathlib.Core.Path.{◌≡◌, refl, sym, ap, subst, ◌∙◌}
 use mathlib.Core.Bool.{Bool, true, false, not}
 use mathlib.Core.List.{List, [], ◌∷◌}
@@ -13,7 +14,7 @@ use Rattle.rules.specs.declared.Exceptions.{Exceptions}
 use Rattle.rules.specs.declared.Verdict.{Verdict}
 use Rattle.rules.specs.declared.Check.{Check}
 use Rattle.rules.specs.declared.Check.TheVariants as check
-use Rattle.rules.specs.Bytes.{if◌then◌else◌, over, ◌↯◌, first_number}
+use Rattle.rules.specs.Bytes.{over, ◌↯◌, first_number}
 use Rattle.rules.specs.Translation.{residue_count}
 use Rattle.rules.specs.Reference.{Reference, cds_size, reference_protein}
 use Rattle.rules.specs.Edit.{Asked}

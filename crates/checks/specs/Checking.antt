@@ -1,9 +1,9 @@
 -- What a checked record is answered, and what is written, by what was decided.
-use Rattle.std.specs.Prelude.{ℕ, ◌≤◌, ◌≡◌, List, [], length, take}
+use Rattle.std.specs.Prelude.{ℕ, ◌≤◌, ◌≡◌, List, [], length, take, if◌then◌else◌}
 use Rattle.rules.specs.declared.Verdict.{Verdict}
 use Rattle.rules.specs.declared.Check.{Check}
 use Rattle.rules.specs.declared.Check.TheVariants.{Refused, Judged}
-use Rattle.rules.specs.Bytes.{if◌then◌else◌, over}
+use Rattle.rules.specs.Bytes.{over}
 use Rattle.rules.specs.Reference.{Reference, reference_protein}
 use Rattle.rules.specs.Check.{Proposal, replays, is_shortest, is_proposal, CheckOutcome, checks_nothing}
 use Rattle.edits.specs.declared.plans.Plan.{Plan}

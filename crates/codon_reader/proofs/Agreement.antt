@@ -1,4 +1,5 @@
 -- Expanding a codon one letter at a time gives the codon rule. Assumes nothing.
+use Rattle.std.specs.Prelude.{if◌then◌else◌}
 use mathlib.Core.List.{List, [], ◌∷◌, ◌++◌}
 use mathlib.Core.Bool.{Bool, true, false, ◌&&◌, ◌||◌, not}
 use mathlib.Core.Path.{◌≡◌, refl, sym, ap, ◌∙◌}
@@ -7,7 +8,7 @@ use native.Mathlib.Omega.{arith}
 use lib.Dec.{eqb}
 use lib.ListN.{get_or}
 use borrow.Author.Tests.{eqb-true, eqb-false}
-use Rattle.rules.specs.Bytes.{byte, if◌then◌else◌}
+use Rattle.rules.specs.Bytes.{byte}
 use Rattle.rules.specs.Codons.{residue_x, genetic_code, plain_codon, with_base, bases_of, for_each, residues, all_are, is_among, no_third, mixed, agreed, codon_rule}
 use Rattle.mixes.specs.Mixes.{mixed_with}
 use Rattle.codon_reader.specs.Expansion.{expanded, joined_all}

@@ -1,5 +1,6 @@
 -- Two first letters with a third: antt computes of each code that bases agree as they are read, and which mixed pairs agree at all.
 -- Assumes nothing.
+use Rattle.std.specs.Prelude.{if◌then◌else◌}
 use mathlib.Core.Path.{◌≡◌, refl, sym, ap, ◌∙◌}
 use mathlib.Core.Bool.{Bool, true, false, ◌&&◌}
 use mathlib.Core.List.{List}
@@ -9,7 +10,6 @@ use native.Mathlib.Omega.{arith}
 use lib.Dec.{eqb, lit<}
 use lib.ListN.{get_or}
 use borrow.Author.Tests.{eq-eqb, ne_eqb, eqb-true, eqb-false}
-use Rattle.rules.specs.Bytes.{if◌then◌else◌}
 use Rattle.rules.specs.Codons.{residue_x, codon_rule}
 use Rattle.letters.specs.Sets.{base_set}
 use Rattle.letters.proofs.Listed.{listed, at_each}

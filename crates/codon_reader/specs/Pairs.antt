@@ -1,7 +1,6 @@
 -- A codon read by its first two letters: what the reader of few letters gives for two bases, and for a mixed pair. Assumes nothing: these are
 -- definitions.
-use Rattle.std.specs.Prelude.{ℕ, ◌/◌, ◌%◌, Bool, ◌&&◌, ◌||◌, eqb}
-use Rattle.rules.specs.Bytes.{if◌then◌else◌}
+use Rattle.std.specs.Prelude.{ℕ, ◌/◌, ◌%◌, Bool, ◌&&◌, ◌||◌, eqb, if◌then◌else◌}
 use Rattle.rules.specs.Codons.{residue_x, codon_rule}
 use Rattle.letters.specs.Sets.{base_set}
 use Rattle.mixes.specs.Mixes.{joined}

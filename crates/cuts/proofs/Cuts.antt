@@ -1,5 +1,6 @@
 -- Laws of the stop cut: a codon of the letters N and the first bases, and the bases behind it.
 -- Assumes nothing.
+use Rattle.std.specs.Prelude.{if◌then◌else◌}
 use mathlib.Core.Path.{◌≡◌, refl, sym, ap, ◌∙◌}
 use mathlib.Core.Bool.{Bool, true, false}
 use mathlib.Core.List.{List, [], ◌∷◌}
@@ -11,7 +12,7 @@ use borrow.Author.Tests.{lt-ltb, le-ltb, eq-eqb, ne_eqb}
 use lib.ListN.{length, take, drop, get_or, length-take, length-drop}
 use lib.Seq.{take-nil, take-length, get_or-take, get_or-drop, drop-drop}
 use Rattle.rules.specs.declared.Exceptions.{Exceptions}
-use Rattle.rules.specs.Bytes.{byte, if◌then◌else◌, all}
+use Rattle.rules.specs.Bytes.{byte, all}
 use Rattle.rules.specs.Letters.{letter_set, is_letter}
 use Rattle.rules.specs.Codons.{residue_x, codon_rule, codon}
 use Rattle.rules.specs.Altered.{part, framed, has_stop, through_stop_codon, cut_at_stop}

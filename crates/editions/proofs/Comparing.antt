@@ -1,5 +1,6 @@
 -- Laws of the whole answer: a refusal of the first, of the second with 100 added, 50, or the list.
 -- Assumes nothing.
+use Rattle.std.specs.Prelude.{if◌then◌else◌}
 use mathlib.Core.Path.{◌≡◌, refl, sym, ap, ◌∙◌}
 use mathlib.Core.Bool.{Bool, true, false, ◌&&◌, not}
 use mathlib.Core.List.{List, [], ◌∷◌}
@@ -8,7 +9,7 @@ use native.Mathlib.Omega.{arith}
 use lib.Dec.{ltb, leb}
 use lib.ListN.{length}
 use borrow.Author.Tests.{lt-ltb, le-ltb, leb-true}
-use Rattle.rules.specs.Bytes.{if◌then◌else◌, all, each, Test, first_number, given, refused, unless}
+use Rattle.rules.specs.Bytes.{all, each, Test, first_number, given, refused, unless}
 use Rattle.rules.specs.Reference.{Reference, size, reference_tests}
 use Rattle.rules.specs.Refusal.{limits, reference_refusal}
 use Rattle.rules.specs.Packed.{letters_by}

@@ -1,8 +1,8 @@
 -- A codon's letters as one number, and its residue by it.
-use Rattle.std.specs.Prelude.{ℕ, ◌+◌, ◌-◌, ◌*◌, ◌%◌, ◌≤◌, ◌≡◌, true, List, eqb, length, get_or}
+use Rattle.std.specs.Prelude.{ℕ, ◌+◌, ◌-◌, ◌*◌, ◌%◌, ◌≤◌, ◌≡◌, true, List, eqb, length, get_or, if◌then◌else◌}
 use Rattle.rules.specs.declared.Cds.{Cds}
 use Rattle.rules.specs.declared.Exception.{Exception}
-use Rattle.rules.specs.Bytes.{if◌then◌else◌, all}
+use Rattle.rules.specs.Bytes.{all}
 use Rattle.rules.specs.Letters.{letter_set, is_letter}
 use Rattle.rules.specs.Codons.{residue_x}
 use Rattle.rules.specs.Translation.{excepted}

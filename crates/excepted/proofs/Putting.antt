@@ -1,4 +1,5 @@
 -- Laws of exceptions: whether they can be taken, and residues with them, one exception at a time. Assumes nothing.
+use Rattle.std.specs.Prelude.{if◌then◌else◌}
 use mathlib.Core.Path.{◌≡◌, refl, sym, ap, ◌∙◌}
 use mathlib.Core.Bool.{Bool, true, false, ◌&&◌, and-eq-true_iff}
 use mathlib.Core.List.{List, [], ◌∷◌, ◌++◌, append_assoc, map}
@@ -11,7 +12,7 @@ use lib.Seq.{take-suc, take_at, drop_at, set-append_left, length-take-le}
 use borrow.Author.Tests.{eq-eqb, ne_eqb, le-leb, lt-leb, leb-true, leb-false, ltb-true, ltb-false}
 use Rattle.rules.specs.declared.Exception.{Exception}
 use Rattle.rules.specs.declared.Exceptions.{Exceptions}
-use Rattle.rules.specs.Bytes.{if◌then◌else◌, all, over}
+use Rattle.rules.specs.Bytes.{all, over}
 use Rattle.rules.specs.Letters.{folded}
 use Rattle.rules.specs.Codons.{codon}
 use Rattle.rules.specs.Translation.{exception_list, excepted, residues_from, translated, residue_count, is_residue, are_exceptions, whole_codons, folded_translated}

@@ -1,7 +1,6 @@
 -- Exceptions put over residues, and the next codon that has one. Assumes nothing: these are definitions.
-use Rattle.std.specs.Prelude.{ℕ, suc, ◌<◌, ◌≡◌, ◌&&◌, List, [], ◌∷◌, leb, ltb}
+use Rattle.std.specs.Prelude.{ℕ, suc, ◌<◌, ◌≡◌, ◌&&◌, List, [], ◌∷◌, leb, ltb, if◌then◌else◌}
 use Rattle.rules.specs.declared.Exception.{Exception}
-use Rattle.rules.specs.Bytes.{if◌then◌else◌}
 use Rattle.rules.specs.Translation.{excepted}
 
 -- residues with the exceptions, the first of them codon n's

@@ -1,5 +1,6 @@
 -- Laws of contents: what stands at the place of a tag's content is that content; and in fields that a form doesn't refuse it fits the tag.
 -- Assumes nothing.
+use Rattle.std.specs.Prelude.{if◌then◌else◌}
 use mathlib.Core.Path.{◌≡◌, refl, sym, ap, ◌∙◌}
 use mathlib.Core.Bool.{Bool, true, false}
 use mathlib.Core.List.{List, [], ◌∷◌}
@@ -10,7 +11,7 @@ use lib.Dec.{eqb}
 use lib.ListN.{length, drop}
 use borrow.Author.Tests.{eqb-true, not-false}
 use Rattle.rules.specs.declared.Part.{Part}
-use Rattle.rules.specs.Bytes.{if◌then◌else◌, Result, given, refused}
+use Rattle.rules.specs.Bytes.{Result, given, refused}
 use Rattle.rules.specs.Record.{part_of}
 use Rattle.rules.specs.Stored as stored
 use Rattle.rules.specs.Stored.{field, Form, is_wrong_tag, is_wrong_content, Tagged, with_field, met, fields_from, fields, content_of}

@@ -1,5 +1,6 @@
 -- Laws of fields in their order, over any form: what the fields from a place on are, by what the field there is refused with.
 -- Assumes nothing.
+use Rattle.std.specs.Prelude.{if◌then◌else◌}
 use mathlib.Core.Path.{◌≡◌, refl, sym, ap, ◌∙◌}
 use mathlib.Core.Bool.{Bool, true, false}
 use mathlib.Core.List.{List, [], ◌∷◌}
@@ -7,7 +8,7 @@ use Prim.Native.Nat.{ℕ, zero, suc, ◌+◌, ◌≤◌}
 use native.Mathlib.Omega.{arith}
 use lib.ListN.{length, drop}
 use Rattle.rules.specs.declared.Part.{Part}
-use Rattle.rules.specs.Bytes.{if◌then◌else◌, Result, given, refused}
+use Rattle.rules.specs.Bytes.{Result, given, refused}
 use Rattle.rules.specs.Record.{part_of}
 use Rattle.rules.specs.Stored as stored
 use Rattle.rules.specs.Stored.{field, Form, is_wrong_tag, is_wrong_content, Tagged, with_field, met, fields_from, fields}

@@ -1,7 +1,6 @@
 -- Fields and contents by their places in the caller's bytes.
-use Rattle.std.specs.Prelude.{ℕ, zero, suc, ◌+◌, ◌≤◌, ◌≡◌, List, [], ◌∷◌, eqb, length, drop}
+use Rattle.std.specs.Prelude.{ℕ, zero, suc, ◌+◌, ◌≤◌, ◌≡◌, List, [], ◌∷◌, eqb, length, drop, if◌then◌else◌}
 use Rattle.rules.specs.declared.Part.{Part}
-use Rattle.rules.specs.Bytes.{if◌then◌else◌}
 use Rattle.rules.specs.Stored as stored
 use Rattle.rules.specs.Stored.{Tagged}
 use Rattle.fields.specs.declared.reader.Field.{Field}

@@ -1,6 +1,6 @@
 -- What one field is refused with, and what a reading of all fields tells: its number, or its fields.
-use Rattle.std.specs.Prelude.{ℕ, List, []}
-use Rattle.rules.specs.Bytes.{if◌then◌else◌, Result, given, refused}
+use Rattle.std.specs.Prelude.{ℕ, List, [], if◌then◌else◌}
+use Rattle.rules.specs.Bytes.{Result, given, refused}
 use Rattle.rules.specs.Record.{part_of}
 use Rattle.rules.specs.Stored.{Form, is_wrong_tag, is_wrong_content, Tagged}
 use Rattle.fields.specs.declared.reader.Field.{Field}

@@ -1,5 +1,6 @@
 -- Exceptions in the stored form, as calls take them: they answer alike whether they are held or read, since what isn't held is refused with 5.
 -- Assumes nothing.
+use Rattle.std.specs.Prelude.{if◌then◌else◌}
 use mathlib.Core.Path.{◌≡◌, refl, sym, ap, ◌∙◌}
 use mathlib.Core.Bool.{Bool, true, false, ◌&&◌, not}
 use mathlib.Core.List.{List, [], ◌∷◌, ◌++◌}
@@ -12,7 +13,7 @@ use borrow.Author.Tests.{eq-eqb, ne_eqb, lt-leb}
 use Rattle.rules.specs.declared.Exception.{Exception}
 use Rattle.rules.specs.declared.Limits.{Limits}
 use Rattle.rules.specs.declared.Answer.TheVariants as answer
-use Rattle.rules.specs.Bytes.{if◌then◌else◌, all, first_number, Result, refused, unless}
+use Rattle.rules.specs.Bytes.{all, first_number, Result, refused, unless}
 use Rattle.rules.specs.Letters.{is_letter}
 use Rattle.rules.specs.Codons.{is_table}
 use Rattle.rules.specs.Translation.{no_exception, exception_list, is_residue, are_exceptions, folded_translated, translation_tests, translation}

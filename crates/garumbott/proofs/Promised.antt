@@ -1,6 +1,7 @@
 -- What the promise of `garumbott_record` tells a host that reads its numbers and its buffers: demand 3, and that there is a single answer. Both
 -- hold of any numbers and any buffers that meet it.
 -- Assumes nothing.
+use Rattle.std.specs.Prelude.{if◌then◌else◌}
 use mathlib.Core.Path.{◌≡◌, refl, sym, ap, subst, ◌∙◌}
 use mathlib.Core.Bool.{Bool, true, false}
 use mathlib.Core.List.{List}
@@ -14,7 +15,7 @@ use Rattle.rules.specs.declared.Record.{Record}
 use Rattle.rules.specs.declared.Record.TheVariants.{Unknown, NoProtein, Silent, Changed}
 use Rattle.rules.specs.declared.Answer.{Answer}
 use Rattle.rules.specs.declared.Answer.TheVariants.{Refused, Reported}
-use Rattle.rules.specs.Bytes.{if◌then◌else◌, first_number, over}
+use Rattle.rules.specs.Bytes.{first_number, over}
 use Rattle.rules.specs.Reference.{Reference}
 use Rattle.rules.specs.Edit.{Asked}
 use Rattle.rules.specs.Refusal.{refusal, Room}

@@ -1,7 +1,7 @@
 -- What a host is told of a stored reference: its numbers and where its letters and its exceptions stand, or a refusal's number and nothing else.
-use Rattle.std.specs.Prelude.{ℕ, ◌+◌, Bool, List}
+use Rattle.std.specs.Prelude.{ℕ, ◌+◌, Bool, List, if◌then◌else◌}
 use Rattle.rules.specs.declared.Part.{Part}
-use Rattle.rules.specs.Bytes.{if◌then◌else◌, Result, given, refused}
+use Rattle.rules.specs.Bytes.{Result, given, refused}
 use Rattle.rules.specs.Reference.{Reference, size}
 use Rattle.rules.specs.Refusal.{limits}
 use Rattle.rules.specs.Stored.{reference_form, fields, is_joined, read_reference}

@@ -1,6 +1,6 @@
 // Stored references.
-ghost use Rattle.std.specs.Prelude.{◌≡◌, ◌+◌, ◌≤◌, length};
-ghost use Rattle.rules.specs.Bytes.{if◌then◌else◌, over};
+ghost use Rattle.std.specs.Prelude.{◌≡◌, ◌+◌, ◌≤◌, length, if◌then◌else◌};
+ghost use Rattle.rules.specs.Bytes.{over};
 ghost use Rattle.rules.specs.Refusal.{limits};
 ghost use Rattle.rules.specs.Stored.{written_joined};
 ghost use Rattle.garumbott.specs.Keeping.{placed_numbers, refused_numbers, stored_numbers};

@@ -1,5 +1,6 @@
 -- Laws of what is known without R: a protein that ends in a `*` has more than one exactly if its first isn't its last residue.
 -- Assumes nothing.
+use Rattle.std.specs.Prelude.{if◌then◌else◌}
 use mathlib.Core.Path.{◌≡◌, refl, sym, ap, ◌∙◌}
 use mathlib.Core.Bool.{Bool, true, false}
 use mathlib.Core.List.{List, [], ◌∷◌, ◌++◌, append-nil}
@@ -11,7 +12,7 @@ use borrow.Author.Tests.{eqb-true, eqb-false, eq-eqb, ne_eqb, lt-ltb, le-ltb, lt
 use Rattle.rules.specs.declared.Form.{Form}
 use Rattle.rules.specs.declared.Cds.{Cds}
 use Rattle.rules.specs.declared.Exceptions.{Exceptions}
-use Rattle.rules.specs.Bytes.{byte, if◌then◌else◌, all, count}
+use Rattle.rules.specs.Bytes.{byte, all, count}
 use Rattle.rules.specs.Letters.{is_letter}
 use Rattle.rules.specs.Translation.{exception_list, translated, residue_count, before_stop, whole_codons, folded_translated}
 use Rattle.rules.specs.Reference.{cds_size, reference_protein}

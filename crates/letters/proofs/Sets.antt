@@ -1,4 +1,5 @@
 -- Laws of letters and their sets, for any number. Assumes nothing.
+use Rattle.std.specs.Prelude.{if◌then◌else◌}
 use mathlib.Core.List.{List, [], ◌∷◌}
 use mathlib.Core.Bool.{Bool, true, false, ◌&&◌}
 use mathlib.Core.Path.{◌≡◌, refl}
@@ -6,7 +7,6 @@ use Prim.Native.Nat.{ℕ, ◌-◌, ◌/◌, ◌%◌, ◌<◌, ◌≤◌}
 use native.Mathlib.Omega.{arith}
 use lib.Dec.{eqb, leb, ltb, lit<}
 use borrow.Author.Tests.{ltb-true, leb-true, eqb-true}
-use Rattle.rules.specs.Bytes.{if◌then◌else◌}
 use Rattle.rules.specs.Letters.{pick, value_of, bases, letters, letter_set, is_letter, upper, folded}
 use Rattle.letters.specs.Sets.{folded_set, is_base, folds_to_base, base_set}
 use Rattle.letters.specs.Sets.{letter_number, set_at}

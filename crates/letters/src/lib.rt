@@ -6,8 +6,8 @@
 
 pub mod complement;
 
-ghost use Rattle.std.specs.Prelude.{◌≡◌, true, ◌<◌};
-ghost use Rattle.rules.specs.Bytes.{is_capital, if◌then◌else◌};
+ghost use Rattle.std.specs.Prelude.{◌≡◌, true, ◌<◌, if◌then◌else◌};
+ghost use Rattle.rules.specs.Bytes.{is_capital};
 ghost use Rattle.rules.specs.Letters.{letter_set, is_letter, folded};
 ghost use Rattle.rules.specs.Translation.{is_residue};
 ghost use Rattle.letters.specs.Sets.{HoldsSets, folded_set, folds_to_base, is_base};

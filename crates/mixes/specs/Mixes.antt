@@ -1,6 +1,6 @@
 -- What residues make together. Assumes nothing: these are definitions.
-use Rattle.std.specs.Prelude.{ℕ, Bool, ◌&&◌, ◌||◌, eqb}
-use Rattle.rules.specs.Bytes.{byte, if◌then◌else◌}
+use Rattle.std.specs.Prelude.{ℕ, Bool, ◌&&◌, ◌||◌, eqb, if◌then◌else◌}
+use Rattle.rules.specs.Bytes.{byte}
 use Rattle.rules.specs.Codons.{residue_x}
 
 -- D, N or their mix B; E, Q or their mix Z

@@ -1,5 +1,6 @@
 -- Laws of the table of names, and of the names that it gives.
 -- Assumes nothing.
+use Rattle.std.specs.Prelude.{if◌then◌else◌}
 use mathlib.Core.Path.{◌≡◌, refl, sym, ap, ◌∙◌}
 use mathlib.Core.Bool.{Bool, true, false, ◌&&◌, not, and-true, and-eq-true_iff, false≢true}
 use mathlib.Core.List.{List, [], ◌∷◌, ◌++◌}
@@ -9,7 +10,7 @@ use lib.Dec.{eqb, ltb}
 use lib.ListN.{length, drop, get_or, set, drop_of_length-le, length-set}
 use lib.Seq.{drop-cons, drop-drop}
 use borrow.Author.Tests.{eq-eqb, ne_eqb, lt-ltb, le-ltb, ltb-true, ltb-false}
-use Rattle.rules.specs.Bytes.{if◌then◌else◌, same, is_none, all, each, first_number, given, refused, unless}
+use Rattle.rules.specs.Bytes.{same, is_none, all, each, first_number, given, refused, unless}
 use Rattle.rules.specs.Names.{names, three_in, one_in, three_of, one_of, threes, three_letters, one_letters}
 use Rattle.rules.proofs.Lists.{all_more, all-stop, all_at, each_more, each-end, length-each}
 use Rattle.rules.proofs.Over.{over_from, from_end, from_turn}

@@ -1,24 +1,23 @@
 -- Laws of the two forms of letters: what is read of packed bytes is read of the letters that they hold. Assumes nothing.
 use mathlib.Core.Path.{◌≡◌, refl, sym, ap, ◌∙◌}
 use mathlib.Core.Bool.{Bool, true, false}
-use mathlib.Core.List.{List, [], ◌++◌}
-use Prim.Native.Nat.{ℕ, zero, suc, ◌+◌, ◌-◌, ◌*◌, ◌/◌, ◌%◌, ◌≤◌, ◌<◌}
+use mathlib.Core.List.{List, ◌++◌}
+use Prim.Native.Nat.{ℕ, zero, suc, ◌-◌, ◌*◌, ◌≤◌, ◌<◌}
 use native.Mathlib.Omega.{arith}
 use lib.Dec.{eqb}
-use lib.ListN.{length, get_or, take, drop, length-append, length-drop, take-append-drop}
+use lib.ListN.{length, get_or, take, drop, length-drop, take-append-drop}
 use lib.Seq.{take-append-le, drop-append-le, get_or-take}
-use borrow.Author.Tests.{ltb-true, eqb-true, eq-eqb, ne_eqb}
+use borrow.Author.Tests.{ltb-true, eqb-true, eq-eqb}
 use Rattle.rules.specs.declared.Form.{Form}
-use Rattle.rules.specs.declared.Form.TheVariants.{Bytes, Packed}
+use Rattle.rules.specs.declared.Form.TheVariants.{Packed}
 use Rattle.rules.specs.Bytes.{all}
 use Rattle.rules.specs.Letters.{letter_set, is_letter}
 use Rattle.rules.specs.Altered.{part}
-use Rattle.rules.specs.Packed.{set_at, letter_of, letters_in, half_up, unpacked, letters_by}
+use Rattle.rules.specs.Packed.{set_at, letter_of, letters_in, half_up, letters_by}
 use Rattle.rules.proofs.Lists.{all_at}
-use Rattle.rules.proofs.Packed.{length-letters, uncounted, length-unpacked, is-counted, held}
-use Rattle.packed.specs.Halves.{InLetters}
+use Rattle.rules.proofs.Packed.{uncounted, length-unpacked, held}
 use Rattle.halves.proofs.Sizes.{packed-is}
-use Rattle.halves.proofs.Halves.{letter_in, set_of_lem, set_small, letter_of_some}
+use Rattle.halves.proofs.Halves.{letter_in, set_of_lem, set_small}
 
 part_front : (from to : ℕ) (a b : List ℕ) → from ≤ to → to ≤ length a → part from to (a ++ b) ≡ part from to a
 unfolding part

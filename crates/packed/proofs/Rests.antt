@@ -7,7 +7,7 @@ use lib.ListN.{length, take, set, length-map}
 use Rattle.rules.specs.Bytes.{byte, over}
 use Rattle.rules.specs.Letters.{folded}
 use Rattle.rules.specs.Altered.{part}
-use Rattle.rules.specs.Translation.{whole_codons, translated, folded_translated}
+use Rattle.rules.specs.Translation.{whole_codons, folded_translated}
 use Rattle.rules.specs.Packed.{letters_in}
 use Rattle.rules.proofs.Parts.{take_part}
 use Rattle.rules.proofs.Reading.{rest_of, whole-and-rest}

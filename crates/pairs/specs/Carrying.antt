@@ -1,9 +1,9 @@
 -- The transcript that two plans make, and what is known of them where it is written.
-use Rattle.std.specs.Prelude.{ℕ, ◌+◌, ◌-◌, ◌≤◌, ◌<◌, ◌≡◌, true, List, [], ltb, length, drop}
+use Rattle.std.specs.Prelude.{ℕ, ◌+◌, ◌-◌, ◌≤◌, ◌<◌, ◌≡◌, true, List, [], ltb, length, drop, if◌then◌else◌}
 use Rattle.rules.specs.declared.Cds.{Cds}
 use Rattle.rules.specs.declared.Exceptions.{Exceptions}
 use Rattle.rules.specs.declared.Edit.{Edit}
-use Rattle.rules.specs.Bytes.{if◌then◌else◌, all, first_number}
+use Rattle.rules.specs.Bytes.{all, first_number}
 use Rattle.rules.specs.Letters.{is_letter}
 use Rattle.rules.specs.Translation.{translated, through_stop, residue_count}
 use Rattle.rules.specs.Edit.{edit_tests}

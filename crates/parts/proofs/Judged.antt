@@ -3,7 +3,7 @@
 use mathlib.Core.Path.{◌≡◌, refl, sym, ap, ◌∙◌}
 use mathlib.Core.Bool.{Bool, true, false, ◌&&◌, ◌||◌, not}
 use mathlib.Core.List.{List, [], ◌∷◌, ◌++◌}
-use Prim.Native.Nat.{ℕ, zero, suc, ◌+◌, ◌-◌, ◌*◌, ◌/◌, ◌%◌, ◌≤◌, ◌<◌}
+use Prim.Native.Nat.{ℕ, zero, suc, ◌+◌, ◌%◌, ◌≤◌, ◌<◌}
 use native.Mathlib.Numerals.{add-one}
 use native.Mathlib.Omega.{arith}
 use lib.Dec.{eqb, ltb}
@@ -12,9 +12,9 @@ use lib.Seq.{take-suc, take_at, drop-cons}
 use borrow.Author.Tests.{eq-eqb, ne_eqb, lt-ltb, le-ltb}
 use Rattle.rules.specs.declared.Cds.{Cds}
 use Rattle.rules.specs.declared.Exceptions.{Exceptions}
-use Rattle.rules.specs.Bytes.{byte, if◌then◌else◌, all, count}
+use Rattle.rules.specs.Bytes.{byte, all, count}
 use Rattle.rules.specs.Translation.{exception_list, translated, residue_count, whole_codons}
-use Rattle.rules.specs.Reference.{is_short_end, size, cds_size, cds, codons, reference_protein, is_cut_short}
+use Rattle.rules.specs.Reference.{is_short_end, size, cds, codons, reference_protein, is_cut_short}
 use Rattle.rules.specs.Refusal.{limits, reference_refusal}
 use Rattle.rules.specs.Views.{reference_of}
 use Rattle.rules.proofs.Translation.{length-translated}

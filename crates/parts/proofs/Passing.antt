@@ -1,9 +1,10 @@
 -- Laws of codons that lie within one part, and of residues of R that are passed.
 -- Assumes nothing.
+use Rattle.std.specs.Prelude.{if◌then◌else◌}
 use mathlib.Core.Path.{◌≡◌, refl, sym, ap, ◌∙◌}
 use mathlib.Core.Bool.{Bool, true, false, ◌&&◌}
 use mathlib.Core.List.{List, [], ◌∷◌, ◌++◌}
-use Prim.Native.Nat.{ℕ, zero, suc, ◌+◌, ◌-◌, ◌*◌, ◌/◌, ◌≤◌, ◌<◌}
+use Prim.Native.Nat.{ℕ, zero, suc, ◌+◌, ◌-◌, ◌*◌, ◌≤◌, ◌<◌}
 use native.Mathlib.Decide.{dec_lt}
 use native.Mathlib.Omega.{arith}
 use lib.Dec.{leb, ltb}
@@ -13,7 +14,7 @@ use borrow.Author.Tests.{ltb-true}
 use Rattle.rules.specs.declared.Cds.{Cds}
 use Rattle.rules.specs.declared.Exception.{Exception}
 use Rattle.rules.specs.declared.Exceptions.{Exceptions}
-use Rattle.rules.specs.Bytes.{byte, if◌then◌else◌, all, count}
+use Rattle.rules.specs.Bytes.{byte, all, count}
 use Rattle.rules.specs.Letters.{letter_set, is_letter}
 use Rattle.rules.specs.Codons.{codon_rule, codon}
 use Rattle.rules.specs.Translation.{exception_list, excepted}

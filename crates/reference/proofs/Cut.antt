@@ -1,5 +1,6 @@
 -- Laws of 28: R has no `*` exactly if a search of the whole codons finds none.
 -- Assumes nothing.
+use Rattle.std.specs.Prelude.{if◌then◌else◌}
 use mathlib.Core.Path.{◌≡◌, refl, sym, ap, ◌∙◌}
 use mathlib.Core.Bool.{Bool, true, false, ◌&&◌, ◌||◌, not}
 use mathlib.Core.List.{List, [], ◌∷◌}
@@ -10,7 +11,7 @@ use lib.ListN.{length, take, drop}
 use borrow.Author.Tests.{eqb-true, eqb-false, eq-eqb, ne_eqb}
 use Rattle.rules.specs.declared.Cds.{Cds}
 use Rattle.rules.specs.declared.Exceptions.{Exceptions}
-use Rattle.rules.specs.Bytes.{byte, if◌then◌else◌, all, count, ◌↯◌, first_number}
+use Rattle.rules.specs.Bytes.{byte, all, count, ◌↯◌, first_number}
 use Rattle.rules.specs.Letters.{is_letter}
 use Rattle.rules.specs.Translation.{exception_list, translated, residue_count, before_stop, whole_codons, folded_translated}
 use Rattle.rules.specs.Reference.{Reference, at_stop, is_short_end, size, cds_size, reference_protein, ends_in_stop, is_cut_short, reference_tests}

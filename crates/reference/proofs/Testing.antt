@@ -1,5 +1,6 @@
 -- Laws of the tests of a reference: 1 to 5, and what they are by the code's tests.
 -- Assumes nothing.
+use Rattle.std.specs.Prelude.{if◌then◌else◌}
 use mathlib.Core.Path.{◌≡◌, refl}
 use mathlib.Core.Bool.{Bool, true, false, ◌&&◌, ◌||◌, not}
 use mathlib.Core.List.{List}
@@ -8,7 +9,7 @@ use lib.Dec.{leb, ltb}
 use lib.ListN.{length}
 use Rattle.rules.specs.declared.Cds.{Cds}
 use Rattle.rules.specs.declared.Exceptions.{Exceptions}
-use Rattle.rules.specs.Bytes.{if◌then◌else◌, all, first_number}
+use Rattle.rules.specs.Bytes.{all, first_number}
 use Rattle.rules.specs.Letters.{is_letter}
 use Rattle.rules.specs.Codons.{is_table}
 use Rattle.rules.specs.Translation.{exception_list}

@@ -1,8 +1,9 @@
 -- Laws of residues that are read and go on, and of A in pieces. Assumes nothing.
+use Rattle.std.specs.Prelude.{if◌then◌else◌}
 use mathlib.Core.Path.{◌≡◌, refl, sym, ap, ◌∙◌}
-use mathlib.Core.Bool.{Bool, true, false, ◌&&◌}
+use mathlib.Core.Bool.{Bool, true, false}
 use mathlib.Core.List.{List, [], ◌∷◌, ◌++◌}
-use Prim.Native.Nat.{ℕ, suc, ◌+◌, ◌-◌, ◌≤◌, ◌<◌}
+use Prim.Native.Nat.{ℕ, ◌+◌, ◌-◌, ◌≤◌, ◌<◌}
 use native.Mathlib.Omega.{arith}
 use lib.Dec.{eqb, ltb}
 use lib.ListN.{length, take, drop, get_or, length-append, length-drop}
@@ -10,7 +11,7 @@ use lib.Seq.{length-take-le, drop_at}
 use borrow.Author.Tests.{eqb-true, eqb-false, lt-ltb, le-ltb}
 use borrow.Rule.Slice.PartMut.{put_mid}
 use Rattle.rules.specs.declared.Exceptions.{Exceptions}
-use Rattle.rules.specs.Bytes.{byte, if◌then◌else◌, over}
+use Rattle.rules.specs.Bytes.{byte, over}
 use Rattle.rules.specs.Translation.{before_stop, through_stop, folded_translated}
 use Rattle.rules.specs.Altered.{part}
 use Rattle.rules.proofs.Over.{length_over, read_back, fits_over, tail-is, copied_as, lent_on_by}

@@ -1,6 +1,5 @@
 -- Codons by the numbers of their letters, and what the rows of residues hold. Assumes nothing: these are definitions.
-use Rattle.std.specs.Prelude.{ℕ, zero, suc, ◌+◌, ◌*◌, ◌/◌, ◌%◌, ◌<◌, List, [], ◌∷◌, ◌≡◌, eqb, get_or}
-use Rattle.rules.specs.Bytes.{if◌then◌else◌}
+use Rattle.std.specs.Prelude.{ℕ, zero, suc, ◌+◌, ◌*◌, ◌/◌, ◌%◌, ◌<◌, List, [], ◌∷◌, ◌≡◌, eqb, get_or, if◌then◌else◌}
 use Rattle.rules.specs.Codons.{codon_rule}
 use Rattle.letters.specs.Sets.{set_at}
 

@@ -2,8 +2,7 @@
 // aren't all X.
 #![tactic(auto)]
 
-ghost use Rattle.std.specs.Prelude.{◌≡◌, ℕ, ◌+◌, ◌*◌, ◌<◌, eqb, length, get_or};
-ghost use Rattle.rules.specs.Bytes.{if◌then◌else◌};
+ghost use Rattle.std.specs.Prelude.{◌≡◌, ℕ, ◌+◌, ◌*◌, ◌<◌, eqb, length, get_or, if◌then◌else◌};
 ghost use Rattle.rows.specs.Rows.{row_in, HoldsRows, HoldsLetters};
 
 use numbers::wide;

@@ -1,5 +1,6 @@
 -- What was read from bytes, written again: the contents of the fields are those that the reference's own fields have.
 -- Assumes nothing.
+use Rattle.std.specs.Prelude.{if◌then◌else◌}
 use mathlib.Core.Path.{◌≡◌, refl, sym, ap, ◌∙◌}
 use mathlib.Core.Bool.{Bool, true, false, ◌&&◌, ◌||◌, not}
 use mathlib.Core.List.{List, [], ◌∷◌, ◌++◌, append_assoc, append-nil}
@@ -11,7 +12,7 @@ use lib.Dec.{eqb, leb, ltb}
 use lib.ListN.{length, take, drop, get_or, drop_of_length-le}
 use lib.Seq.{take_all, take-nil, drop-drop, take_at, drop_at}
 use borrow.Author.Tests.{leb-true, eqb-true, not-false}
-use Rattle.rules.specs.Bytes.{if◌then◌else◌, is_none, all, each, first_number, Result, given, refused, unless}
+use Rattle.rules.specs.Bytes.{is_none, all, each, first_number, Result, given, refused, unless}
 use Rattle.rules.specs.Reference.{Reference, at_stop, is_short_end, size}
 use Rattle.rules.specs.Refusal.{reference_refusal}
 use Rattle.rules.specs.Stored.{two_bytes, four_bytes, Tagged, fields, content_of, reference_form, exceptions_in, or_empty, is_there, Contents, contents_of, joined_letters, is_incomplete, is_full, is_begun_early, are_wrong_bounds, content_tests, bounds_in, reference_in, assembled, assembled_in, checked, stored_reference}

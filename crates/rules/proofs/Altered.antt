@@ -1,5 +1,6 @@
 -- The altered transcript of an edit that isn't refused: its length and its letters.
 -- Assumes nothing.
+use Rattle.std.specs.Prelude.{if◌then◌else◌}
 use mathlib.Core.Path.{◌≡◌, refl, sym, ap, ◌∙◌}
 use mathlib.Core.Bool.{Bool, true, false, ◌&&◌}
 use mathlib.Core.List.{List, [], ◌∷◌, ◌++◌}
@@ -11,7 +12,7 @@ use lib.Seq.{length-take-le, take-length, drop-drop}
 use borrow.Author.Tests.{leb-true}
 use Rattle.rules.specs.declared.Kind.{Kind}
 use Rattle.rules.specs.declared.Kind.TheVariants.{Substitution, Deletion, Delins, Insertion, Duplication, Inversion, Identity, Other}
-use Rattle.rules.specs.Bytes.{if◌then◌else◌, is_none, all}
+use Rattle.rules.specs.Bytes.{is_none, all}
 use Rattle.rules.specs.Letters.{is_letter}
 use Rattle.rules.specs.Translation.{before_stop}
 use Rattle.rules.specs.Complement.{reverse_complement}

@@ -1,5 +1,6 @@
 -- What the test for a copy decides in a record: the class and the first residue, and nothing else.
 -- Assumes nothing.
+use Rattle.std.specs.Prelude.{if◌then◌else◌}
 use mathlib.Core.Path.{◌≡◌, refl}
 use mathlib.Core.Bool.{Bool, true, false, ◌&&◌}
 use mathlib.Core.List.{List}
@@ -14,7 +15,7 @@ use Rattle.rules.specs.declared.Part.{Part}
 use Rattle.rules.specs.declared.Change.{Change}
 use Rattle.rules.specs.declared.Record.{Record}
 use Rattle.rules.specs.declared.Record.TheVariants.{Unknown, NoProtein, Silent, Changed}
-use Rattle.rules.specs.Bytes.{byte, if◌then◌else◌, same, is_none}
+use Rattle.rules.specs.Bytes.{byte, same, is_none}
 use Rattle.rules.specs.Trims.{common_prefix}
 use Rattle.rules.specs.Record.{ending, is_copy, class_by, class_by_counts, class_of, first_copied, change_at, change_of, record_from}
 

@@ -1,6 +1,7 @@
 -- Two editions compared (E11): each difference appears once, nothing equal appears, the numbers rise; the list is empty exactly if the two CDS have
 -- the same letters and residues; with the editions swapped it is the same with its residues swapped.
 -- Assumes nothing.
+use Rattle.std.specs.Prelude.{if◌then◌else◌}
 use mathlib.Core.Path.{◌≡◌, refl, sym, ap, ◌∙◌}
 use mathlib.Core.Bool.{Bool, true, false, ◌&&◌}
 use mathlib.Core.List.{List, [], ◌∷◌, map}
@@ -10,7 +11,7 @@ use lib.Dec.{eqb, ltb}
 use lib.ListN.{length, take, drop}
 use lib.Seq.{ext_get_or, take-add, take_all}
 use borrow.Author.Tests.{eq-eqb, ne_eqb, eqb-true, eqb-false, ltb-true, lt-ltb}
-use Rattle.rules.specs.Bytes.{if◌then◌else◌, same, count, each}
+use Rattle.rules.specs.Bytes.{same, count, each}
 use Rattle.rules.specs.Translation.{residue_count}
 use Rattle.rules.specs.Reference.{Reference, cds, reference_protein}
 use Rattle.rules.specs.Altered.{part}

@@ -1,5 +1,6 @@
 -- Laws of written fields, over any form: reading them gives the fields, and writing what was read gives the bytes.
 -- Assumes nothing.
+use Rattle.std.specs.Prelude.{if◌then◌else◌}
 use mathlib.Core.Path.{◌≡◌, refl, sym, ap, ◌∙◌}
 use mathlib.Core.Bool.{Bool, true, false, ◌&&◌}
 use mathlib.Core.List.{List, [], ◌∷◌, ◌++◌}
@@ -9,7 +10,7 @@ use lib.Dec.{leb, ltb}
 use lib.ListN.{length, take, drop, length-append, take-append-drop}
 use lib.Seq.{length-take-le, take-append_seam, drop-append_seam}
 use borrow.Author.Tests.{le-leb, leb-true, ltb-true}
-use Rattle.rules.specs.Bytes.{if◌then◌else◌, all, each, Result, given, refused}
+use Rattle.rules.specs.Bytes.{all, each, Result, given, refused}
 use Rattle.rules.specs.Stored.{two_bytes, Field, ended, cut, whole, field, Form, is_wrong_tag, is_wrong_content, Tagged, with_field, met, fields_from, fields}
 use Rattle.rules.specs.Storing.{in_two, field_bytes, fields_bytes}
 use Rattle.rules.proofs.Tests.{and_left, and_right, all_drop}

@@ -1,6 +1,7 @@
 -- Laws of fields with the empty ones left out, over any form: they rise, and each content is found; and fields that rise, none of them empty, are
 -- told by their contents.
 -- Assumes nothing.
+use Rattle.std.specs.Prelude.{if◌then◌else◌}
 use mathlib.Core.Path.{◌≡◌, refl, sym, ap, subst, ◌∙◌}
 use mathlib.Core.Bool.{Bool, true, false, ◌&&◌, not}
 use mathlib.Core.List.{List, [], ◌∷◌}
@@ -11,7 +12,7 @@ use native.Mathlib.Omega.{arith}
 use lib.Dec.{eqb, ltb}
 use lib.ListN.{length}
 use borrow.Author.Tests.{ltb-true, lt-ltb, eqb-true, eq-eqb, ne_eqb, not-false}
-use Rattle.rules.specs.Bytes.{if◌then◌else◌, is_none, all, each}
+use Rattle.rules.specs.Bytes.{is_none, all, each}
 use Rattle.rules.specs.Stored.{Form, is_wrong_tag, is_wrong_content, Tagged, content_of, or_empty}
 use Rattle.rules.specs.Storing.{in_two, tagged, field_bytes, fields_bytes, filled}
 use Rattle.rules.proofs.Lists.{all_append}

@@ -1,5 +1,6 @@
 -- The codons that are looked up: which are reused, and how many are read in each case of the pieces.
 -- Assumes nothing.
+use Rattle.std.specs.Prelude.{if◌then◌else◌}
 use mathlib.Core.Path.{◌≡◌, refl, sym, ap, ◌∙◌}
 use mathlib.Core.Bool.{Bool, true, false, ◌&&◌, ◌||◌, not}
 use mathlib.Core.List.{List, [], ◌++◌}
@@ -11,7 +12,7 @@ use lib.ListN.{length, take, drop, length-append, length-drop}
 use lib.Seq.{length-take-le}
 use borrow.Author.Tests.{eq-eqb, ne_eqb, le-leb, lt-leb, lt-ltb, eqb-true, leb-true}
 use Rattle.rules.specs.declared.Kind.TheVariants.{Identity}
-use Rattle.rules.specs.Bytes.{byte, if◌then◌else◌, count}
+use Rattle.rules.specs.Bytes.{byte, count}
 use Rattle.rules.specs.Translation.{translated, before_stop, through_stop}
 use Rattle.rules.specs.Reference.{Reference, at_stop, size, cds_size, codons, reference_protein}
 use Rattle.rules.specs.Edit.{Asked, is, kind_of}

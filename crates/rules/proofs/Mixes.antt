@@ -1,5 +1,6 @@
 -- E2 moves no stop: the codon rule gives `*` for the same sets as document 01's, so a translation has its stops where it had them, exceptions or
 -- none, and what reads the stops alone (refusals 6 and 28, Unknown, the stop cut, the length of A) is what it was. Assumes nothing.
+use Rattle.std.specs.Prelude.{if◌then◌else◌}
 use mathlib.Core.Path.{◌≡◌, refl, sym, ap, ◌∙◌}
 use mathlib.Core.Bool.{Bool, true, false}
 use mathlib.Core.List.{List, [], ◌∷◌, map}
@@ -8,7 +9,7 @@ use lib.Dec.{eqb}
 use lib.ListN.{length, length-map}
 use borrow.Author.Tests.{eq-eqb, eqb-true, eqb-false, ne_eqb}
 use Rattle.rules.specs.declared.Exception.{Exception}
-use Rattle.rules.specs.Bytes.{byte, if◌then◌else◌, count}
+use Rattle.rules.specs.Bytes.{byte, count}
 use Rattle.rules.specs.Letters.{letter_set}
 use Rattle.rules.specs.Codons.{residue_x, residues, all_are, exactly, mixed, agreed, codon_rule, codon}
 use Rattle.rules.specs.Translation.{excepted, residues_from, translated, before_stop, through_stop}

@@ -1,6 +1,7 @@
 -- Two edits on one transcript (E13): carried out one after the other, in either order, they make the same five parts, whose length is L plus both
 -- net changes.
 -- Assumes nothing.
+use Rattle.std.specs.Prelude.{if◌then◌else◌}
 use mathlib.Core.Path.{◌≡◌, refl, sym, ap, ◌∙◌}
 use mathlib.Core.Bool.{Bool, true, false, ◌&&◌, ◌||◌, not}
 use mathlib.Core.List.{List, ◌++◌, append_assoc}
@@ -12,7 +13,7 @@ use borrow.Author.Tests.{le-ltb, ltb-true, not-false}
 use Rattle.rules.specs.declared.Kind.{Kind}
 use Rattle.rules.specs.declared.Kind.TheVariants.{Substitution, Deletion, Delins, Insertion, Duplication, Inversion, Identity, Other}
 use Rattle.rules.specs.declared.Limits.{Limits}
-use Rattle.rules.specs.Bytes.{if◌then◌else◌, first_number}
+use Rattle.rules.specs.Bytes.{first_number}
 use Rattle.rules.specs.Reference.{Reference, size}
 use Rattle.rules.specs.Edit.{Asked, is, kind_of, start_index, end_index, edit_tests}
 use Rattle.rules.specs.Altered.{part, Swap, carried, is_inserting, swap_by, swap, frame, has_stop, through_stop_codon, cut_at_stop, finds_stop, kept, deleted, inserted}

@@ -1,12 +1,12 @@
 -- The altered protein in pieces, for a walk that reuses: residues of R before the edit, residues that are read, residues of R behind it. Codons
 -- are counted from 0.
+use Rattle.std.specs.Prelude.{if◌then◌else◌}
 use Prim.Native.Nat.{ℕ, ◌+◌, ◌-◌, ◌*◌, ◌/◌, ◌%◌}
 use mathlib.Core.List.{List, []}
 use mathlib.Core.Bool.{Bool, ◌&&◌, ◌||◌}
 use lib.Dec.{eqb, leb, ltb}
 use lib.ListN.{length}
 use Rattle.rules.specs.declared.Kind.TheVariants.{Identity}
-use Rattle.rules.specs.Bytes.{if◌then◌else◌}
 use Rattle.rules.specs.Translation.{translated}
 use Rattle.rules.specs.Reference.{Reference, at_stop, codons}
 use Rattle.rules.specs.Edit.{Asked, is, kind_of}

@@ -1,5 +1,6 @@
 -- Laws of reading: a codon at a time, a piece at a time, an exception at a time, and up to the first `*`.
 -- Assumes nothing.
+use Rattle.std.specs.Prelude.{if◌then◌else◌}
 use mathlib.Core.Path.{◌≡◌, refl, sym, ap, ◌∙◌}
 use mathlib.Core.Bool.{Bool, true, false}
 use mathlib.Core.List.{List, [], ◌∷◌, ◌++◌}
@@ -10,7 +11,7 @@ use lib.ListN.{length, get_or, take, drop, length-append, length-drop, take-appe
 use lib.Seq.{drop-cons, length-take-le, get_or_at}
 use borrow.Author.Tests.{eq-eqb, ne_eqb}
 use Rattle.rules.specs.declared.Exception.{Exception}
-use Rattle.rules.specs.Bytes.{byte, if◌then◌else◌}
+use Rattle.rules.specs.Bytes.{byte}
 use Rattle.rules.specs.Codons.{codon}
 use Rattle.rules.specs.Translation.{excepted, residues_from, translated, residue_count, before_stop, through_stop, whole_codons}
 use Rattle.rules.proofs.Translation.{length-translated}

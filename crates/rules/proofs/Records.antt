@@ -1,5 +1,6 @@
 -- What each record tells of the two proteins that it is made from.
 -- Assumes nothing.
+use Rattle.std.specs.Prelude.{if◌then◌else◌}
 use mathlib.Core.Path.{◌≡◌, refl, sym, ap, ◌∙◌}
 use mathlib.Core.Bool.{Bool, true, false}
 use mathlib.Core.List.{List}
@@ -9,7 +10,7 @@ use lib.ListN.{get_or}
 use Rattle.rules.specs.declared.Change.{Change}
 use Rattle.rules.specs.declared.Record.{Record}
 use Rattle.rules.specs.declared.Record.TheVariants.{Unknown, NoProtein, Silent, Changed}
-use Rattle.rules.specs.Bytes.{if◌then◌else◌, same, is_none}
+use Rattle.rules.specs.Bytes.{same, is_none}
 use Rattle.rules.specs.Reference.{Reference, reference_protein}
 use Rattle.rules.specs.Edit.{Asked}
 use Rattle.rules.specs.Altered.{frameshift}

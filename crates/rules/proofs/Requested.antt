@@ -1,4 +1,5 @@
 -- Inputs that decide clauses of document 02 which can be read two ways, in a single statement over the list of them, request by request.
+use Rattle.std.specs.Prelude.{if◌then◌else◌}
 use mathlib.Core.Path.{◌≡◌, refl}
 use mathlib.Core.Bool.{false}
 use mathlib.Core.List.{List, [], ◌∷◌, ◌++◌, map}
@@ -9,7 +10,7 @@ use lib.ListN.{length}
 use Rattle.rules.specs.declared.Exception.{Exception}
 use Rattle.rules.specs.declared.Check.{Check}
 use Rattle.rules.specs.declared.Check.TheVariants as check
-use Rattle.rules.specs.Bytes.{bytes, if◌then◌else◌}
+use Rattle.rules.specs.Bytes.{bytes}
 use Rattle.rules.specs.Translation.{translation}
 use Rattle.rules.specs.Reference.{Reference}
 use Rattle.rules.specs.Edit.{Asked}

@@ -1,5 +1,6 @@
 -- Laws of stored settings (E12): what is written reads back, what is read is written as the same bytes, and how versions meet.
 -- Assumes nothing.
+use Rattle.std.specs.Prelude.{if◌then◌else◌}
 use mathlib.Core.Path.{◌≡◌, refl, sym, ap, ◌∙◌}
 use mathlib.Core.Bool.{Bool, true, false, ◌&&◌, ◌||◌}
 use mathlib.Core.List.{List, [], ◌∷◌, ◌++◌, map}
@@ -12,7 +13,7 @@ use lib.Seq.{take-append_seam, drop-append_seam}
 use borrow.Author.Tests.{eq-eqb, ne_eqb, eqb-true, eqb-false, le-ltb, leb-true, ltb-false}
 use Rattle.rules.specs.declared.Settings.{Settings}
 use Rattle.rules.specs.declared.Store.TheVariants.{Refused, Newer, Held}
-use Rattle.rules.specs.Bytes.{if◌then◌else◌, is_none, all, each}
+use Rattle.rules.specs.Bytes.{is_none, all, each}
 use Rattle.rules.specs.Codons.{is_table}
 use Rattle.rules.specs.Refusal.{limits}
 use Rattle.rules.specs.Stored.{Field, ended, cut, whole, field, Tagged}

@@ -1,5 +1,6 @@
 -- The stored form of a reference: read back it is the same reference, and what was read is written with the same bytes, but for an empty tag 4.
 -- Assumes nothing.
+use Rattle.std.specs.Prelude.{if◌then◌else◌}
 use mathlib.Core.Path.{◌≡◌, refl, sym, ap, ◌∙◌}
 use mathlib.Core.Bool.{Bool, true, false, ◌&&◌, not}
 use mathlib.Core.List.{List, [], ◌∷◌, ◌++◌, append_assoc}
@@ -11,7 +12,7 @@ use lib.ListN.{length, take, drop, get_or, length-take, length-drop, take-append
 use lib.Seq.{length-take-le, take-nil, drop-drop}
 use borrow.Author.Tests.{le-leb, eqb-true, eq-eqb}
 use Rattle.rules.specs.declared.Exception.{Exception}
-use Rattle.rules.specs.Bytes.{if◌then◌else◌, is_none, each, first_number, Result, given, unless}
+use Rattle.rules.specs.Bytes.{is_none, each, first_number, Result, given, unless}
 use Rattle.rules.specs.Reference.{Reference, at_stop, is_short_end, size, is_cut_short}
 use Rattle.rules.specs.Refusal.{reference_refusal}
 use Rattle.rules.specs.Stored.{two_bytes, four_bytes, Tagged, fields, content_of, reference_form, exceptions_in, or_empty, is_there, Contents, contents_of, joined_letters, is_incomplete, is_full, is_begun_early, are_wrong_bounds, content_tests, bounds_in, reference_in, assembled, assembled_in, checked, stored_reference}

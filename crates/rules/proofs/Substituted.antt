@@ -1,5 +1,6 @@
 -- A substitution of a reference without exceptions looks up one codon at most, unless the reference's final stop changes.
 -- Assumes nothing.
+use Rattle.std.specs.Prelude.{if◌then◌else◌}
 use mathlib.Core.Path.{◌≡◌, refl, sym, ap, ◌∙◌}
 use mathlib.Core.Bool.{Bool, true, false, ◌&&◌, not}
 use mathlib.Core.List.{List, []}
@@ -11,7 +12,7 @@ use lib.ListN.{length, get_or}
 use borrow.Author.Tests.{eqb-true, leb-true}
 use Rattle.rules.specs.declared.Kind.{Kind}
 use Rattle.rules.specs.declared.Kind.TheVariants.{Substitution, Deletion, Delins, Insertion, Duplication, Inversion, Identity, Other}
-use Rattle.rules.specs.Bytes.{byte, if◌then◌else◌, all}
+use Rattle.rules.specs.Bytes.{byte, all}
 use Rattle.rules.specs.Letters.{is_letter}
 use Rattle.rules.specs.Translation.{translated}
 use Rattle.rules.specs.Reference.{Reference, at_stop, cds_size, codons}

@@ -1,5 +1,6 @@
 -- Laws of tests and of the first that holds.
 -- Assumes nothing.
+use Rattle.std.specs.Prelude.{if◌then◌else◌}
 use mathlib.Core.Path.{◌≡◌, refl, sym, ap, ◌∙◌}
 use mathlib.Core.Bool.{Bool, true, false, ◌&&◌, ◌||◌}
 use mathlib.Core.List.{List, [], ◌∷◌, ◌++◌, map, reverse, reverse_aux}
@@ -8,7 +9,7 @@ use native.Mathlib.Omega.{arith}
 use lib.Dec.{ltb}
 use lib.ListN.{take, drop, take-append-drop}
 use borrow.Author.Tests.{ltb-true}
-use Rattle.rules.specs.Bytes.{if◌then◌else◌, all, Test, ◌↯◌, first_number}
+use Rattle.rules.specs.Bytes.{all, Test, ◌↯◌, first_number}
 use Rattle.rules.proofs.Lists.{all_append}
 
 pub and_left : (a b : Bool) → (a && b) ≡ true → a ≡ true

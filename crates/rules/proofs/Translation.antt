@@ -1,5 +1,6 @@
 -- Laws of translation: how many residues there are, and how many through the first `*`.
 -- Assumes nothing.
+use Rattle.std.specs.Prelude.{if◌then◌else◌}
 use mathlib.Core.Path.{◌≡◌, refl, ap}
 use mathlib.Core.Bool.{Bool, true, false}
 use mathlib.Core.List.{List, [], ◌∷◌}
@@ -10,7 +11,7 @@ use lib.ListN.{length, take, replicate, length-append, length-take, length-repli
 use lib.Seq.{take-append-le}
 use Rattle.rules.specs.declared.Exception.{Exception}
 use Rattle.rules.specs.declared.Exceptions.{Exceptions}
-use Rattle.rules.specs.Bytes.{byte, if◌then◌else◌}
+use Rattle.rules.specs.Bytes.{byte}
 use Rattle.rules.specs.Translation.{no_exception, exception_list, residues_from, translated, residue_count, before_stop, through_stop}
 
 -- as many exceptions as counted; at most sixteen are the first of all

@@ -1,5 +1,6 @@
 -- Laws of the common beginning and the common ending of two lists.
 -- Assumes nothing.
+use Rattle.std.specs.Prelude.{if◌then◌else◌}
 use mathlib.Core.Path.{◌≡◌, refl, sym, ap, ◌∙◌}
 use mathlib.Core.Bool.{Bool, true, false, ◌&&◌, and_self}
 use mathlib.Core.List.{List, [], ◌∷◌, ◌++◌, reverse, reverse-append, reverse-reverse}
@@ -10,7 +11,7 @@ use lib.Dec.{eqb, eqb-zero-suc, eqb-suc-suc}
 use lib.ListN.{length, take, drop, get_or, length-drop, length-reverse, take-append-drop}
 use lib.Seq.{take-length, take-suc, drop-cons, take_at}
 use borrow.Author.Tests.{eq-eqb, ne_eqb, eqb-true, eqb-false}
-use Rattle.rules.specs.Bytes.{if◌then◌else◌, same}
+use Rattle.rules.specs.Bytes.{same}
 use Rattle.rules.specs.Trims.{common_prefix, common_suffix}
 use Rattle.rules.proofs.Tests.{and_left, and_right}
 

@@ -1,6 +1,7 @@
 -- Laws of the longest edit of a call (E12): an edit with more new bases than that is answered as the same edit without any is within the module's own
 -- limits, for 10 refuses both in the same place.
 -- Assumes nothing.
+use Rattle.std.specs.Prelude.{if◌then◌else◌}
 use mathlib.Core.Path.{◌≡◌, refl, sym, ap}
 use mathlib.Core.Bool.{Bool, true, false, ◌&&◌}
 use mathlib.Core.List.{List, []}
@@ -12,7 +13,7 @@ use borrow.Author.Tests.{leb-true, ltb-true, ltb-false, le-leb, lt-leb}
 use Rattle.rules.specs.declared.Kind.{Kind}
 use Rattle.rules.specs.declared.Kind.TheVariants.{Substitution, Deletion, Delins, Insertion, Duplication, Inversion, Identity, Other}
 use Rattle.rules.specs.declared.Edit.{Edit}
-use Rattle.rules.specs.Bytes.{if◌then◌else◌, all, first_number}
+use Rattle.rules.specs.Bytes.{all, first_number}
 use Rattle.rules.specs.Letters.{is_letter}
 use Rattle.rules.specs.Reference.{Reference, reference_tests}
 use Rattle.rules.specs.Edit.{Asked, is_misplaced, ends_past, end_place, is_disordered, start_place, is_out_of_cds, are_new_bases, fit_bases, edit_tests}

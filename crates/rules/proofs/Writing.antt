@@ -1,5 +1,6 @@
 -- What a call that writes a reference answers: the reader's own refusals, then 24, else the form, which reads back as the reference.
 -- Assumes nothing.
+use Rattle.std.specs.Prelude.{if◌then◌else◌}
 use mathlib.Core.Path.{◌≡◌, refl, sym, ap, ◌∙◌}
 use mathlib.Core.Bool.{Bool, true, false, ◌&&◌}
 use mathlib.Core.List.{List, [], ◌∷◌, ◌++◌, map}
@@ -8,7 +9,7 @@ use native.Mathlib.Omega.{arith}
 use lib.Dec.{ltb}
 use lib.ListN.{length}
 use borrow.Author.Tests.{lt-ltb, le-ltb}
-use Rattle.rules.specs.Bytes.{bytes, if◌then◌else◌, all, ◌↯◌, first_number, Result, given, refused, unless}
+use Rattle.rules.specs.Bytes.{bytes, all, ◌↯◌, first_number, Result, given, refused, unless}
 use Rattle.rules.specs.Reference.{Reference, size, reference_tests}
 use Rattle.rules.specs.Refusal.{limits, reference_refusal}
 use Rattle.rules.specs.Stored.{fields, reference_form, assembled_in, checked, stored_reference, is_joined, fitted, read_reference}

@@ -1,8 +1,8 @@
 -- "Positions and edits": what each kind replaces by what, the stop cut, the altered transcript, its length, and the frameshift flag.
-use Rattle.std.specs.Prelude.{ℕ, ◌+◌, ◌-◌, ◌*◌, ◌%◌, List, [], ◌++◌, Bool, ◌&&◌, ◌||◌, not, eqb, ltb, length, take, drop, replicate}
+use Rattle.std.specs.Prelude.{ℕ, ◌+◌, ◌-◌, ◌*◌, ◌%◌, List, [], ◌++◌, Bool, ◌&&◌, ◌||◌, not, eqb, ltb, length, take, drop, replicate, if◌then◌else◌}
 use Rattle.rules.specs.declared.Kind.{Kind}
 use Rattle.rules.specs.declared.Kind.TheVariants.{Substitution, Deletion, Delins, Insertion, Duplication, Inversion, Identity, Other}
-use Rattle.rules.specs.Bytes.{byte, if◌then◌else◌, same}
+use Rattle.rules.specs.Bytes.{byte, same}
 use Rattle.rules.specs.Translation.{translated, before_stop}
 use Rattle.rules.specs.Complement.{reverse_complement}
 use Rattle.rules.specs.Reference.{Reference, size}

@@ -1,5 +1,5 @@
 -- The words that the sections share: quoted texts as bytes, tests, a choice by a test, a value or a refusal, and what a buffer holds.
-use Rattle.std.specs.Prelude.{ℕ, zero, suc, List, [], ◌∷◌, ◌++◌, Bool, true, false, ◌&&◌, eqb, leb, length, drop}
+use Rattle.std.specs.Prelude.{ℕ, zero, suc, List, [], ◌∷◌, ◌++◌, Bool, true, false, ◌&&◌, eqb, leb, length, drop, if◌then◌else◌}
 use Prim.Native.String.{String}
 use Prim.Native.Char.{Char, code}
 
@@ -9,11 +9,6 @@ byte c = code c
 abbrev pub bytes : String → List ℕ
 bytes String.[] = []
 bytes (String.◌∷◌ c s) = code c ∷ bytes s
-
-infix 10 if◌then◌else◌
-abbrev pub if◌then◌else◌ {ℓ} : {A : Type ℓ} → Bool → A → A → A
-if true then a else b = a
-if false then a else b = b
 
 -- the same bytes
 unfoldable pub same : List ℕ → List ℕ → Bool

@@ -1,8 +1,8 @@
 -- "Letters and codons": the residue of a codon of three letter sets, in each of the three tables.
-use Rattle.std.specs.Prelude.{ℕ, zero, suc, ◌+◌, ◌*◌, ◌/◌, ◌%◌, Bool, true, false, ◌&&◌, ◌||◌, List, [], ◌∷◌, ◌++◌, eqb, leb, get_or, set}
+use Rattle.std.specs.Prelude.{ℕ, zero, suc, ◌+◌, ◌*◌, ◌/◌, ◌%◌, Bool, true, false, ◌&&◌, ◌||◌, List, [], ◌∷◌, ◌++◌, eqb, leb, get_or, set, if◌then◌else◌}
 use Prim.Native.Char.{Char}
 use Prim.Native.String.{String}
-use Rattle.rules.specs.Bytes.{byte, bytes, if◌then◌else◌}
+use Rattle.rules.specs.Bytes.{byte, bytes}
 use Rattle.rules.specs.Letters.{value_of, letter_set}
 
 -- first base slowest, order T, C, A, G: a base's number

@@ -1,7 +1,7 @@
 -- "Letters and codons": the reverse complement reverses the letters and complements each set.
-use Rattle.std.specs.Prelude.{ℕ, List, [], ◌∷◌, map, reverse, not, eqb, ltb, length}
+use Rattle.std.specs.Prelude.{ℕ, List, [], ◌∷◌, map, reverse, not, eqb, ltb, length, if◌then◌else◌}
 use Prim.Native.Char.{Char}
-use Rattle.rules.specs.Bytes.{byte, if◌then◌else◌, all, ◌↯◌, first_number, Result, unless}
+use Rattle.rules.specs.Bytes.{byte, all, ◌↯◌, first_number, Result, unless}
 use Rattle.rules.specs.Letters.{is_letter}
 
 abbrev pub pair : Char → Char → ℕ × ℕ

@@ -1,6 +1,6 @@
 -- E11, "Compare two editions of a transcript": the codons in which two references differ, in rising codon number.
-use Rattle.std.specs.Prelude.{ℕ, zero, suc, ◌+◌, ◌-◌, ◌*◌, ◌/◌, ◌%◌, max, List, [], ◌∷◌, Bool, ◌&&◌, eqb, ltb, length, get_or}
-use Rattle.rules.specs.Bytes.{if◌then◌else◌, same, each, Test, ◌↯◌, first_number, Result, unless}
+use Rattle.std.specs.Prelude.{ℕ, zero, suc, ◌+◌, ◌-◌, ◌*◌, ◌/◌, ◌%◌, max, List, [], ◌∷◌, Bool, ◌&&◌, eqb, ltb, length, get_or, if◌then◌else◌}
+use Rattle.rules.specs.Bytes.{same, each, Test, ◌↯◌, first_number, Result, unless}
 use Rattle.rules.specs.Reference.{Reference, cds, reference_protein}
 use Rattle.rules.specs.Altered.{part}
 use Rattle.rules.specs.Refusal.{reference_refusal}

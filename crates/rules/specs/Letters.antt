@@ -1,8 +1,8 @@
 -- "Letters and codons": a letter is a set of bases, and a set is the sum of its bases: A 1, C 2, G 4, T 8.
-use Rattle.std.specs.Prelude.{ℕ, ◌+◌, ◌-◌, List, [], ◌∷◌, Bool, true, false, ◌&&◌, eqb, leb, ltb}
+use Rattle.std.specs.Prelude.{ℕ, ◌+◌, ◌-◌, List, [], ◌∷◌, Bool, true, false, ◌&&◌, eqb, leb, ltb, if◌then◌else◌}
 use Prim.Native.Char.{Char}
 use Prim.Native.String.{String}
-use Rattle.rules.specs.Bytes.{byte, bytes, if◌then◌else◌}
+use Rattle.rules.specs.Bytes.{byte, bytes}
 
 abbrev pub pick : Bool → ℕ → ℕ → ℕ
 pick true a b = a

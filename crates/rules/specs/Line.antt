@@ -1,12 +1,12 @@
 -- "Text program": the form of a line.
-use Rattle.std.specs.Prelude.{ℕ, List, [], ◌∷◌, Bool, false, ◌&&◌, eqb, leb, length, take, drop}
+use Rattle.std.specs.Prelude.{ℕ, List, [], ◌∷◌, Bool, false, ◌&&◌, eqb, leb, length, take, drop, if◌then◌else◌}
 use Rattle.std.proofs.Math.Option.{Option, none, some}
 use Rattle.rules.specs.declared.Limits.{Limits}
 use Rattle.rules.specs.declared.Position.{Position}
 use Rattle.rules.specs.declared.Position.TheVariants.{Plus, Minus, Star}
 use Rattle.rules.specs.declared.Kind.{Kind}
 use Rattle.rules.specs.declared.Kind.TheVariants.{Substitution, Deletion, Delins, Insertion, Duplication, Inversion, Identity}
-use Rattle.rules.specs.Bytes.{bytes, byte, if◌then◌else◌, same, all, is_capital}
+use Rattle.rules.specs.Bytes.{bytes, byte, same, all, is_capital}
 use Rattle.rules.specs.Reference.{Reference, at_stop}
 use Rattle.rules.specs.Edit.{Asked}
 use Rattle.rules.specs.Number.{Numbered, number}

@@ -1,8 +1,7 @@
 -- E12: with a smaller longest edit, refusal 10's limit reads that number.
-use Rattle.std.specs.Prelude.{ℕ, Bool, [], eqb, leb}
+use Rattle.std.specs.Prelude.{ℕ, Bool, [], eqb, leb, if◌then◌else◌}
 use Rattle.rules.specs.declared.Limits.{Limits}
 use Rattle.rules.specs.declared.Answer.TheVariants.{Refused}
-use Rattle.rules.specs.Bytes.{if◌then◌else◌}
 use Rattle.rules.specs.Reference.{Reference}
 use Rattle.rules.specs.Edit.{Asked}
 use Rattle.rules.specs.Refusal.{limits, Room}

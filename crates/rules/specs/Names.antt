@@ -1,8 +1,8 @@
 -- "Letters and codons": one-letter and three-letter residue names, both ways, case counting.
-use Rattle.std.specs.Prelude.{ℕ, ◌%◌, List, [], ◌∷◌, not, eqb, ltb, length}
+use Rattle.std.specs.Prelude.{ℕ, ◌%◌, List, [], ◌∷◌, not, eqb, ltb, length, if◌then◌else◌}
 use Prim.Native.Char.{Char}
 use Prim.Native.String.{String}
-use Rattle.rules.specs.Bytes.{byte, bytes, if◌then◌else◌, same, is_none, all, each, ◌↯◌, first_number, Result, unless}
+use Rattle.rules.specs.Bytes.{byte, bytes, same, is_none, all, each, ◌↯◌, first_number, Result, unless}
 
 pub record Name : Type 0 where
   pub one : ℕ

@@ -1,7 +1,7 @@
 -- "Text program": numbers are decimal, no leading zero (a lone 0 is in the form), at most five digits.
-use Rattle.std.specs.Prelude.{ℕ, suc, ◌+◌, ◌-◌, ◌*◌, List, [], ◌∷◌, Bool, ◌&&◌, ◌||◌, not, eqb, leb, get_or, take, drop}
+use Rattle.std.specs.Prelude.{ℕ, suc, ◌+◌, ◌-◌, ◌*◌, List, [], ◌∷◌, Bool, ◌&&◌, ◌||◌, not, eqb, leb, get_or, take, drop, if◌then◌else◌}
 use Rattle.std.proofs.Math.Option.{Option, none, some}
-use Rattle.rules.specs.Bytes.{byte, if◌then◌else◌}
+use Rattle.rules.specs.Bytes.{byte}
 
 unfoldable pub is_digit : ℕ → Bool
 is_digit b = leb (byte "0") b && leb b (byte "9")

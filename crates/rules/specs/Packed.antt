@@ -1,9 +1,9 @@
 -- E10, "Four bits a base": letters two to a byte, each the sum of its bases (A 1, C 2, G 4, T 8), first letter in the high half, the low half of an odd
 -- last byte zero.
-use Rattle.std.specs.Prelude.{ℕ, zero, suc, ◌+◌, ◌/◌, ◌%◌, not, ◌&&◌, List, [], ◌∷◌, map, eqb, length, get_or, take, replicate}
+use Rattle.std.specs.Prelude.{ℕ, zero, suc, ◌+◌, ◌/◌, ◌%◌, not, ◌&&◌, List, [], ◌∷◌, map, eqb, length, get_or, take, replicate, if◌then◌else◌}
 use Rattle.rules.specs.declared.Form.{Form}
 use Rattle.rules.specs.declared.Form.TheVariants.{Bytes, Packed}
-use Rattle.rules.specs.Bytes.{if◌then◌else◌, all, Test, ◌↯◌}
+use Rattle.rules.specs.Bytes.{all, Test, ◌↯◌}
 use Rattle.rules.specs.Letters.{pick, letters, is_letter}
 use Rattle.rules.specs.Reference.{is_size}
 

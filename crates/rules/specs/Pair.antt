@@ -1,9 +1,9 @@
 -- E13, "Two edits on one transcript": the transcript of both, and its protein, read without exceptions.
-use Rattle.std.specs.Prelude.{ℕ, zero, suc, ◌+◌, ◌-◌, ◌≡◌, List, [], ◌∷◌, ◌++◌, Bool, ◌||◌, not, ltb, length, drop}
+use Rattle.std.specs.Prelude.{ℕ, zero, suc, ◌+◌, ◌-◌, ◌≡◌, List, [], ◌∷◌, ◌++◌, Bool, ◌||◌, not, ltb, length, drop, if◌then◌else◌}
 use Rattle.rules.specs.declared.Kind.TheVariants.{Insertion}
 use Rattle.rules.specs.declared.Paired.{Paired}
 use Rattle.rules.specs.declared.Paired.TheVariants.{Refused, Carried}
-use Rattle.rules.specs.Bytes.{if◌then◌else◌, Test, ◌↯◌, first_number, over}
+use Rattle.rules.specs.Bytes.{Test, ◌↯◌, first_number, over}
 use Rattle.rules.specs.Translation.{translated, residue_count, through_stop}
 use Rattle.rules.specs.Reference.{Reference, size, reference_tests}
 use Rattle.rules.specs.Edit.{Asked, is, kind_of, start_index, end_index, edit_tests}

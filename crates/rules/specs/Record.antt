@@ -1,5 +1,5 @@
 -- "The record": Unknown, NoProtein, Silent or Changed, and the class.
-use Rattle.std.specs.Prelude.{ℕ, ◌+◌, ◌-◌, ◌/◌, min, max, List, ◌++◌, Bool, true, false, ◌&&◌, ◌||◌, eqb, ltb, length, take, drop, get_or}
+use Rattle.std.specs.Prelude.{ℕ, ◌+◌, ◌-◌, ◌/◌, min, max, List, ◌++◌, Bool, true, false, ◌&&◌, ◌||◌, eqb, ltb, length, take, drop, get_or, if◌then◌else◌}
 use Rattle.rules.specs.declared.Kind.TheVariants as kind
 use Rattle.rules.specs.declared.Edit.{Edit}
 use Rattle.rules.specs.declared.Class.{Class}
@@ -8,7 +8,7 @@ use Rattle.rules.specs.declared.Part.{Part}
 use Rattle.rules.specs.declared.Change.{Change}
 use Rattle.rules.specs.declared.Record.{Record}
 use Rattle.rules.specs.declared.Record.TheVariants.{Unknown, NoProtein, Silent, Changed}
-use Rattle.rules.specs.Bytes.{byte, if◌then◌else◌, same, is_none, count}
+use Rattle.rules.specs.Bytes.{byte, same, is_none, count}
 use Rattle.rules.specs.Trims.{common_prefix, common_suffix}
 use Rattle.rules.specs.Reference.{Reference, reference_protein}
 use Rattle.rules.specs.Position.{counted}

@@ -1,7 +1,7 @@
 -- "Reference": letters, bounds, table, exceptions and how the CDS ends, and the reference protein R.
-use Rattle.std.specs.Prelude.{ℕ, ◌+◌, ◌-◌, ◌/◌, ◌%◌, List, [], ◌∷◌, Bool, true, ◌&&◌, ◌||◌, not, eqb, leb, ltb, length, take, drop, get_or}
+use Rattle.std.specs.Prelude.{ℕ, ◌+◌, ◌-◌, ◌/◌, ◌%◌, List, [], ◌∷◌, Bool, true, ◌&&◌, ◌||◌, not, eqb, leb, ltb, length, take, drop, get_or, if◌then◌else◌}
 use Rattle.rules.specs.declared.Exception.{Exception}
-use Rattle.rules.specs.Bytes.{byte, if◌then◌else◌, all, count, Test, ◌↯◌}
+use Rattle.rules.specs.Bytes.{byte, all, count, Test, ◌↯◌}
 use Rattle.rules.specs.Letters.{is_letter}
 use Rattle.rules.specs.Codons.{is_table}
 use Rattle.rules.specs.Translation.{translated, is_residue}

@@ -1,8 +1,7 @@
 -- E4, "Translate only changed codons": which codons of the altered transcript are reused, and how many are looked up. Codons are counted
 -- from 0, the first begins at index cs-1; `at` is the index where a codon begins, in the altered transcript unless said otherwise.
-use Rattle.std.specs.Prelude.{ℕ, zero, suc, ◌+◌, ◌-◌, ◌/◌, min, List, Bool, ◌&&◌, ◌||◌, not, eqb, leb, length, drop}
+use Rattle.std.specs.Prelude.{ℕ, zero, suc, ◌+◌, ◌-◌, ◌/◌, min, List, Bool, ◌&&◌, ◌||◌, not, eqb, leb, length, drop, if◌then◌else◌}
 use Rattle.rules.specs.declared.Kind.TheVariants.{Identity}
-use Rattle.rules.specs.Bytes.{if◌then◌else◌}
 use Rattle.rules.specs.Reference.{Reference}
 use Rattle.rules.specs.Edit.{Asked, is, kind_of}
 use Rattle.rules.specs.Altered.{Swap, cut_swap, altered_transcript}

@@ -1,10 +1,10 @@
 -- E12, "Settings that survive an update": each bench keeps its default table, profile on or off, and output width of residue names in stored fields.
-use Rattle.std.specs.Prelude.{ℕ, List, [], ◌∷◌, ◌++◌, Bool, ◌&&◌, ◌||◌, not, eqb, leb, ltb, length, get_or}
+use Rattle.std.specs.Prelude.{ℕ, List, [], ◌∷◌, ◌++◌, Bool, ◌&&◌, ◌||◌, not, eqb, leb, ltb, length, get_or, if◌then◌else◌}
 use Rattle.std.proofs.Math.Option.{Option, none, some}
 use Rattle.rules.specs.declared.Settings.{Settings}
 use Rattle.rules.specs.declared.Store.{Store}
 use Rattle.rules.specs.declared.Store.TheVariants.{Refused, Newer, Held}
-use Rattle.rules.specs.Bytes.{if◌then◌else◌, is_none, Test, ◌↯◌, first_number, Result, unless}
+use Rattle.rules.specs.Bytes.{is_none, Test, ◌↯◌, first_number, Result, unless}
 use Rattle.rules.specs.Codons.{is_table}
 use Rattle.rules.specs.Refusal.{limits}
 use Rattle.rules.specs.Stored.{two_bytes, Field, ended, cut, whole, field, Tagged}

@@ -1,8 +1,8 @@
 -- "Stored reference": fields of a one-byte tag, a two-byte length (high byte first) and the content.
-use Rattle.std.specs.Prelude.{ℕ, zero, suc, ◌+◌, ◌*◌, ◌%◌, List, [], ◌∷◌, ◌++◌, Bool, true, false, ◌&&◌, ◌||◌, not, eqb, leb, ltb, length, take, drop, get_or}
+use Rattle.std.specs.Prelude.{ℕ, zero, suc, ◌+◌, ◌*◌, ◌%◌, List, [], ◌∷◌, ◌++◌, Bool, true, false, ◌&&◌, ◌||◌, not, eqb, leb, ltb, length, take, drop, get_or, if◌then◌else◌}
 use Rattle.std.proofs.Math.Option.{Option, none, some}
 use Rattle.rules.specs.declared.Exception.{Exception}
-use Rattle.rules.specs.Bytes.{if◌then◌else◌, Test, ◌↯◌, first_number, Result, given, refused, unless}
+use Rattle.rules.specs.Bytes.{Test, ◌↯◌, first_number, Result, given, refused, unless}
 use Rattle.rules.specs.Reference.{Reference, at_stop, is_short_end, size}
 use Rattle.rules.specs.Refusal.{reference_refusal}
 

@@ -1,7 +1,7 @@
 -- E1, "Write the stored reference": the bytes of fields, the fields of a reference, and what a call that writes one answers.
-use Rattle.std.specs.Prelude.{ℕ, ◌/◌, ◌%◌, List, [], ◌∷◌, ◌++◌, Bool, eqb, ltb, length, take, drop}
+use Rattle.std.specs.Prelude.{ℕ, ◌/◌, ◌%◌, List, [], ◌∷◌, ◌++◌, Bool, eqb, ltb, length, take, drop, if◌then◌else◌}
 use Rattle.rules.specs.declared.Exception.{Exception}
-use Rattle.rules.specs.Bytes.{if◌then◌else◌, is_none, each, Test, ◌↯◌, first_number, Result, unless}
+use Rattle.rules.specs.Bytes.{is_none, each, Test, ◌↯◌, first_number, Result, unless}
 use Rattle.rules.specs.Reference.{Reference, at_stop, size, reference_tests}
 use Rattle.rules.specs.Stored.{Tagged}
 

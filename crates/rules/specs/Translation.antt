@@ -1,8 +1,8 @@
 -- "Letters and codons": translation of a byte string, with exceptions.
-use Rattle.std.specs.Prelude.{ℕ, suc, ◌+◌, ◌-◌, ◌/◌, ◌%◌, List, [], ◌∷◌, ◌++◌, map, Bool, ◌&&◌, ◌||◌, not, eqb, leb, ltb, length, take, replicate}
+use Rattle.std.specs.Prelude.{ℕ, suc, ◌+◌, ◌-◌, ◌/◌, ◌%◌, List, [], ◌∷◌, ◌++◌, map, Bool, ◌&&◌, ◌||◌, not, eqb, leb, ltb, length, take, replicate, if◌then◌else◌}
 use Rattle.rules.specs.declared.Exception.{Exception}
 use Rattle.rules.specs.declared.Exceptions.{Exceptions}
-use Rattle.rules.specs.Bytes.{byte, if◌then◌else◌, all, is_capital, Test, ◌↯◌, first_number, Result, unless}
+use Rattle.rules.specs.Bytes.{byte, all, is_capital, Test, ◌↯◌, first_number, Result, unless}
 use Rattle.rules.specs.Letters.{is_letter, folded}
 use Rattle.rules.specs.Codons.{is_table, residue_x, codon}
 

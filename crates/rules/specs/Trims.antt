@@ -1,6 +1,5 @@
 -- "Letters and codons": a trim answers the number of equal first, or equal last, bytes of two byte strings.
-use Rattle.std.specs.Prelude.{ℕ, suc, List, [], ◌∷◌, reverse, eqb}
-use Rattle.rules.specs.Bytes.{if◌then◌else◌}
+use Rattle.std.specs.Prelude.{ℕ, suc, List, [], ◌∷◌, reverse, eqb, if◌then◌else◌}
 
 unfoldable pub common_prefix : List ℕ → List ℕ → ℕ
 common_prefix [] ys = 0

@@ -1,5 +1,6 @@
 -- Laws of reading: what a reader answers, by the version that stands there and by the fields behind it.
 -- Assumes nothing.
+use Rattle.std.specs.Prelude.{if◌then◌else◌}
 use mathlib.Core.Path.{◌≡◌, refl, sym, ◌∙◌}
 use mathlib.Core.Bool.{Bool, true, false, not}
 use mathlib.Core.List.{List}
@@ -9,7 +10,6 @@ use lib.Dec.{eqb, ltb}
 use borrow.Author.Tests.{ne_eqb, lt-ltb, le-ltb, not-true, not-false}
 use Rattle.rules.specs.declared.Settings.{Settings}
 use Rattle.rules.specs.declared.Store.TheVariants.{Refused, Newer, Held}
-use Rattle.rules.specs.Bytes.{if◌then◌else◌}
 use Rattle.rules.specs.Stored.{field}
 use Rattle.rules.specs.Settings.{is_version, version_of, layout, contents_in, are_settings, held_in, stored_by, stored_settings}
 use Rattle.settings_fields.specs.Places.{are_at, or_zero, version_in, settings_at}

@@ -1,6 +1,6 @@
 // The writer of settings.
-ghost use Rattle.std.specs.Prelude.{◌≡◌, [], ◌∷◌, ◌++◌, ◌≤◌, ◌<◌, length};
-ghost use Rattle.rules.specs.Bytes.{if◌then◌else◌, over};
+ghost use Rattle.std.specs.Prelude.{◌≡◌, [], ◌∷◌, ◌++◌, ◌≤◌, ◌<◌, length, if◌then◌else◌};
+ghost use Rattle.rules.specs.Bytes.{over};
 ghost use Rattle.rules.specs.Storing.{in_two, field_bytes};
 ghost use Rattle.rules.specs.Settings.{has_longest, store_of, written_settings};
 ghost use Rattle.rules.specs.Answer.{written_of, bytes_of};

@@ -1,5 +1,6 @@
 -- Laws of places: what stands at the places of a store's fields is what its contents hold.
 -- Assumes nothing.
+use Rattle.std.specs.Prelude.{if◌then◌else◌}
 use mathlib.Core.Path.{◌≡◌, refl, sym, ap, ◌∙◌}
 use mathlib.Core.Bool.{Bool, true, false, ◌&&◌, and_assoc}
 use mathlib.Core.List.{List, [], ◌∷◌, ◌++◌}
@@ -13,7 +14,7 @@ use lib.Seq.{drop-cons, length-take-le}
 use borrow.Author.Tests.{eq-eqb, eqb-true, le-leb, lt-leb}
 use Rattle.rules.specs.declared.Part.{Part}
 use Rattle.rules.specs.declared.Store.TheVariants.{Refused, Held}
-use Rattle.rules.specs.Bytes.{if◌then◌else◌, is_none}
+use Rattle.rules.specs.Bytes.{is_none}
 use Rattle.rules.specs.Record.{part_of}
 use Rattle.rules.specs.Stored as stored
 use Rattle.rules.specs.Stored.{two_bytes, field}

@@ -1,8 +1,7 @@
 -- The fields of settings by their places in the caller's bytes.
-use Rattle.std.specs.Prelude.{ℕ, ◌+◌, List, [], ◌∷◌, ◌++◌, Bool, false, ◌&&◌, eqb, leb, length, take, drop, get_or}
+use Rattle.std.specs.Prelude.{ℕ, ◌+◌, List, [], ◌∷◌, ◌++◌, Bool, false, ◌&&◌, eqb, leb, length, take, drop, get_or, if◌then◌else◌}
 use Rattle.std.proofs.Math.Option.{Option, none, some}
 use Rattle.rules.specs.declared.Settings.{Settings}
-use Rattle.rules.specs.Bytes.{if◌then◌else◌}
 use Rattle.rules.specs.Refusal.{limits}
 use Rattle.rules.specs.Settings.{has_longest, version_of}
 use Rattle.rules.specs.Stored.{two_bytes, Field, ended, cut, whole, field}

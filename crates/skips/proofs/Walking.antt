@@ -1,5 +1,6 @@
 -- Laws of a walk from one difference to the next: what it skips, counts and writes.
 -- Assumes nothing.
+use Rattle.std.specs.Prelude.{if◌then◌else◌}
 use mathlib.Core.Path.{◌≡◌, refl, sym, ap, ◌∙◌}
 use mathlib.Core.Bool.{Bool, true, false}
 use mathlib.Core.List.{List, [], ◌∷◌, ◌++◌}
@@ -8,7 +9,7 @@ use native.Mathlib.Omega.{arith}
 use lib.ListN.{length, take, drop, set, length-append, length-take, length-drop}
 use lib.Seq.{length-take-le, take-add, take_all, take_at, drop_at, drop-drop}
 use borrow.Rule.Slice.PartMut.{put_mid}
-use Rattle.rules.specs.Bytes.{if◌then◌else◌, each, over}
+use Rattle.rules.specs.Bytes.{each, over}
 use Rattle.rules.specs.Reference.{Reference}
 use Rattle.rules.specs.Editions.{is_equal_codon, Difference, difference_at, differences_from, difference_bytes}
 use Rattle.rules.proofs.Over.{length_over, lent_on_by}

@@ -1,5 +1,6 @@
 -- Laws of joining: 29 by the code's tests, and what the buffer holds.
 -- Assumes nothing.
+use Rattle.std.specs.Prelude.{if◌then◌else◌}
 use mathlib.Core.Path.{◌≡◌, refl, sym, ap, ◌∙◌}
 use mathlib.Core.Bool.{Bool, true, false, ◌&&◌, not}
 use mathlib.Core.List.{List, [], ◌∷◌, ◌++◌}
@@ -8,7 +9,7 @@ use native.Mathlib.Omega.{arith}
 use lib.Dec.{eqb, ltb}
 use lib.ListN.{length, length-append}
 use borrow.Author.Tests.{lt-ltb, le-ltb}
-use Rattle.rules.specs.Bytes.{if◌then◌else◌, over, Result, given, refused, unless}
+use Rattle.rules.specs.Bytes.{over, Result, given, refused, unless}
 use Rattle.rules.specs.Record.{part_of}
 use Rattle.rules.specs.Reference.{Reference, size}
 use Rattle.rules.specs.Refusal.{reference_refusal}

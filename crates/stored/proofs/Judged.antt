@@ -1,5 +1,6 @@
 -- Laws of judging a stored reference: 1 to 5, 6 or 28 of what stands in the bytes, and what an answer tells then.
 -- Assumes nothing.
+use Rattle.std.specs.Prelude.{if◌then◌else◌}
 use mathlib.Core.Path.{◌≡◌, refl, sym, ap, ◌∙◌}
 use mathlib.Core.Bool.{Bool, true, false, ◌&&◌}
 use mathlib.Core.List.{List, [], ◌∷◌, ◌++◌, append-nil}
@@ -12,7 +13,7 @@ use Rattle.rules.specs.declared.Cds.{Cds}
 use Rattle.rules.specs.declared.Exception.{Exception}
 use Rattle.rules.specs.declared.Exceptions.{Exceptions}
 use Rattle.rules.specs.declared.Part.{Part}
-use Rattle.rules.specs.Bytes.{if◌then◌else◌, all, first_number, Result, given, refused, unless}
+use Rattle.rules.specs.Bytes.{all, first_number, Result, given, refused, unless}
 use Rattle.rules.specs.Translation.{exception_list}
 use Rattle.rules.specs.Reference.{Reference, size, cds_size, are_bounds, fit_exceptions, is_cut_short, reference_tests}
 use Rattle.rules.specs.Record.{part_of}

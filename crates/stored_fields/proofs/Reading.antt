@@ -1,17 +1,18 @@
 -- Laws of reading a stored reference: what each answer tells, and that there is a single answer.
 -- Assumes nothing.
+use Rattle.std.specs.Prelude.{if◌then◌else◌}
 use mathlib.Core.Path.{◌≡◌, refl, sym, ap, ◌∙◌}
 use mathlib.Core.Bool.{Bool, true, false, ◌&&◌, ◌||◌, not}
 use mathlib.Core.List.{List, [], ◌∷◌, ◌++◌, append_assoc}
 use mathlib.Core.Option.{Option, none, some}
-use Prim.Native.Nat.{ℕ, zero, suc, ◌+◌, ◌%◌, ◌≤◌, ◌<◌}
+use Prim.Native.Nat.{ℕ, zero, suc, ◌+◌, ◌%◌, ◌≤◌}
 use native.Mathlib.Omega.{arith}
 use lib.Dec.{eqb, ltb}
 use lib.ListN.{length, length-append}
-use borrow.Author.Tests.{eq-eqb, ne_eqb, eqb-true, eqb-false, lt-ltb, not-false, not-true}
+use borrow.Author.Tests.{eq-eqb, ne_eqb, eqb-true, lt-ltb}
 use Rattle.rules.specs.declared.Cds.{Cds}
 use Rattle.rules.specs.declared.Part.{Part}
-use Rattle.rules.specs.Bytes.{if◌then◌else◌, ◌↯◌, first_number, Result, given, refused, unless}
+use Rattle.rules.specs.Bytes.{◌↯◌, first_number, Result, given, refused, unless}
 use Rattle.rules.specs.Record.{part_of}
 use Rattle.rules.specs.Reference.{Reference}
 use Rattle.rules.specs.Stored as stored
@@ -26,10 +27,9 @@ use Rattle.fields.proofs.Order.{given-fields}
 use Rattle.fields.proofs.Contents.{content_in, has, found}
 use Rattle.stored_places.specs.declared.Places.{Places}
 use Rattle.stored_places.specs.Refusal.{is_there, is_early, places_refusal}
-use Rattle.stored_fields.specs.declared.field_places.StoredAt.{StoredAt}
 use Rattle.stored_fields.specs.declared.field_places.Stored.{Stored}
 use Rattle.stored_fields.specs.declared.field_places.Stored.TheVariants.{Refused, At}
-use Rattle.stored_fields.specs.Reading.{bounds_by, cds_in, Fit, placed_reference, told_reference, Stand, Placed, Reads}
+use Rattle.stored_fields.specs.Reading.{bounds_by, cds_in, Fit, placed_reference, told_reference, Stand, Reads}
 use Rattle.stored_fields.proofs.Form.{bounds-length, wide-length, second-length, third-length, table-length, exceptions-length}
 
 pub refuses : (s : List ℕ) (x : Result Reference) (n : ℕ) → x ≡ refused n → Reads s x (Refused n)

@@ -1,8 +1,7 @@
 -- The exceptions that bytes store, as the value that calls take.
-use Rattle.std.specs.Prelude.{ℕ, ◌+◌, ◌*◌, ◌%◌, List, ◌++◌, eqb, leb, length, drop, get_or, replicate}
+use Rattle.std.specs.Prelude.{ℕ, ◌+◌, ◌*◌, ◌%◌, List, ◌++◌, eqb, leb, length, drop, get_or, replicate, if◌then◌else◌}
 use Rattle.rules.specs.declared.Exception.{Exception}
 use Rattle.rules.specs.declared.Exceptions.{Exceptions}
-use Rattle.rules.specs.Bytes.{if◌then◌else◌}
 use Rattle.rules.specs.Translation.{no_exception}
 use Rattle.rules.specs.Stored.{two_bytes, exceptions_in}
 

@@ -1,7 +1,7 @@
 -- What the lengths of contents are refused with.
-use Rattle.std.specs.Prelude.{ℕ, Bool, ◌&&◌, ◌||◌, not, [], ◌∷◌, eqb, ltb}
+use Rattle.std.specs.Prelude.{ℕ, Bool, ◌&&◌, ◌||◌, not, [], ◌∷◌, eqb, ltb, if◌then◌else◌}
 use Rattle.rules.specs.declared.Part.{Part}
-use Rattle.rules.specs.Bytes.{if◌then◌else◌, ◌↯◌, first_number}
+use Rattle.rules.specs.Bytes.{◌↯◌, first_number}
 use Rattle.stored_places.specs.declared.Places.{Places}
 
 -- there is a field, of a tag whose contents aren't empty

@@ -1,8 +1,7 @@
 // Where the contents of a stored reference's tags stand, and what their lengths are refused with: 22, then 25.
 #![tactic(auto)]
 
-ghost use Rattle.std.specs.Prelude.{◌≡◌};
-ghost use Rattle.rules.specs.Bytes.{if◌then◌else◌};
+ghost use Rattle.std.specs.Prelude.{◌≡◌, if◌then◌else◌};
 ghost use Rattle.stored_places.specs.Refusal.{is_there, is_early, places_refusal};
 
 use rules::{Part, SHORT};

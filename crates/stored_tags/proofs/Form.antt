@@ -1,5 +1,6 @@
 -- Laws of the reference's form: its tests as the code has them, and what they refuse.
 -- Assumes nothing.
+use Rattle.std.specs.Prelude.{if◌then◌else◌}
 use mathlib.Core.Path.{◌≡◌, refl, ◌∙◌}
 use mathlib.Core.Bool.{Bool, true, false, ◌||◌, not}
 use mathlib.Core.List.{List}
@@ -8,7 +9,6 @@ use lib.Dec.{leb, ltb}
 use lib.ListN.{length}
 use borrow.Author.Tests.{le-leb, lt-leb, ltb-true, ltb-false, ne_eqb}
 use Rattle.rules.specs.declared.Part.{Part}
-use Rattle.rules.specs.Bytes.{if◌then◌else◌}
 use Rattle.rules.specs.Record.{part_of}
 use Rattle.rules.specs.Stored.{is_wrong_tag, is_wrong_content, reference_form}
 use Rattle.fields.specs.declared.reader.Field.TheVariants.{Whole, Cut}

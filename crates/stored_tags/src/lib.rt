@@ -1,8 +1,7 @@
 // The form of a stored reference: its tags, what content fits each, and what a field is refused with, 20, 21 or 23.
 #![tactic(auto)]
 
-ghost use Rattle.std.specs.Prelude.{◌≡◌};
-ghost use Rattle.rules.specs.Bytes.{if◌then◌else◌};
+ghost use Rattle.std.specs.Prelude.{◌≡◌, if◌then◌else◌};
 ghost use Rattle.rules.specs.Stored.{is_wrong_tag, is_wrong_content, reference_form};
 ghost use Rattle.fields.specs.Places.{Within};
 ghost use Rattle.fields.specs.Refusals.{field_refusal};

@@ -1,5 +1,6 @@
 -- Laws of the form: its fields one behind the other.
 -- Assumes nothing.
+use Rattle.std.specs.Prelude.{if◌then◌else◌}
 use mathlib.Core.Path.{◌≡◌, refl, sym, ap, ◌∙◌, subst}
 use mathlib.Core.Bool.{Bool, true, false, ◌&&◌, ◌||◌}
 use mathlib.Core.List.{List, [], ◌∷◌, ◌++◌}
@@ -13,7 +14,7 @@ use borrow.Author.Tests.{eq-eqb, ne_eqb, eqb-true, ltb-false}
 use Rattle.rules.specs.declared.Cds.{Cds}
 use Rattle.rules.specs.declared.Exceptions.{Exceptions}
 use borrow.Rule.Slice.PartMut.{put_mid}
-use Rattle.rules.specs.Bytes.{if◌then◌else◌, is_none, all, each, over}
+use Rattle.rules.specs.Bytes.{is_none, all, each, over}
 use Rattle.rules.specs.Letters.{is_letter}
 use Rattle.rules.specs.Altered.{part}
 use Rattle.rules.specs.Translation.{no_exception, exception_list}

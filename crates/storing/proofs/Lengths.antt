@@ -1,5 +1,6 @@
 -- The length of the form by the reference's numbers.
 -- Assumes nothing.
+use Rattle.std.specs.Prelude.{if◌then◌else◌}
 use mathlib.Core.Path.{◌≡◌, refl, sym, ap, ◌∙◌}
 use mathlib.Core.Bool.{Bool, true, false}
 use mathlib.Core.List.{List, [], ◌∷◌, ◌++◌}
@@ -9,7 +10,7 @@ use native.Mathlib.Omega.{arith}
 use lib.Dec.{eqb, ltb}
 use lib.ListN.{length, take, drop, length-append, length-take, length-drop}
 use borrow.Author.Tests.{lt-ltb, le-ltb, eq-eqb, ne_eqb}
-use Rattle.rules.specs.Bytes.{if◌then◌else◌, each}
+use Rattle.rules.specs.Bytes.{each}
 use Rattle.rules.specs.Reference as rules
 use Rattle.rules.specs.Reference.{Reference, at_stop}
 use Rattle.rules.specs.Storing.{in_two, in_four, exception_bytes, is_long, tagged, held_by, stored_form}

@@ -1,6 +1,5 @@
 -- The length of the stored form.
-use Rattle.std.specs.Prelude.{ℕ, ◌+◌, ◌*◌, ltb}
-use Rattle.rules.specs.Bytes.{if◌then◌else◌}
+use Rattle.std.specs.Prelude.{ℕ, ◌+◌, ◌*◌, ltb, if◌then◌else◌}
 
 -- the length of the form: tags 1, 2 and 3 take 14 bytes beside the letters, tag 7 four more than tag 2, and every other field three beside
 -- its content

@@ -1,8 +1,7 @@
 // The length of the stored form by the reference's numbers, known before its first byte is written.
 #![tactic(auto)]
 
-ghost use Rattle.std.specs.Prelude.{◌≡◌, ◌≤◌};
-ghost use Rattle.rules.specs.Bytes.{if◌then◌else◌};
+ghost use Rattle.std.specs.Prelude.{◌≡◌, ◌≤◌, if◌then◌else◌};
 ghost use Rattle.storing_length.specs.Length.{form_length};
 
 // A number if a test holds, else 0.

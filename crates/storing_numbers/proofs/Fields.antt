@@ -1,5 +1,6 @@
 -- Laws of a field: what it takes, and what its function writes.
 -- Assumes nothing.
+use Rattle.std.specs.Prelude.{if◌then◌else◌}
 use mathlib.Core.Path.{◌≡◌, refl, sym, ap, ◌∙◌}
 use mathlib.Core.Bool.{Bool, true, false, not}
 use mathlib.Core.List.{List, [], ◌∷◌, ◌++◌, append-nil}
@@ -9,7 +10,7 @@ use lib.Dec.{eqb}
 use lib.ListN.{length, drop_of_length-le}
 use borrow.Author.Tests.{ne_eqb}
 use Rattle.rules.specs.declared.Cds.{Cds}
-use Rattle.rules.specs.Bytes.{if◌then◌else◌, over}
+use Rattle.rules.specs.Bytes.{over}
 use Rattle.rules.specs.Stored.{Tagged}
 use Rattle.rules.specs.Storing.{in_two, in_four, field_bytes, tagged}
 use Rattle.storing_numbers.specs.Fields.{one_field, narrow_bounds, wide_bounds}

@@ -1,7 +1,7 @@
 -- Fields as the form has them.
-use Rattle.std.specs.Prelude.{ℕ, List, [], ◌++◌, Bool}
+use Rattle.std.specs.Prelude.{ℕ, List, [], ◌++◌, Bool, if◌then◌else◌}
 use Rattle.rules.specs.declared.Cds.{Cds}
-use Rattle.rules.specs.Bytes.{if◌then◌else◌, is_none}
+use Rattle.rules.specs.Bytes.{is_none}
 use Rattle.rules.specs.Stored.{Tagged}
 use Rattle.rules.specs.Storing.{in_two, in_four, tagged, field_bytes}
 

@@ -1,5 +1,6 @@
 -- Laws of a first line's answer: what the check of a reference prints and leaves, and which lines are in the form.
 -- Assumes nothing.
+use Rattle.std.specs.Prelude.{if◌then◌else◌}
 use mathlib.Core.Path.{◌≡◌, refl, sym, ap, ◌∙◌}
 use mathlib.Core.Bool.{true, false}
 use mathlib.Core.List.{List, [], ◌∷◌, ◌++◌}
@@ -8,7 +9,7 @@ use Prim.Native.Nat.{ℕ, zero, suc, ◌-◌, ◌≤◌, ◌<◌}
 use native.Mathlib.Omega.{arith}
 use lib.ListN.{length, take, drop}
 use Rattle.rules.specs.declared.Exceptions.{Exceptions}
-use Rattle.rules.specs.Bytes.{if◌then◌else◌, bytes, over}
+use Rattle.rules.specs.Bytes.{bytes, over}
 use Rattle.rules.specs.Translation.{exception_list}
 use Rattle.rules.specs.Reference.{Reference, size, reference_protein}
 use Rattle.rules.specs.Refusal.{reference_refusal}

@@ -1,7 +1,6 @@
 -- Where a run stands between two bytes of its input: what the line's end makes of that, and what the line is answered.
-use Rattle.std.specs.Prelude.{ℕ, zero, suc, List, [], ◌∷◌, Bool, true, false}
+use Rattle.std.specs.Prelude.{ℕ, zero, suc, List, [], ◌∷◌, Bool, true, false, if◌then◌else◌}
 use Rattle.std.proofs.Math.Option.{Option, none, some}
-use Rattle.rules.specs.Bytes.{if◌then◌else◌}
 use Rattle.rules.specs.Reference.{Reference}
 use Rattle.rules.specs.Refusal.{reference_refusal}
 use Rattle.rules.specs.Line.{text_limits, reference_line, fits_line}

@@ -1,5 +1,6 @@
 -- `position` and `range` at a place of a line, from what the parsers below answer there.
 -- Assumes nothing.
+use Rattle.std.specs.Prelude.{if◌then◌else◌}
 use mathlib.Core.Path.{◌≡◌, sym, ap, ◌∙◌}
 use mathlib.Core.Bool.{Bool, true, false}
 use mathlib.Core.List.{List, ◌∷◌}
@@ -13,7 +14,6 @@ use lib.ListN.{length, drop, get_or, drop_of_length-le}
 use lib.Seq.{drop-cons}
 use Rattle.rules.specs.declared.Position.{Position}
 use Rattle.rules.specs.declared.Position.TheVariants.{Plus, Minus, Star}
-use Rattle.rules.specs.Bytes.{if◌then◌else◌}
 use Rattle.rules.specs.Number.{number}
 use Rattle.rules.specs.Line.{placed, position, joined, range}
 use Rattle.text_numbers.specs.declared.NumberAt.{NumberAt}

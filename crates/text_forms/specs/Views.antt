@@ -1,10 +1,10 @@
 -- What a parser's answer says in document 01's terms, by its cases: what was read, with what stands behind it in the line. And the place where
 -- that begins, 0 where nothing was read: where a promise bounds it by the line's length, what stands behind it tells it.
-use Rattle.std.specs.Prelude.{ℕ, List, eqb, drop}
+use Rattle.std.specs.Prelude.{ℕ, List, eqb, drop, if◌then◌else◌}
 use Rattle.std.proofs.Math.Option.{Option, none, some}
 use Rattle.rules.specs.declared.Position.{Position}
 use Rattle.rules.specs.declared.Position.TheVariants.{Plus, Minus, Star}
-use Rattle.rules.specs.Bytes.{byte, if◌then◌else◌}
+use Rattle.rules.specs.Bytes.{byte}
 use Rattle.rules.specs.Reference.{Reference}
 use Rattle.rules.specs.Edit.{Asked}
 use Rattle.rules.specs.Line.{Placed, Range}

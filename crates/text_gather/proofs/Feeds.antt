@@ -35,5 +35,4 @@ feed_at (b ∷ s) h = by (eqb b line_feed) refl (feed_at s) h
 
 -- searched from the start to the end
 pub found : (s : List ℕ) (n : ℕ) → n ≡ 0 + index_of line_feed (slice 0 (length s) s) → n ≡ index_of line_feed s
-unfolding slice
 found s n e = omega (arith, e, ap (index_of line_feed) (take-length s))

@@ -1,5 +1,6 @@
 -- Laws of bytes that are put out where there is room for them.
 -- Assumes nothing.
+use Rattle.std.specs.Prelude.{if◌then◌else◌}
 use mathlib.Core.Path.{◌≡◌, refl, sym, ◌∙◌}
 use mathlib.Core.Bool.{Bool, true, false}
 use mathlib.Core.List.{List, []}
@@ -10,7 +11,7 @@ use lib.ListN.{length}
 use borrow.Author.Tests.{le-leb, lt-leb, leb-true, leb-false}
 use Rattle.rules.specs.declared.Written.{Written}
 use Rattle.rules.specs.declared.Written.TheVariants.{Refused, Bytes}
-use Rattle.rules.specs.Bytes.{if◌then◌else◌, given, refused, over}
+use Rattle.rules.specs.Bytes.{given, refused, over}
 use Rattle.rules.specs.Answer.{written_of, bytes_of}
 use Rattle.text_gather.specs.Steps.{within}
 

@@ -1,7 +1,7 @@
 -- What further bytes of the input make of where a run stands, and what is printed for them.
-use Rattle.std.specs.Prelude.{ℕ, ◌+◌, ◌≤◌, ◌<◌, ◌≡◌, List, [], ◌∷◌, ◌++◌, true, false, eqb, leb, length, take}
+use Rattle.std.specs.Prelude.{ℕ, ◌+◌, ◌≤◌, ◌<◌, ◌≡◌, List, [], ◌∷◌, ◌++◌, true, false, eqb, leb, length, take, if◌then◌else◌}
 use Rattle.bytewise.specs.Find.{index_of}
-use Rattle.rules.specs.Bytes.{if◌then◌else◌, is_none, Result, given, refused, over}
+use Rattle.rules.specs.Bytes.{is_none, Result, given, refused, over}
 use Rattle.rules.specs.Run.{line_feed}
 use Rattle.text_answers.specs.Rooms.{line_room}
 use Rattle.text_answers.specs.Stage.{Stage, opening, editing, ended, next_line, answered}

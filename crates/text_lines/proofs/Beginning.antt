@@ -1,5 +1,6 @@
 -- Laws of a step's beginning, up to the end of the first line, and of how it goes on from there.
 -- Assumes nothing.
+use Rattle.std.specs.Prelude.{if◌then◌else◌}
 use mathlib.Core.Path.{◌≡◌, refl, sym, ap, subst, ◌∙◌}
 use mathlib.Core.List.{List, [], ◌∷◌, ◌++◌, append-nil}
 use mathlib.Core.Option.{Option, none, some}
@@ -13,7 +14,7 @@ use Rattle.bytewise.specs.Find.{index_after, index_of}
 use Rattle.rules.specs.Opened.{opened}
 use Rattle.rules.specs.declared.Written.{Written}
 use Rattle.rules.specs.declared.Written.TheVariants.{Refused, Bytes}
-use Rattle.rules.specs.Bytes.{if◌then◌else◌, bytes, over}
+use Rattle.rules.specs.Bytes.{bytes, over}
 use Rattle.rules.specs.Answer.{written_of, bytes_of}
 use Rattle.rules.specs.Reference.{Reference, reference_protein}
 use Rattle.rules.specs.Refusal.{reference_refusal}

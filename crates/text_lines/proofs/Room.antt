@@ -1,5 +1,6 @@
 -- How long a line's answer is at most, and that a step into as much room as that takes something.
 -- Assumes nothing.
+use Rattle.std.specs.Prelude.{if◌then◌else◌}
 use mathlib.Core.Path.{◌≡◌, refl}
 use mathlib.Core.Bool.{Bool, true, false}
 use mathlib.Core.List.{List, [], ◌∷◌, ◌++◌}
@@ -8,7 +9,7 @@ use Prim.Native.Nat.{ℕ, zero, suc, ◌+◌, ◌≤◌, ◌<◌}
 use native.Mathlib.Omega.{arith}
 use lib.Dec.{eqb}
 use lib.ListN.{length, take, length-append}
-use Rattle.rules.specs.Bytes.{if◌then◌else◌, bytes, is_none, unless}
+use Rattle.rules.specs.Bytes.{bytes, is_none, unless}
 use Rattle.rules.specs.Translation.{exception_list, residue_count}
 use Rattle.rules.specs.Reference.{Reference, size, cds_size, reference_protein}
 use Rattle.rules.specs.Edit.{Asked}

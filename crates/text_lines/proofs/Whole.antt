@@ -1,5 +1,6 @@
 -- The run of a whole input, in pieces: what the steps print, and at last what the end does, is what document 01's run prints.
 -- Assumes nothing.
+use Rattle.std.specs.Prelude.{if◌then◌else◌}
 use mathlib.Core.Path.{◌≡◌, refl, sym, ap, ◌∙◌}
 use mathlib.Core.Bool.{Bool, true, false}
 use mathlib.Core.List.{List, [], ◌∷◌, ◌++◌, append_assoc, append-nil, map}
@@ -7,7 +8,7 @@ use mathlib.Core.Option.{Option, none, some}
 use Prim.Native.Nat.{ℕ, zero, suc}
 use lib.Dec.{eqb}
 use borrow.Author.Tests.{eqb-true}
-use Rattle.rules.specs.Bytes.{if◌then◌else◌, bytes}
+use Rattle.rules.specs.Bytes.{bytes}
 use Rattle.rules.specs.Reference.{Reference, reference_protein}
 use Rattle.rules.specs.Refusal.{reference_refusal}
 use Rattle.rules.specs.Line.{text_limits, reference_line, fits_line}

@@ -1,7 +1,7 @@
 -- What is kept between two steps: a state, and the buffers that are lent to each.
-use Rattle.std.specs.Prelude.{ℕ, ◌≤◌, ◌<◌, ◌≡◌, List, [], ◌++◌, ltb, length, take}
+use Rattle.std.specs.Prelude.{ℕ, ◌≤◌, ◌<◌, ◌≡◌, List, [], ◌++◌, ltb, length, take, if◌then◌else◌}
 use Rattle.bytewise.specs.Find.{index_of}
-use Rattle.rules.specs.Bytes.{if◌then◌else◌, over}
+use Rattle.rules.specs.Bytes.{over}
 use Rattle.rules.specs.Run.{line_feed}
 use Rattle.text_answers.specs.declared.Phase.{Phase}
 use Rattle.text_answers.specs.declared.Phase.TheVariants.{Opening, Editing, Ended}

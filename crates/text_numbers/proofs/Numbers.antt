@@ -1,5 +1,6 @@
 -- Laws of `digits`, `value`, `is_number` and `number`.
 -- Assumes nothing.
+use Rattle.std.specs.Prelude.{if◌then◌else◌}
 use mathlib.Core.Path.{◌≡◌, refl, sym, ap, ◌∙◌}
 use mathlib.Core.Bool.{Bool, true, false, ◌&&◌, ◌||◌, not}
 use mathlib.Core.List.{List, [], ◌∷◌}
@@ -12,7 +13,7 @@ use borrow.Author.Tests.{leb-true}
 use lib.Dec.{eqb, leb}
 use lib.ListN.{length, take, drop, get_or, length-drop, drop_of_length-le}
 use lib.Seq.{drop-cons, drop-drop, length-take-le}
-use Rattle.rules.specs.Bytes.{if◌then◌else◌, all}
+use Rattle.rules.specs.Bytes.{all}
 use Rattle.rules.specs.Number.{is_digit, digits, value, value_from, is_number, number_of, number}
 use Rattle.rules.proofs.Over.{tail-is}
 use Rattle.rules.proofs.Tests.{and_left, and_right}

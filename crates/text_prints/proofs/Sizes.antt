@@ -1,5 +1,6 @@
 -- How long the lines are at most, whatever they say.
 -- Assumes nothing.
+use Rattle.std.specs.Prelude.{if◌then◌else◌}
 use mathlib.Core.Bool.{Bool, true, false}
 use mathlib.Core.List.{List, [], ◌∷◌, ◌++◌}
 use Prim.Native.Nat.{ℕ, ◌+◌, ◌≤◌}
@@ -12,7 +13,7 @@ use Rattle.rules.specs.declared.Part.{Part}
 use Rattle.rules.specs.declared.Change.{Change}
 use Rattle.rules.specs.declared.Record.{Record}
 use Rattle.rules.specs.declared.Record.TheVariants.{Unknown, NoProtein, Silent, Changed}
-use Rattle.rules.specs.Bytes.{if◌then◌else◌, bytes}
+use Rattle.rules.specs.Bytes.{bytes}
 use Rattle.rules.specs.Record.{part_of}
 use Rattle.rules.specs.Run.{decimal, shown, class_name, refused_line, shown_first, change_line, record_line}
 use Rattle.text_prints.proofs.Digits.{few_decimals}

@@ -1,8 +1,8 @@
 -- Laws of a line's fields: what a loop meets at a place, and where the next field begins.
 -- Assumes nothing.
-use mathlib.Core.Path.{◌≡◌, refl, sym, ap, ◌∙◌}
+use mathlib.Core.Path.{◌≡◌, refl, sym, ◌∙◌}
 use mathlib.Core.Bool.{true, false}
-use mathlib.Core.List.{List, []}
+use mathlib.Core.List.{List}
 use Prim.Native.Nat.{ℕ, zero, suc, ◌+◌, ◌-◌, ◌*◌, ◌%◌, ◌≤◌, ◌<◌, min}
 use native.Mathlib.Numerals.{add-one}
 use native.Mathlib.Decide.{dec_le}
@@ -13,7 +13,7 @@ use lib.Dec.{leb}
 use borrow.Author.Tests.{leb-true, eq-eqb, ne_eqb}
 use Rattle.rules.proofs.Tests.{and_left, and_right}
 use Rattle.rules.specs.Number.{is_digit}
-use Rattle.vectors_calls.specs.Fields.{before, field_at, with_digit, number_from, number_in}
+use Rattle.vectors_calls.specs.Fields.{before, field_at, with_digit, number_from}
 use Rattle.vectors_calls.specs.Printed.{check_from}
 
 module _ (b : ℕ) (s : List ℕ) (i : ℕ) where

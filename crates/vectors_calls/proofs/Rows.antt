@@ -1,5 +1,6 @@
 -- Laws of the rows that loops write: letters by rule, letters laid over others, exceptions.
 -- Assumes nothing.
+use Rattle.std.specs.Prelude.{if◌then◌else◌}
 use mathlib.Core.Path.{◌≡◌, refl, sym, ap, ◌∙◌}
 use mathlib.Core.Bool.{Bool, true, false}
 use mathlib.Core.List.{List, [], ◌∷◌, ◌++◌, append-nil, append_assoc}
@@ -8,13 +9,13 @@ use native.Mathlib.Numerals.{add-one}
 use native.Mathlib.Decide.{dec_le}
 use native.Mathlib.Omega.{arith}
 use lib.Dec.{eqb, ltb}
-use lib.ListN.{length, take, drop, get_or, set, replicate, length-replicate, length-append, length-drop, length-set, take-append-drop, drop_of_length-le}
+use lib.ListN.{length, take, drop, get_or, set, replicate, length-replicate, length-append, length-drop, take-append-drop, drop_of_length-le}
 use lib.Seq.{drop-cons, take-suc-set, drop-set-lt, length-take-le}
 use borrow.Author.Tests.{lt-ltb}
 use borrow.Rule.Slice.PartMut.{put_mid}
 use Rattle.rules.specs.declared.Exception.{Exception}
 use Rattle.rules.specs.declared.Exceptions.{Exceptions}
-use Rattle.rules.specs.Bytes.{bytes, if◌then◌else◌, over}
+use Rattle.rules.specs.Bytes.{bytes, over}
 use Rattle.rules.specs.Translation.{no_exception}
 use Rattle.rules.proofs.Over.{tail-is}
 use Rattle.vectors_calls.specs.Fields.{field_at, word_at, number_at}

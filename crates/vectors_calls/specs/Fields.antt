@@ -1,10 +1,10 @@
 -- The fields of a line, counted from 0, one space between them. One that isn't there is empty, and an empty number is 0.
-use Rattle.std.specs.Prelude.{ℕ, zero, suc, ◌+◌, ◌-◌, ◌*◌, List, [], ◌∷◌, eqb, leb, take, drop, get_or}
+use Rattle.std.specs.Prelude.{ℕ, zero, suc, ◌+◌, ◌-◌, ◌*◌, List, [], ◌∷◌, eqb, leb, take, drop, get_or, if◌then◌else◌}
 use Rattle.rules.specs.declared.Kind.{Kind}
 use Rattle.rules.specs.declared.Kind.TheVariants.{Substitution, Deletion, Delins, Insertion, Duplication, Inversion, Identity, Other}
 use Rattle.rules.specs.declared.Position.{Position}
 use Rattle.rules.specs.declared.Position.TheVariants.{Plus, Minus, Star}
-use Rattle.rules.specs.Bytes.{byte, if◌then◌else◌}
+use Rattle.rules.specs.Bytes.{byte}
 use Rattle.rules.specs.Number.{is_digit}
 
 -- how many bytes stand before the first b, or how many there are

@@ -1,10 +1,10 @@
 -- The bounds, the table, the edit and the exceptions that a line gives.
-use Rattle.std.specs.Prelude.{ℕ, zero, suc, ◌+◌, ◌-◌, ◌*◌, min, List, [], ◌∷◌, ◌++◌, eqb, get_or, replicate}
+use Rattle.std.specs.Prelude.{ℕ, zero, suc, ◌+◌, ◌-◌, ◌*◌, min, List, [], ◌∷◌, ◌++◌, eqb, get_or, replicate, if◌then◌else◌}
 use Rattle.rules.specs.declared.Cds.{Cds}
 use Rattle.rules.specs.declared.Edit.{Edit}
 use Rattle.rules.specs.declared.Exception.{Exception}
 use Rattle.rules.specs.declared.Exceptions.{Exceptions}
-use Rattle.rules.specs.Bytes.{byte, if◌then◌else◌}
+use Rattle.rules.specs.Bytes.{byte}
 use Rattle.rules.specs.Translation.{no_exception}
 use Rattle.vectors_calls.specs.Fields.{field_at, number_at, position_in, kind_in}
 

@@ -1,6 +1,6 @@
 -- The letters of a reference and the new bases: by rule, and those that the line says.
-use Rattle.std.specs.Prelude.{ℕ, zero, suc, ◌+◌, ◌-◌, ◌*◌, ◌%◌, List, [], ◌∷◌, ◌++◌, leb, ltb, length, take, drop}
-use Rattle.rules.specs.Bytes.{byte, bytes, if◌then◌else◌}
+use Rattle.std.specs.Prelude.{ℕ, zero, suc, ◌+◌, ◌-◌, ◌*◌, ◌%◌, List, [], ◌∷◌, ◌++◌, leb, ltb, length, take, drop, if◌then◌else◌}
+use Rattle.rules.specs.Bytes.{byte, bytes}
 use Rattle.vectors_calls.specs.Fields.{word_at, number_at, largest}
 
 -- the next number of a row in which each below 65,536 comes once

@@ -1,6 +1,5 @@
 // The exceptions that a line gives.
-ghost use Rattle.std.specs.Prelude.{◌≡◌, ◌+◌, ◌<◌, ◌≤◌, min, eqb};
-ghost use Rattle.rules.specs.Bytes.{if◌then◌else◌};
+ghost use Rattle.std.specs.Prelude.{◌≡◌, ◌+◌, ◌<◌, ◌≤◌, min, eqb, if◌then◌else◌};
 ghost use Rattle.vectors_calls.specs.Given.{by_rule, listed, exception_at, exceptions_of};
 
 use crate::fields;

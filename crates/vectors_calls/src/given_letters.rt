@@ -1,6 +1,6 @@
 // The letters of a reference and the new bases: by rule, and those that the line says.
-ghost use Rattle.std.specs.Prelude.{◌≡◌, List, ◌≤◌, ◌<◌, ltb, length, replicate};
-ghost use Rattle.rules.specs.Bytes.{if◌then◌else◌, over};
+ghost use Rattle.std.specs.Prelude.{◌≡◌, List, ◌≤◌, ◌<◌, ltb, length, replicate, if◌then◌else◌};
+ghost use Rattle.rules.specs.Bytes.{over};
 ghost use Rattle.vectors_calls.specs.Letters.{next as next_number, filled, laid, laid_at, place_before, coding_in, reference_in, new_in};
 
 use crate::fields;

@@ -1,6 +1,6 @@
 -- All codons of the fifteen letters in a row, first letter slowest.
-use Rattle.std.specs.Prelude.{ℕ, zero, suc, ◌/◌, ◌%◌, List, [], ◌∷◌, eqb, get_or}
-use Rattle.rules.specs.Bytes.{bytes, if◌then◌else◌}
+use Rattle.std.specs.Prelude.{ℕ, zero, suc, ◌/◌, ◌%◌, List, [], ◌∷◌, eqb, get_or, if◌then◌else◌}
+use Rattle.rules.specs.Bytes.{bytes}
 
 abbrev pub fifteen : List ℕ
 fifteen = bytes "ACGTRYSWKMBDHVN"

@@ -1,6 +1,5 @@
 // What an edit of a stored reference is answered, as text.
-ghost use Rattle.std.specs.Prelude.{◌≡◌, eqb};
-ghost use Rattle.rules.specs.Bytes.{if◌then◌else◌};
+ghost use Rattle.std.specs.Prelude.{◌≡◌, eqb, if◌then◌else◌};
 ghost use Rattle.rules.specs.Values.{kind_at};
 
 use crate::answers::print_number;

@@ -1,10 +1,10 @@
 -- `letters::set_of_letter` meets its contract: antt computes the sets alike for all letters. Assumes nothing.
+use Rattle.std.specs.Prelude.{if◌then◌else◌}
 use mathlib.Core.Path.{◌≡◌, refl}
 use mathlib.Core.Bool.{true}
 use Prim.Native.Nat.{ℕ, ◌*◌, ◌/◌, ◌%◌, ◌^◌}
 use native.Mathlib.Omega.{arith}
 use lib.Dec.{ltb}
-use Rattle.rules.specs.Bytes.{if◌then◌else◌}
 use Rattle.rules.specs.Letters.{letter_set, is_letter, upper, folded}
 use Rattle.letters.specs.Sets.{folded_set}
 use Rattle.letters.proofs.Sets.{at_letter}

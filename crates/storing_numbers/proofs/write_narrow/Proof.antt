@@ -1,9 +1,9 @@
 -- `storing_numbers::write_narrow` meets its contract. Assumes nothing.
+use Rattle.std.specs.Prelude.{if◌then◌else◌}
 use mathlib.Core.Path.{refl}
 use mathlib.Core.List.{[], ◌++◌}
 use native.Mathlib.Omega.{arith}
 use lib.ListN.{length}
-use Rattle.rules.specs.Bytes.{if◌then◌else◌}
 use Rattle.rules.specs.Storing.{in_two, in_four}
 use Rattle.storing_numbers.proofs.Fields.{nothing, chosen_none, narrow-room, narrow-done}
 use borrow.Author.Rules.{rules}

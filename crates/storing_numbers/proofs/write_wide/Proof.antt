@@ -1,10 +1,10 @@
 -- `storing_numbers::write_wide` meets its contract. Assumes nothing.
+use Rattle.std.specs.Prelude.{if◌then◌else◌}
 use mathlib.Core.Path.{refl}
 use mathlib.Core.List.{[], ◌++◌}
 use native.Mathlib.Omega.{arith}
 use lib.ListN.{length}
 use borrow.Author.Tests.{not-false}
-use Rattle.rules.specs.Bytes.{if◌then◌else◌}
 use Rattle.rules.specs.Storing.{in_two, in_four}
 use Rattle.storing_numbers.proofs.Fields.{nothing, chosen_other, not_true, wide_room, wide-done}
 use borrow.Author.Rules.{rules}

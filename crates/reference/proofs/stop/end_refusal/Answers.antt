@@ -1,7 +1,7 @@
 -- `reference::stop::end_refusal` meets its contract. Assumes nothing.
+use Rattle.std.specs.Prelude.{if◌then◌else◌}
 use mathlib.Core.Path.{ap}
 use mathlib.Core.Bool.{Bool}
-use Rattle.rules.specs.Bytes.{if◌then◌else◌}
 use Rattle.rules.specs.Packed.{letters_by}
 use Rattle.rules.specs.Views.{reference_of}
 use Rattle.reference.proofs.Cut.{end-six, end-twenty-eight}

@@ -1,8 +1,8 @@
 -- `storing::fields_of::write_end` meets its contract. Assumes nothing.
+use Rattle.std.specs.Prelude.{if◌then◌else◌}
 use mathlib.Core.List.{[], ◌∷◌}
 use lib.Dec.{eqb}
 use lib.ListN.{length}
-use Rattle.rules.specs.Bytes.{if◌then◌else◌}
 use Rattle.rules.specs.Reference.{at_stop}
 use Rattle.storing_numbers.proofs.Fields.{nothing}
 use Rattle.storing.proofs.Forms.{end_none, end-room, end-done}

@@ -1,0 +1,12 @@
+-- `packed::unpack::pair_at` meets its contract. Assumes nothing.
+use Prim.Native.Nat.{◌<◌}
+use native.Mathlib.Omega.{arith}
+use lib.ListN.{get_or}
+use Rattle.packed.proofs.Pairs.{first-letter, second-letter}
+use Rattle.packed.proofs.unpack.pair_at.Goals as goal
+
+pub returns : goal.returns
+returns c = let s = c.args.packed.now in
+    let j = c.args.j in
+    let byte : get_or s j 0 < 256 = omega (arith, c.type_inv.packed j) in
+    record { result_value = rw c.wide-i.ensures.value (first-letter c.args.pairs.now s c.requires.holds_pairs j byte); second = rw c.wide-i.ensures.value (second-letter c.args.pairs.now s c.requires.holds_pairs j byte) }

@@ -1,0 +1,12 @@
+use mathlib.Core.Path.{◌≡◌}
+use Prim.Native.Nat.{◌-◌}
+use lib.ListN.{length, drop}
+use Rattle.rules.specs.Bytes.{all}
+use Rattle.vectors_calls.specs.Printed.{is_marker}
+use Rattle.vectors_calls.proofs.printing.keeps.Given as goal
+
+abbrev pub invariant-loop-i : goal.invariant-loop-i
+invariant-loop-i l = all is_marker (drop l.i l.s) ≡ all is_marker (drop l.from l.s)
+
+abbrev pub decreases-loop-i : goal.decreases-loop-i
+decreases-loop-i l = length l.s - l.i
