@@ -1,21 +1,20 @@
 -- Laws of the exceptions before an edit: they stay, and no other comes there.
 -- Assumes nothing.
-use Rattle.std.specs.Prelude.{if◌then◌else◌}
 use mathlib.Core.Path.{◌≡◌, refl, sym, ap, ◌∙◌}
 use mathlib.Core.Bool.{Bool, true, false, ◌&&◌}
 use mathlib.Core.List.{List, [], ◌∷◌, ◌++◌}
-use Prim.Native.Nat.{ℕ, ◌+◌, ◌-◌, ◌*◌, ◌/◌, ◌%◌, ◌≤◌, ◌<◌}
+use Prim.Native.Nat.{ℕ, ◌+◌, ◌-◌, ◌*◌, ◌/◌, ◌%◌, ◌≤◌}
 use native.Mathlib.Decide.{dec_le}
 use native.Mathlib.Omega.{arith}
 use lib.Dec.{eqb, leb}
 use lib.ListN.{length, take, drop, take-append-drop}
 use borrow.Author.Tests.{eqb-true, eqb-false, leb-true, leb-false, ne_eqb}
 use Rattle.rules.specs.declared.Exception.{Exception}
+use Rattle.rules.specs.Bytes.{if◌then◌else◌}
 use Rattle.rules.specs.Translation.{excepted}
 use Rattle.rules.specs.Trims.{common_prefix}
 use Rattle.rules.specs.Reference.{are_rising}
 use Rattle.rules.specs.Exceptions.{suffix_behind, in_prefix, in_suffix, shifted, in_frame, codon_index, codon_number, moved_one, moved_all}
-use Rattle.rules.proofs.Tests.{and_left}
 use Rattle.rules.proofs.Trims.{cp_take, same_equal, same_self}
 use Rattle.rules.proofs.Reading.{excepted-append}
 use Rattle.rules.proofs.Moved.{suffix_fits}

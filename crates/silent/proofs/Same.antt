@@ -6,7 +6,7 @@ use mathlib.Core.List.{List, [], ◌∷◌, ◌++◌}
 use Prim.Native.Nat.{ℕ, zero, suc, ◌+◌, ◌-◌, ◌*◌, ◌/◌, ◌%◌, ◌≤◌, ◌<◌}
 use native.Mathlib.Omega.{arith}
 use lib.Dec.{eqb, leb, leb-suc-suc}
-use lib.ListN.{length, take, drop, get_or, length-drop, length-append, drop_of_length-le, get_or-append}
+use lib.ListN.{length, take, drop, get_or, length-drop, drop_of_length-le}
 use lib.Seq.{length-take-le, get_or-take, get_or-drop, drop-cons, drop-drop, drop-append-add}
 use borrow.Author.Tests.{eqb-true, eqb-false, leb-true, leb-false, eq-eqb, ne_eqb, lt-leb, le-leb}
 use Rattle.rules.specs.declared.Cds.{Cds}

@@ -1,9 +1,9 @@
 -- Laws of the search for the next line feed.
 -- Assumes nothing.
-use mathlib.Core.Path.{◌≡◌, refl, ap}
+use mathlib.Core.Path.{◌≡◌, refl, ap, ◌∙◌}
 use mathlib.Core.Bool.{Bool, true, false}
 use mathlib.Core.List.{List, [], ◌∷◌}
-use Prim.Native.Nat.{ℕ, ◌+◌, ◌<◌}
+use Prim.Native.Nat.{ℕ, ◌+◌, ◌-◌, ◌<◌}
 use native.Mathlib.Omega.{arith}
 use lib.Dec.{eqb}
 use lib.ListN.{length, take, get_or}
@@ -35,4 +35,10 @@ feed_at (b ∷ s) h = by (eqb b line_feed) refl (feed_at s) h
 
 -- searched from the start to the end
 pub found : (s : List ℕ) (n : ℕ) → n ≡ 0 + index_of line_feed (slice 0 (length s) s) → n ≡ index_of line_feed s
-found s n e = omega (arith, e, ap (index_of line_feed) (take-length s))
+found s n e =
+    let number : n ≡ index_of line_feed (slice 0 (length s) s) = omega (arith, e) in
+    let whole : slice 0 (length s) s ≡ s = ap (λ (k : ℕ). take k s) all ∙ take-length s in
+    number ∙ ap (index_of line_feed) whole
+  where
+    all : length s - 0 ≡ length s
+    all = omega arith

@@ -1,4 +1,5 @@
--- `changes::change_at` meets its contract. Assumes nothing.
+-- `changes::change_at` meets its contract.
+-- Assumes nothing.
 use native.Mathlib.Omega.{arith}
 use Rattle.changes.proofs.Laws.{copied_before, is_change}
 use Rattle.changes.proofs.change_at.Goals as goal

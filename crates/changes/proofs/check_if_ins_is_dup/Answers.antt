@@ -1,4 +1,5 @@
--- `changes::check_if_ins_is_dup` meets its contract. Assumes nothing.
+-- `changes::check_if_ins_is_dup` meets its contract.
+-- Assumes nothing.
 use mathlib.Core.Path.{◌∙◌}
 use Rattle.changes.proofs.Laws.{is_copy_lem, no_copy}
 use Rattle.changes.proofs.check_if_ins_is_dup.Goals as goal

@@ -1,4 +1,5 @@
--- `changes::first_copied` meets its contract. Assumes nothing.
+-- `changes::first_copied` meets its contract.
+-- Assumes nothing.
 use mathlib.Core.Path.{◌≡◌, refl}
 use Prim.Native.Nat.{ℕ}
 use Rattle.rules.specs.declared.Class.{Class}

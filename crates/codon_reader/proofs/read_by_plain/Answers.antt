@@ -1,4 +1,5 @@
 -- `codon_reader::read_by_plain` meets its contract: two bases are read at their place, and any others as the mixed pair that they are.
+-- Assumes nothing.
 use mathlib.Core.Path.{◌∙◌}
 use Rattle.codon_reader.proofs.Pairs.{bases_rule, mixed_rule_lem}
 use Rattle.codon_reader.proofs.read_by_plain.Goals as goal

@@ -1,4 +1,4 @@
--- `codon_reader::read_codon` meets its contract: what `expand` joins with all three letters left is the codon rule.
+-- `codon_reader::read_codon` meets its contract: what `expand` joins with all three letters left is the codon rule. Assumes nothing.
 use mathlib.Core.Path.{◌∙◌}
 use Rattle.codon_reader.proofs.Agreement.{by_letters}
 use Rattle.codon_reader.proofs.read_codon.Goals as goal

@@ -9,7 +9,8 @@ use Rattle.text_prints.proofs.Digits.{longer}
 use Rattle.text_prints.proofs.print_reference.Goals as goal
 
 pub returns : goal.returns
-returns c = let args = c.args in
+returns c =
+    let args = c.args in
     let pre = c.requires in
     let copy = c.copy-n in
     let copy2 = c.copy in

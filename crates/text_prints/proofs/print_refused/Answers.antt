@@ -7,7 +7,8 @@ use Rattle.rules.proofs.Over.{stored_behind}
 use Rattle.text_prints.proofs.print_refused.Goals as goal
 
 pub returns : goal.returns
-returns c = let args = c.args in
+returns c =
+    let args = c.args in
     let pre = c.requires in
     let write-refused = c.write_refused-size in
     let close-line = c.close_line in

@@ -11,34 +11,39 @@ use Rattle.text_prints.proofs.write_change.Goals as goal
 
 pub write_class-n-requires : goal.write_class-n-requires
 unfolding change_line
-write_class-n-requires c = let args = c.args in
+write_class-n-requires c =
+    let args = c.args in
     let pre = c.requires in
     omega (arith, pre, length-append (class_name args.c.class) ((bytes " " ++ decimal args.c.number) ++ (parts_line (part_of args.c.deleted args.r.now) (part_of args.c.inserted args.a.now) args.c.first)))
 
 pub slice_bounds-write_spaced_decimal-count : goal.slice_bounds-write_spaced_decimal-count
 unfolding change_line
-slice_bounds-write_spaced_decimal-count c = let args = c.args in
+slice_bounds-write_spaced_decimal-count c =
+    let args = c.args in
     let pre = c.requires in
     let write-class = c.write_class-n in
     second-start (class_name args.c.class) (bytes " " ++ decimal args.c.number) (parts_line (part_of args.c.deleted args.r.now) (part_of args.c.inserted args.a.now) args.c.first) args.out.now pre write-class.new.out write-class.result write-class.ensures.value write-class.ensures.out_after
 
 pub slice_bounds-write_spaced_decimal-start : goal.slice_bounds-write_spaced_decimal-start
 unfolding change_line
-slice_bounds-write_spaced_decimal-start c = let args = c.args in
+slice_bounds-write_spaced_decimal-start c =
+    let args = c.args in
     let pre = c.requires in
     let write-class = c.write_class-n in
     second-start (class_name args.c.class) (bytes " " ++ decimal args.c.number) (parts_line (part_of args.c.deleted args.r.now) (part_of args.c.inserted args.a.now) args.c.first) args.out.now pre write-class.new.out write-class.result write-class.ensures.value write-class.ensures.out_after
 
 pub write_spaced_decimal-requires : goal.write_spaced_decimal-requires
 unfolding change_line
-write_spaced_decimal-requires c = let args = c.args in
+write_spaced_decimal-requires c =
+    let args = c.args in
     let pre = c.requires in
     let write-class = c.write_class-n in
     second-room (class_name args.c.class) (bytes " " ++ decimal args.c.number) (parts_line (part_of args.c.deleted args.r.now) (part_of args.c.inserted args.a.now) args.c.first) args.out.now pre write-class.new.out write-class.result write-class.ensures.value write-class.ensures.out_after
 
 pub overflow_add-m : goal.overflow_add-m
 unfolding change_line
-overflow_add-m c = let args = c.args in
+overflow_add-m c =
+    let args = c.args in
     let pre = c.requires in
     let write-class = c.write_class-n in
     let write-spaced-decimal = c.write_spaced_decimal in
@@ -46,7 +51,8 @@ overflow_add-m c = let args = c.args in
 
 pub slice_bounds-write_parts-count : goal.slice_bounds-write_parts-count
 unfolding change_line
-slice_bounds-write_parts-count c = let args = c.args in
+slice_bounds-write_parts-count c =
+    let args = c.args in
     let pre = c.requires in
     let write-class = c.write_class-n in
     let write-spaced-decimal = c.write_spaced_decimal in
@@ -54,7 +60,8 @@ slice_bounds-write_parts-count c = let args = c.args in
 
 pub slice_bounds-write_parts-start : goal.slice_bounds-write_parts-start
 unfolding change_line
-slice_bounds-write_parts-start c = let args = c.args in
+slice_bounds-write_parts-start c =
+    let args = c.args in
     let pre = c.requires in
     let write-class = c.write_class-n in
     let write-spaced-decimal = c.write_spaced_decimal in
@@ -62,7 +69,8 @@ slice_bounds-write_parts-start c = let args = c.args in
 
 pub write_parts-requires : goal.write_parts-requires
 unfolding change_line
-write_parts-requires c = let args = c.args in
+write_parts-requires c =
+    let args = c.args in
     let pre = c.requires in
     let write-class = c.write_class-n in
     let write-spaced-decimal = c.write_spaced_decimal in
@@ -72,7 +80,8 @@ write_parts-requires c = let args = c.args in
 
 pub overflow_add-result : goal.overflow_add-result
 unfolding change_line
-overflow_add-result c = let args = c.args in
+overflow_add-result c =
+    let args = c.args in
     let good = c.well_formed in
     let pre = c.requires in
     let write-class = c.write_class-n in
@@ -85,7 +94,8 @@ overflow_add-result c = let args = c.args in
 
 pub returns : goal.returns
 unfolding change_line
-returns c = let args = c.args in
+returns c =
+    let args = c.args in
     let pre = c.requires in
     let write-class = c.write_class-n in
     let write-spaced-decimal = c.write_spaced_decimal in

@@ -6,7 +6,8 @@ use Rattle.text_prints.proofs.Puts.{three}
 use Rattle.text_prints.proofs.write_parts.Goals as goal
 
 pub returns : goal.returns
-returns c = let args = c.args in
+returns c =
+    let args = c.args in
     let pre = c.requires in
     let write-spaced = c.write_spaced-n in
     let write-spaced2 = c.write_spaced in

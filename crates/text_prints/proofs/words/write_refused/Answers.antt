@@ -13,14 +13,16 @@ copy-k-requires c = omega (arith, c.requires)
 
 pub write_spaced_decimal-requires : goal.write_spaced_decimal-requires
 unfolding refused_line
-write_spaced_decimal-requires c = let args = c.args in
+write_spaced_decimal-requires c =
+    let args = c.args in
     let pre = c.requires in
     let copy = c.copy-k in
     room-behind (bytes "refused") (bytes " " ++ decimal args.n) args.out.now copy.new.dst copy.result copy.ensures.count pre (copied_as (bytes "refused") (bytes "refused") args.out.now copy.new.dst refl copy.ensures.after)
 
 pub overflow_add-result : goal.overflow_add-result
 unfolding refused_line
-overflow_add-result c = let args = c.args in
+overflow_add-result c =
+    let args = c.args in
     let pre = c.requires in
     let copy = c.copy-k in
     let write-spaced-decimal = c.write_spaced_decimal in
@@ -28,7 +30,8 @@ overflow_add-result c = let args = c.args in
 
 pub returns : goal.returns
 unfolding refused_line
-returns c = let args = c.args in
+returns c =
+    let args = c.args in
     let pre = c.requires in
     let copy = c.copy-k in
     let write-spaced-decimal = c.write_spaced_decimal in

@@ -14,14 +14,16 @@ copy-k-requires c = omega (arith, c.requires)
 
 pub write_spaced_decimal-requires : goal.write_spaced_decimal-requires
 unfolding record_line
-write_spaced_decimal-requires c = let args = c.args in
+write_spaced_decimal-requires c =
+    let args = c.args in
     let pre = c.requires in
     let copy = c.copy-k in
     second-room (bytes "silent") (bytes " " ++ decimal args.number) (32 ∷ args.residue ∷ 32 ∷ args.residue ∷ []) args.out.now pre copy.new.dst copy.result copy.ensures.count (copied_as (bytes "silent") (bytes "silent") args.out.now copy.new.dst refl copy.ensures.after)
 
 pub overflow_add-m : goal.overflow_add-m
 unfolding record_line
-overflow_add-m c = let args = c.args in
+overflow_add-m c =
+    let args = c.args in
     let pre = c.requires in
     let copy = c.copy-k in
     let write-spaced-decimal = c.write_spaced_decimal in
@@ -29,7 +31,8 @@ overflow_add-m c = let args = c.args in
 
 pub slice_bounds-copy-count : goal.slice_bounds-copy-count
 unfolding record_line
-slice_bounds-copy-count c = let args = c.args in
+slice_bounds-copy-count c =
+    let args = c.args in
     let pre = c.requires in
     let copy = c.copy-k in
     let write-spaced-decimal = c.write_spaced_decimal in
@@ -37,7 +40,8 @@ slice_bounds-copy-count c = let args = c.args in
 
 pub slice_bounds-copy-start : goal.slice_bounds-copy-start
 unfolding record_line
-slice_bounds-copy-start c = let args = c.args in
+slice_bounds-copy-start c =
+    let args = c.args in
     let pre = c.requires in
     let copy = c.copy-k in
     let write-spaced-decimal = c.write_spaced_decimal in
@@ -45,7 +49,8 @@ slice_bounds-copy-start c = let args = c.args in
 
 pub copy-requires : goal.copy-requires
 unfolding record_line
-copy-requires c = let args = c.args in
+copy-requires c =
+    let args = c.args in
     let pre = c.requires in
     let copy = c.copy-k in
     let write-spaced-decimal = c.write_spaced_decimal in
@@ -53,7 +58,8 @@ copy-requires c = let args = c.args in
 
 pub returns : goal.returns
 unfolding record_line
-returns c = let args = c.args in
+returns c =
+    let args = c.args in
     let pre = c.requires in
     let copy = c.copy-k in
     let write-spaced-decimal = c.write_spaced_decimal in

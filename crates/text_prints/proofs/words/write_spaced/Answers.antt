@@ -11,20 +11,23 @@ use Rattle.text_prints.proofs.Shown.{shown_none, shown_some}
 use Rattle.text_prints.proofs.words.write_spaced.Goals as goal
 
 pub copy-requires : goal.copy-requires
-copy-requires c = let args = c.args in
+copy-requires c =
+    let args = c.args in
     let pre = c.requires in
     let if1 = c.if-residues-eq0 in
     omega (arith, ap length (shown_none args.residues.now if1.true), pre)
 
 pub returns-then-residues-eq0 : goal.returns-then-residues-eq0
-returns-then-residues-eq0 c = let args = c.args in
+returns-then-residues-eq0 c =
+    let args = c.args in
     let if1 = c.if-residues-eq0 in
     let copy = c.copy in
     let is = ap (λ (l : List ℕ). bytes " " ++ l) (sym (shown_none args.residues.now if1.true)) in
     record { value = copy.ensures.count ∙ ap length is; out_after = copied_as (bytes " -") (bytes " " ++ shown args.residues.now) args.out.now copy.new.dst is copy.ensures.after }
 
 pub copy-requires-2 : goal.copy-requires-2
-copy-requires-2 c = let args = c.args in
+copy-requires-2 c =
+    let args = c.args in
     let pre = c.requires in
     let if1 = c.if-residues-eq0 in
     let copy2 = c.copy-k in
@@ -32,7 +35,8 @@ copy-requires-2 c = let args = c.args in
     room-behind (bytes " ") args.residues.now args.out.now copy2.new.dst copy2.result copy2.ensures.count (omega (arith, ap length is, pre)) (copied_as (bytes " ") (bytes " ") args.out.now copy2.new.dst refl copy2.ensures.after)
 
 pub returns : goal.returns
-returns c = let args = c.args in
+returns c =
+    let args = c.args in
     let pre = c.requires in
     let if1 = c.if-residues-eq0 in
     let copy2 = c.copy-k in

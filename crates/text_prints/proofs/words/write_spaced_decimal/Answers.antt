@@ -8,14 +8,16 @@ use Rattle.text_prints.proofs.words.write_spaced_decimal.Goals as goal
 
 pub write_digits-requires : goal.write_digits-requires
 unfolding decimal
-write_digits-requires c = let args = c.args in
+write_digits-requires c =
+    let args = c.args in
     let pre = c.requires in
     let copy = c.copy-k in
     room-behind (bytes " ") (decimal args.n) args.out.now copy.new.dst copy.result copy.ensures.count pre (copied_as (bytes " ") (bytes " ") args.out.now copy.new.dst refl copy.ensures.after)
 
 pub overflow_add-result : goal.overflow_add-result
 unfolding decimal
-overflow_add-result c = let args = c.args in
+overflow_add-result c =
+    let args = c.args in
     let pre = c.requires in
     let copy = c.copy-k in
     let write-digits = c.write_digits in
@@ -24,7 +26,8 @@ overflow_add-result c = let args = c.args in
 
 pub returns : goal.returns
 unfolding decimal
-returns c = let args = c.args in
+returns c =
+    let args = c.args in
     let pre = c.requires in
     let copy = c.copy-k in
     let write-digits = c.write_digits in
