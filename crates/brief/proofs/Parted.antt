@@ -7,12 +7,12 @@ use Prim.Native.Nat.{ℕ, ◌+◌, ◌-◌, ◌*◌, ◌/◌, ◌%◌, ◌≤◌
 use native.Mathlib.Omega.{arith}
 use lib.Dec.{ltb}
 use lib.ListN.{length, take, drop, length-append, length-drop, length-map}
-use lib.Seq.{length-take-le, take-add, drop-drop}
+use lib.Seq.{take-add, drop-drop}
 use borrow.Author.Tests.{ltb-true, ltb-false}
 use borrow.Rule.Slice.PartMut.{put_mid}
 use Rattle.rules.specs.declared.Exceptions.{Exceptions}
 use Rattle.rules.specs.Bytes.{all, over}
-use Rattle.rules.specs.Letters.{is_letter, folded}
+use Rattle.rules.specs.Letters.{folded}
 use Rattle.rules.specs.Translation.{exception_list, residue_count, before_stop, through_stop, translated, folded_translated}
 use Rattle.rules.specs.Altered.{part}
 use Rattle.rules.proofs.Tests.{and_left, and_right, all_drop, all_take}
@@ -29,11 +29,11 @@ use Rattle.places.proofs.Strict.{strict-letters, whole_bases, bases_fold}
 use Rattle.reference.specs.declared.Known.{Known}
 use Rattle.edits.specs.declared.plans.Plan.{Plan}
 use Rattle.edits.specs.Plans.{goes_in}
-use Rattle.transcript.specs.Carrying.{Sourced, carried_by}
+use Rattle.transcript.specs.Carrying.{carried_by}
 use Rattle.transcript.proofs.Transcripts.{length-goes-in}
 use Rattle.reuse.specs.declared.pieces.Pieces.{Pieces}
 use Rattle.reuse.specs.Reusing.{ends_in_stop, resumed, read_by}
-use Rattle.reuse.proofs.Reusing.{read_fits, ended-long, ended-written, on-long, on_fits, on_room, on-written}
+use Rattle.reuse.proofs.Reusing.{ended-long, ended-written, on-long, on_fits, on-written}
 use Rattle.brief.specs.Brief.{edge_of, Touches, Follows, Spans}
 
 -- the residues of letters in two parts

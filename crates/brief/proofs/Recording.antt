@@ -1,19 +1,18 @@
 -- Laws of a plan's record over the parts of A. Assumes nothing.
 use Rattle.std.specs.Prelude.{if◌then◌else◌}
-use mathlib.Core.Path.{◌≡◌, refl, sym, ap, ap₂, ◌∙◌}
+use mathlib.Core.Path.{◌≡◌, refl, sym, ap, ◌∙◌}
 use mathlib.Core.Bool.{Bool, true, false, ◌&&◌}
 use mathlib.Core.List.{List, [], ◌++◌, append-nil}
-use Prim.Native.Nat.{ℕ, ◌+◌, ◌-◌, ◌*◌, ◌/◌, ◌%◌, ◌≤◌, ◌<◌, min}
+use Prim.Native.Nat.{ℕ, ◌+◌, ◌-◌, ◌*◌, ◌/◌, ◌≤◌}
 use native.Mathlib.Omega.{arith}
 use lib.Dec.{ltb}
 use lib.ListN.{length, take, drop, length-append, length-drop, drop_of_length-le}
 use lib.Seq.{length-take-le}
 use Rattle.rules.specs.declared.Cds.{Cds}
 use Rattle.rules.specs.declared.Exceptions.{Exceptions}
-use Rattle.rules.specs.declared.Record.{Record}
 use Rattle.rules.specs.Bytes.{all, over}
 use Rattle.rules.specs.Translation.{residue_count, before_stop, through_stop, folded_translated}
-use Rattle.rules.specs.Reference.{Reference, size, reference_protein}
+use Rattle.rules.specs.Reference.{Reference, size}
 use Rattle.rules.specs.Record.{record_from}
 use Rattle.rules.specs.Altered.{altered_transcript}
 use Rattle.rules.specs.Views.{asked, reference_of}
@@ -27,12 +26,12 @@ use Rattle.edits.specs.declared.plans.Plan.{Plan}
 use Rattle.edits.specs.Plans.{plan_of}
 use Rattle.transcript.specs.Carrying.{carried_by, Fits}
 use Rattle.transcript.proofs.Transcripts.{length-carried_by, carried_by_is}
-use Rattle.record.specs.Joined.{joined, Joins, seen_from, inserted_of}
+use Rattle.record.specs.Joined.{joined, Joins}
 use Rattle.reuse.specs.declared.pieces.Pieces.{Pieces}
 use Rattle.reuse.specs.Reusing.{ends_in_stop, resumed, behind_of, keeps_all_by, is_level_by, pieces_by, Placed, read_by, reused_by, Reuses}
 use Rattle.reuse.proofs.Reusing.{stop_known}
 use Rattle.altseq.specs.Carried.{protein_by, report_by, Makes, Carries}
-use Rattle.altseq.proofs.Carrying.{plan-fits, silent-some, makes}
+use Rattle.altseq.proofs.Carrying.{plan-fits, makes}
 use Rattle.altseq.proofs.Making as making
 use Rattle.brief.specs.Brief.{back_behind, Touches, Spans}
 

@@ -1,5 +1,6 @@
 -- Laws of the record's definitions, with what the calls answer as variables.
 -- Assumes nothing.
+use Rattle.std.specs.Prelude.{if◌then◌else◌}
 use mathlib.Core.Path.{◌≡◌, refl, sym, ◌∙◌}
 use mathlib.Core.Bool.{Bool, true, false, ◌&&◌}
 use mathlib.Core.List.{List, [], ◌∷◌}
@@ -12,7 +13,7 @@ use Rattle.rules.specs.declared.Class.{Class}
 use Rattle.rules.specs.declared.Class.TheVariants.{StartLost, Extension, StopGained, Frameshift, Substitution, Deletion, Duplication, Insertion, Delins}
 use Rattle.rules.specs.declared.Change.{Change}
 use Rattle.rules.specs.declared.Record.TheVariants.{NoProtein, Silent, Changed}
-use Rattle.rules.specs.Bytes.{byte, if◌then◌else◌, same, is_none}
+use Rattle.rules.specs.Bytes.{byte, same, is_none}
 use Rattle.rules.specs.Trims.{common_prefix}
 use Rattle.rules.specs.Record.{ending, is_copy, class_by_counts, class_by, class_of, first_copied, change_at, change_of, record_from}
 use Rattle.rules.proofs.Trims.{same_whole}

@@ -1,5 +1,6 @@
 -- Laws of an A of three parts: the beginning and the ending that it shares with R, its residues, and the part of it that stands in a buffer.
 -- Assumes nothing.
+use Rattle.std.specs.Prelude.{if◌then◌else◌}
 use mathlib.Core.Path.{◌≡◌, refl, sym, ap, ◌∙◌}
 use mathlib.Core.Bool.{Bool, true, false}
 use mathlib.Core.List.{List, [], ◌∷◌, ◌++◌}
@@ -8,7 +9,6 @@ use native.Mathlib.Omega.{arith}
 use lib.Dec.{eqb}
 use lib.ListN.{length, get_or, take, drop, length-append, length-drop, take-append-drop, get_or-append}
 use lib.Seq.{length-take-le, take_at, take-length, drop_at, drop-drop, drop-append-le, get_or-drop, get_or-append-add}
-use Rattle.rules.specs.Bytes.{if◌then◌else◌}
 use Rattle.rules.specs.Trims.{common_prefix, common_suffix}
 use Rattle.rules.specs.Record.{ending}
 use Rattle.rules.proofs.Over.{tail-is}

@@ -2,16 +2,15 @@
 -- Assumes nothing.
 use mathlib.Core.Path.{◌≡◌, refl, sym, ap, ◌∙◌}
 use mathlib.Core.Bool.{Bool, true, false, ◌||◌, not}
-use mathlib.Core.List.{List, [], ◌∷◌, ◌++◌, append_assoc}
-use Prim.Native.Nat.{ℕ, zero, suc, ◌≤◌}
+use mathlib.Core.List.{List, ◌++◌, append_assoc}
+use Prim.Native.Nat.{ℕ, zero, suc}
 use native.Mathlib.Omega.{arith}
-use lib.Dec.{ltb}
 use lib.ListN.{length, take, drop, take-append-drop}
 use Rattle.rules.specs.declared.Cds.{Cds}
 use Rattle.rules.specs.declared.Edit.{Edit}
 use Rattle.rules.specs.declared.Exceptions.{Exceptions}
-use Rattle.rules.specs.Bytes.{byte, all, count, Test, first_number}
-use Rattle.rules.specs.Reference.{Reference, size, reference_protein}
+use Rattle.rules.specs.Bytes.{all, Test, first_number}
+use Rattle.rules.specs.Reference.{Reference, size}
 use Rattle.rules.specs.Edit.{Asked, start_place, end_place, start_index, end_index, ends_past, is_misplaced, is_disordered, edit_tests}
 use Rattle.rules.specs.Altered.{finds_stop}
 use Rattle.rules.specs.Record.{is_unknown}
@@ -26,7 +25,6 @@ use Rattle.positions.proofs.Tests.{edit-allowed, edit-indexes}
 use Rattle.edits.specs.declared.plans.Plan.{Plan}
 use Rattle.edits.specs.Plans.{plan_of}
 use Rattle.edits.proofs.Planning.{bare_plan}
-use Rattle.joints.specs.declared.Joint.{Joint}
 use Rattle.joints.specs.declared.Joint.TheVariants.{Refused, Both}
 use Rattle.apart.specs.Apart.{Touching}
 use Rattle.joints.specs.Joints.{early_pair, joint_by, joint_of}

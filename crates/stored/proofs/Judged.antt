@@ -1,9 +1,8 @@
 -- Laws of judging a stored reference: 1 to 5, 6 or 28 of what stands in the bytes, and what an answer tells then.
 -- Assumes nothing.
-use Rattle.std.specs.Prelude.{if◌then◌else◌}
 use mathlib.Core.Path.{◌≡◌, refl, sym, ap, ◌∙◌}
-use mathlib.Core.Bool.{Bool, true, false, ◌&&◌}
-use mathlib.Core.List.{List, [], ◌∷◌, ◌++◌, append-nil}
+use mathlib.Core.Bool.{Bool}
+use mathlib.Core.List.{List, [], ◌∷◌, append-nil}
 use Prim.Native.Nat.{ℕ, zero, suc, ◌+◌, ◌%◌, ◌≤◌, ◌<◌}
 use native.Mathlib.Decide.{dec_lt}
 use native.Mathlib.Omega.{arith}
@@ -13,12 +12,12 @@ use Rattle.rules.specs.declared.Cds.{Cds}
 use Rattle.rules.specs.declared.Exception.{Exception}
 use Rattle.rules.specs.declared.Exceptions.{Exceptions}
 use Rattle.rules.specs.declared.Part.{Part}
-use Rattle.rules.specs.Bytes.{all, first_number, Result, given, refused, unless}
+use Rattle.rules.specs.Bytes.{all, first_number, given, refused, unless}
 use Rattle.rules.specs.Translation.{exception_list}
 use Rattle.rules.specs.Reference.{Reference, size, cds_size, are_bounds, fit_exceptions, is_cut_short, reference_tests}
 use Rattle.rules.specs.Record.{part_of}
 use Rattle.rules.specs.Refusal.{reference_refusal}
-use Rattle.rules.specs.Stored.{reference_form, fields, exceptions_in, assembled_in, checked, stored_reference, is_joined, fitted, read_reference, joined_by, written_joined}
+use Rattle.rules.specs.Stored.{reference_form, fields, exceptions_in, assembled_in, checked, stored_reference, fitted, read_reference, joined_by, written_joined}
 use Rattle.rules.specs.Views.{reference_of}
 use Rattle.rules.proofs.Reference.{accepted}
 use Rattle.letters.specs.Sets.{is_base}

@@ -5,7 +5,7 @@ use mathlib.Core.Path.{◌≡◌, refl, sym, ap, ◌∙◌}
 use mathlib.Core.List.{List}
 use Prim.Native.Nat.{ℕ}
 use native.Mathlib.Omega.{arith}
-use Rattle.rules.specs.Bytes.{Result, given, refused}
+use Rattle.rules.specs.Bytes.{given}
 use Rattle.rules.specs.Reference.{Reference}
 use Rattle.rules.specs.Stored.{read_reference}
 use Rattle.stored_fields.specs.declared.field_places.StoredAt.{StoredAt}

@@ -1,4 +1,5 @@
--- `classes::class_by_counts` meets its contract: in each arm the definition's tests compute. Assumes nothing.
+-- `classes::class_by_counts` meets its contract: in each arm the definition's tests compute.
+-- Assumes nothing.
 use mathlib.Core.Bool.{and-false}
 use native.Mathlib.Omega.{arith}
 use borrow.Author.Tests.{ne_eqb}

@@ -1,4 +1,5 @@
--- `classes::class_of` meets its contract: at each answer the definition's tests compute. Assumes nothing.
+-- `classes::class_of` meets its contract: at each answer the definition's tests compute.
+-- Assumes nothing.
 use mathlib.Core.Path.{◌≡◌, refl}
 use mathlib.Core.Bool.{true, false, ◌&&◌}
 use Prim.Native.Nat.{ℕ, zero, suc}

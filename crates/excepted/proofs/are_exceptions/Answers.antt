@@ -1,4 +1,5 @@
 -- `translation::are_exceptions` meets its contract. The invariant: those that were looked at can be taken.
+-- Assumes nothing.
 use mathlib.Core.Path.{◌≡◌, refl, sym, ◌∙◌, ap}
 use mathlib.Core.Bool.{not}
 use native.Mathlib.Omega.{arith}

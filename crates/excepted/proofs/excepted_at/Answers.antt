@@ -1,4 +1,5 @@
 -- `translation::excepted_at` meets its contract. The invariant: those that were looked at are applied.
+-- Assumes nothing.
 use mathlib.Core.Path.{◌≡◌, refl, ◌∙◌}
 use native.Mathlib.Omega.{arith}
 use borrow.Author.Rules.{rules}

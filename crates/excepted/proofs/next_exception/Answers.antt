@@ -1,4 +1,5 @@
 -- `translation::next_exception` meets its contract. The invariant: the nearest of those that were looked at.
+-- Assumes nothing.
 use mathlib.Core.Path.{◌≡◌, refl, ◌∙◌}
 use native.Mathlib.Omega.{arith}
 use borrow.Author.Rules.{rules}

@@ -1,4 +1,5 @@
 -- `translation::put_exceptions` meets its contract. The invariant: those that were looked at are put.
+-- Assumes nothing.
 use mathlib.Core.Path.{◌≡◌, refl, sym, ◌∙◌}
 use native.Mathlib.Omega.{arith}
 use borrow.Author.Rules.{rules}

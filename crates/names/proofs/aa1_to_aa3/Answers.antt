@@ -1,4 +1,5 @@
 -- `names::aa1_to_aa3` meets its contract: one law for each way out.
+-- Assumes nothing.
 use mathlib.Core.Path.{sym, ◌∙◌, ap}
 use borrow.Author.Rules.{rules}
 use borrow.Author.Tests.{not-true, not-false}

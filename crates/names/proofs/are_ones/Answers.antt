@@ -1,4 +1,5 @@
 -- `names::are_ones` meets its contract. The invariant: what is left tells of the whole.
+-- Assumes nothing.
 use mathlib.Core.Path.{sym, ◌∙◌}
 use borrow.Author.Rules.{rules}
 use Rattle.rules.proofs.Lists.{all_end}

@@ -1,4 +1,5 @@
 -- `names::are_threes` meets its contract. The invariant: what is left tells of the whole.
+-- Assumes nothing.
 use mathlib.Core.Path.{sym, ap, ◌∙◌}
 use borrow.Author.Rules.{rules}
 use Rattle.rules.specs.Bytes.{all}

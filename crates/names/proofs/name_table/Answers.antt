@@ -1,4 +1,5 @@
 -- `names::name_table` meets its contract: the constant is the table of document 01's names.
+-- Assumes nothing.
 use mathlib.Core.Path.{refl}
 use Rattle.rules.specs.Bytes.{each}
 use Rattle.rules.specs.Names.{names}

@@ -1,4 +1,5 @@
 -- `names::row_of_one` meets its contract. The invariant: the rows that are left give the name that the table gives.
+-- Assumes nothing.
 use mathlib.Core.Path.{sym, ◌∙◌}
 use borrow.Author.Rules.{rules}
 use Rattle.names.proofs.Laws.{three-start, three-found, three-more, three-none}

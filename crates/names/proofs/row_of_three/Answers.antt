@@ -1,4 +1,5 @@
 -- `names::row_of_three` meets its contract. The invariant: the rows that are left give the residue that the table gives.
+-- Assumes nothing.
 use mathlib.Core.Path.{sym, ◌∙◌}
 use borrow.Author.Rules.{rules}
 use Rattle.names.proofs.Laws.{one-start, one_found, one_more, one_none}

@@ -1,4 +1,5 @@
 -- `names::write_ones` meets its contract. The invariant: writing the residues that are left gives the whole, and each has its name.
+-- Assumes nothing.
 use mathlib.Core.Path.{refl}
 use native.Mathlib.Omega.{arith}
 use borrow.Author.Rules.{rules}

@@ -1,4 +1,5 @@
 -- `names::write_threes` meets its contract. The invariant: writing the names that are left gives the whole.
+-- Assumes nothing.
 use mathlib.Core.Path.{refl}
 use native.Mathlib.Omega.{arith}
 use borrow.Author.Rules.{rules}

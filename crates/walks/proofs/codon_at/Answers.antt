@@ -1,10 +1,10 @@
 -- `translation::codon_at` meets its contract: the three bytes of a whole codon are letters.
+-- Assumes nothing.
 use Prim.Native.Nat.{◌+◌, ◌*◌}
 use native.Mathlib.Omega.{arith}
 use Rattle.places.proofs.Residues.{codon_sets, set_there}
 use Rattle.walks.proofs.codon_at.Goals as goal
 
--- Assumes nothing.
 pub residue_in-requires : goal.residue_in-requires
 residue_in-requires c = let s = c.args.seq.now in
     let i = c.args.i in

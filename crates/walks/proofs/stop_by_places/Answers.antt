@@ -1,4 +1,5 @@
 -- `translation::stop_by_places` meets its contract. The invariant: the first stop from codon i on is the first.
+-- Assumes nothing.
 use mathlib.Core.Path.{sym, ◌∙◌}
 use mathlib.Core.List.{[]}
 use native.Mathlib.Omega.{arith}

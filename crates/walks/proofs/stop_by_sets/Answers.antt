@@ -1,4 +1,5 @@
 -- `translation::stop_by_sets` meets its contract. The invariant: the first stop from codon i on is the first, and no exception stands
+-- between codon i and the next that is known. Assumes nothing.
 use mathlib.Core.Path.{sym, ◌∙◌}
 use Prim.Native.Nat.{◌+◌, ◌/◌}
 use native.Mathlib.Omega.{arith}

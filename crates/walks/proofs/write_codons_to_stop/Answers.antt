@@ -1,4 +1,6 @@
 -- `translation::write_codons_to_stop` meets its contract. The invariant: writing what is left gives the protein, and i codons more
+-- were looked up.
+-- Assumes nothing.
 use mathlib.Core.Path.{◌≡◌, sym}
 use mathlib.Core.List.{[]}
 use Prim.Native.Nat.{◌/◌}

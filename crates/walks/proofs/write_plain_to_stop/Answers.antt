@@ -1,4 +1,6 @@
 -- `translation::write_plain_to_stop` meets its contract. The invariant: writing what is left gives the protein, and i codons were
+-- looked up.
+-- Assumes nothing.
 use mathlib.Core.Path.{◌≡◌, refl, ap}
 use mathlib.Core.List.{[]}
 use Prim.Native.Nat.{◌+◌, ◌*◌, ◌/◌}

@@ -1,4 +1,5 @@
 -- `translation::write_through_stop` meets its contract: the walk, and the X where it met no stop and bytes remain.
+-- Assumes nothing.
 use Prim.Native.Nat.{◌/◌, ◌%◌}
 use native.Mathlib.Omega.{arith}
 use lib.ListN.{length}
@@ -7,7 +8,6 @@ use Rattle.places.proofs.Residues.{no-rest, with_rest}
 use Rattle.walks.proofs.Walks.{looked-stop, looked-end}
 use Rattle.walks.proofs.write_through_stop.Goals as goal
 
--- Assumes nothing.
 pub returns-then-stop-whole : goal.returns-then-stop-whole
 returns-then-stop-whole c = let args = c.args in
     let walk = c.write_walk-walk in

@@ -1,4 +1,5 @@
 -- `translation::write_to_stop` meets its contract. The invariant: writing what is left gives the protein, no exception stands between
+-- codon i and the next that is known, and i codons were looked up. Assumes nothing.
 use mathlib.Core.Path.{◌≡◌, refl, ap}
 use Prim.Native.Nat.{◌+◌, ◌/◌}
 use native.Mathlib.Omega.{arith}

@@ -1,4 +1,5 @@
 -- `packed::stops::packed_first_stop` meets its contract. The invariant: the first stop from codon i on is the first, and no exception stands
+-- between codon i and the next that is known. Assumes nothing.
 use mathlib.Core.Path.{◌≡◌, sym, ◌∙◌}
 use Prim.Native.Nat.{◌+◌, ◌-◌, ◌/◌}
 use native.Mathlib.Omega.{arith}

@@ -14,7 +14,6 @@ use Rattle.walks.proofs.Walks.{at-exception, at-no-exception}
 use Rattle.packed.proofs.Codons.{codon-in}
 use Rattle.packed.proofs.stops.packed_turn.Goals as goal
 
--- `packed::stops::packed_turn` meets its contract: a codon with an exception, and one without. Assumes nothing.
 -- the residue of the codon that is read
 read : (t : ℕ) (bs : List ℕ) (first end i r : ℕ) → i * 3 + 3 ≤ end - first → r ≡ codon_rule t (set_at bs (first + i * 3)) (set_at bs (first + i * 3 + 1)) (set_at bs (first + i * 3 + 2))
     → r ≡ codon_at t (map folded (part first end (letters_in bs))) i

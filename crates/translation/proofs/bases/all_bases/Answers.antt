@@ -1,4 +1,5 @@
 -- `translation::all_bases` meets its contract. The invariant: what is left decides.
+-- Assumes nothing.
 use borrow.Author.Rules.{rules}
 use Rattle.letters.proofs.Loops.{passed-more, passed-not, passed-all}
 use mathlib.Core.Path.{ap}

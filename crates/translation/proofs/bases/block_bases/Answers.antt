@@ -1,4 +1,5 @@
 -- `translation::block_bases` meets its contract. The invariant: what was found and what is left decide.
+-- Assumes nothing.
 use Rattle.letters.proofs.Loops.{tested_more, tested_all}
 use Rattle.translation.proofs.bases.block_bases.Goals as goal
 

@@ -1,4 +1,5 @@
 -- `translation::block_folds_to_letters` meets its contract. The invariant: what was found and what is left decide.
+-- Assumes nothing.
 use mathlib.Core.Path.{sym, ◌∙◌}
 use Rattle.rules.specs.Letters.{is_letter, folded}
 use Rattle.rules.proofs.Lists.{all_map}

@@ -1,4 +1,5 @@
 -- `translation::blocks_fold_to_bases` meets its contract. The invariant: what is left decides, and is sixteen or more.
+-- Assumes nothing.
 use borrow.Author.Rules.{rules}
 use Rattle.letters.proofs.Loops.{passed-more, passed-not}
 use mathlib.Core.Path.{ap}

@@ -1,4 +1,5 @@
 -- `translation::sixteens_fold_to_bases` meets its contract. The invariant: what is left decides.
+-- Assumes nothing.
 use borrow.Author.Rules.{rules}
 use Rattle.letters.proofs.Loops.{passed-more, passed-not}
 use Rattle.translation.proofs.Parts.{last_decides}

@@ -1,4 +1,5 @@
 -- `translation::write_any` meets its contract. The invariants: writing the residues that are left gives the whole.
+-- Assumes nothing.
 use mathlib.Core.Path.{refl, ap, ◌∙◌}
 use mathlib.Core.List.{[]}
 use Prim.Native.Nat.{◌+◌, ◌/◌, ◌%◌}

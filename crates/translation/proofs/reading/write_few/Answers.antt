@@ -1,4 +1,5 @@
 -- `translation::write_few` meets its contract. The invariant: writing the residues that are left gives the whole.
+-- Assumes nothing.
 use mathlib.Core.Path.{refl, ap, ◌∙◌}
 use mathlib.Core.List.{[]}
 use Prim.Native.Nat.{◌/◌, ◌%◌}

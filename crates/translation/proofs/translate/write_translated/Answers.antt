@@ -1,4 +1,5 @@
 -- `translation::write_translated` meets its contract: the residues without exceptions, and the exceptions put over them.
+-- Assumes nothing.
 use mathlib.Core.Path.{◌∙◌}
 use native.Mathlib.Omega.{arith}
 use borrow.Author.Rules.{rules}
@@ -6,7 +7,6 @@ use Rattle.rules.specs.Translation.{exception_list, residue_count}
 use Rattle.excepted.proofs.Putting.{excepted-over}
 use Rattle.translation.proofs.translate.write_translated.Goals as goal
 
--- Assumes nothing.
 pub put_exceptions-requires : goal.put_exceptions-requires
 unfolding residue_count
 put_exceptions-requires c = record { count_bound = search rules; whole_in_bounds = omega (arith, c.write_letters.auto.out, c.requires.room) }
