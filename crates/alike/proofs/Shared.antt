@@ -1,19 +1,18 @@
 -- Codons of equal letters that are read alike are equal: those of a shared beginning of what is left of two CDS.
 -- Assumes nothing.
 use mathlib.Core.Path.{◌≡◌, refl, sym, ap, ◌∙◌}
-use mathlib.Core.Bool.{Bool, true, false, ◌&&◌}
-use mathlib.Core.List.{List, []}
+use mathlib.Core.Bool.{true}
+use mathlib.Core.List.{List}
 use Prim.Native.Nat.{ℕ, ◌+◌, ◌-◌, ◌*◌, ◌/◌, ◌<◌, ◌≤◌}
 use native.Mathlib.Omega.{arith}
-use lib.Dec.{eqb}
-use lib.ListN.{length, get_or, take, drop, length-take}
+use lib.ListN.{length, get_or, drop, length-take}
 use lib.Seq.{get_or-take, get_or-drop}
 use borrow.Author.Tests.{eq-eqb}
 use Rattle.rules.specs.declared.Form.TheVariants.{Bytes}
 use Rattle.rules.specs.Bytes.{same, all}
-use Rattle.rules.specs.Letters.{letter_set, is_letter}
+use Rattle.rules.specs.Letters.{is_letter}
 use Rattle.rules.specs.Codons.{codon}
-use Rattle.rules.specs.Translation.{excepted, translated}
+use Rattle.rules.specs.Translation.{excepted}
 use Rattle.rules.specs.Trims.{common_prefix}
 use Rattle.rules.specs.Reference.{Reference, size, cds, cds_size, reference_protein}
 use Rattle.rules.specs.Altered.{part}
@@ -21,7 +20,6 @@ use Rattle.rules.specs.Packed.{letters_by}
 use Rattle.rules.specs.Editions.{codon_letters, codon_residue, is_equal_codon}
 use Rattle.rules.proofs.Trims.{cp_le_l, cp_le_r, cp_take}
 use Rattle.rules.proofs.Reading.{residue_at_lem}
-use Rattle.rules.proofs.Reference.{length-cds}
 use Rattle.halves.proofs.Sizes.{bytes-is}
 use Rattle.entries.specs.Entries.{base_at, entry_of}
 use Rattle.entries.proofs.Entries.{no_exceptions_lem}

@@ -1,18 +1,15 @@
 -- The altered transcript alone and the whole answer agree: on 1 to 11, Unknown, the transcript and the flag. Only 12 is the whole answer's alone.
 -- Assumes nothing.
-use Rattle.std.specs.Prelude.{if◌then◌else◌}
-use mathlib.Core.Path.{◌≡◌, refl, sym, ap, ◌∙◌}
+use mathlib.Core.Path.{◌≡◌, refl}
 use mathlib.Core.Bool.{Bool, true, false, ◌||◌}
 use mathlib.Core.List.{List}
 use Prim.Native.Nat.{ℕ, zero, suc, ◌+◌, ◌-◌}
 use native.Mathlib.Omega.{arith}
 use lib.Dec.{ltb}
-use lib.ListN.{length}
 use Rattle.rules.specs.declared.Limits.{Limits}
 use Rattle.rules.specs.declared.Report.{Report}
-use Rattle.rules.specs.declared.Answer.{Answer}
 use Rattle.rules.specs.declared.Answer.TheVariants as answer
-use Rattle.rules.specs.Bytes.{first_number}
+use Rattle.rules.specs.Bytes.{if◌then◌else◌, first_number}
 use Rattle.rules.specs.Translation.{residue_count}
 use Rattle.rules.specs.Reference.{Reference, cds_size}
 use Rattle.rules.specs.Edit.{Asked}
@@ -20,7 +17,6 @@ use Rattle.rules.specs.Altered.{altered_transcript, altered_length, frameshift}
 use Rattle.rules.specs.Record.{is_unknown}
 use Rattle.rules.specs.Refusal.{refusal, Room, room_tests, room_refusal}
 use Rattle.rules.specs.Answer.{Outcome, writes_nothing, unknown_report, full_report, writes_all, outcome_by, outcome}
-use Rattle.altseq.specs.declared.alone.Transcribed.{Transcribed}
 use Rattle.altseq.specs.declared.alone.Transcribed.TheVariants.{Refused, Unknown, Written}
 use Rattle.altseq.specs.Transcribing.{Edited, written, edited_by, edited}
 

@@ -1,27 +1,24 @@
 -- Laws of the whole answer: what is decided of an edit of a checked reference is the outcome of document 01.
 -- Assumes nothing.
 use mathlib.Core.Path.{◌≡◌, refl, sym, ap, subst, ◌∙◌}
-use mathlib.Core.Bool.{Bool, true, false, ◌||◌}
-use mathlib.Core.List.{List, []}
-use Prim.Native.Nat.{ℕ, zero, suc, ◌+◌, ◌-◌, ◌≤◌, ◌<◌}
+use mathlib.Core.Bool.{false, ◌||◌}
+use mathlib.Core.List.{List}
+use Prim.Native.Nat.{ℕ, zero, suc, ◌-◌, ◌≤◌}
 use native.Mathlib.Omega.{arith}
-use lib.ListN.{length, take}
 use Rattle.rules.specs.declared.Cds.{Cds}
-use Rattle.rules.specs.declared.Edit.{Edit}
 use Rattle.rules.specs.declared.Exceptions.{Exceptions}
 use Rattle.rules.specs.declared.Limits.{Limits}
 use Rattle.rules.specs.declared.Answer.{Answer}
 use Rattle.rules.specs.declared.Answer.TheVariants as answer
 use Rattle.rules.specs.Bytes.{first_number, over}
-use Rattle.rules.specs.Translation.{residue_count}
-use Rattle.rules.specs.Reference.{Reference, size, cds_size, reference_protein}
+use Rattle.rules.specs.Reference.{Reference, size, cds_size}
 use Rattle.rules.specs.Edit.{Asked, start_place, end_place, ends_past, is_misplaced, is_disordered, edit_tests}
 use Rattle.rules.specs.Altered.{altered_transcript, altered_length, frameshift}
 use Rattle.rules.specs.Protein.{altered_protein}
 use Rattle.rules.specs.Record.{is_unknown, silent_number}
-use Rattle.rules.specs.Refusal.{limits, reference_refusal, refusal, Room, room_tests, room_refusal}
-use Rattle.rules.specs.Answer.{Outcome, writes_nothing, unknown_report, full_report, writes_all, outcome, Answers}
-use Rattle.rules.specs.Views.{bare, asked, reference_of}
+use Rattle.rules.specs.Refusal.{reference_refusal, refusal, Room, room_refusal}
+use Rattle.rules.specs.Answer.{Outcome, writes_nothing, full_report, writes_all, outcome, Answers}
+use Rattle.rules.specs.Views.{bare, reference_of}
 use Rattle.rules.proofs.Refusal.{refused-reference, refused-edit}
 use Rattle.rules.proofs.Altered.{altered_length_lem}
 use Rattle.rules.proofs.Answers.{refused-by, unknown-by, room_by as room_refused, all-by}
@@ -36,10 +33,10 @@ use Rattle.edits.specs.Decisions.{decision_of}
 use Rattle.edits.proofs.Planning.{bare_plan}
 use Rattle.edits.proofs.Deciding.{decided-refusal, decided-unknown, decided-plan}
 use Rattle.transcript.proofs.Transcripts.{carried_by_is}
-use Rattle.altseq.specs.Carried.{protein_by, report_by, Carries}
+use Rattle.altseq.specs.Carried.{protein_by, report_by}
 use Rattle.altseq.proofs.Reusing.{protein_of_lem, looked_is}
 use Rattle.transcript.specs.Carrying.{carried_by}
-use Rattle.altseq.specs.Decided.{room_by, goes_by, with_room, decided_in, decided_outcome, reference_in, AnswersBeside}
+use Rattle.altseq.specs.Decided.{room_by, goes_by, with_room, decided_outcome, reference_in, AnswersBeside}
 
 pub writes_nothing_lem : (o : Outcome) (x : Answer) (t p q : List ℕ) → o ≡ writes_nothing x → Answers o x t t p p q q
 unfolding writes_nothing over

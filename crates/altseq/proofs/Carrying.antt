@@ -1,20 +1,16 @@
 -- Laws of a plan that is carried out: the room it has, what the buffers hold, and the report.
 -- Assumes nothing.
 use mathlib.Core.Path.{◌≡◌, refl, sym, ap, ◌∙◌}
-use mathlib.Core.Bool.{Bool, true}
 use mathlib.Core.List.{List}
-use Prim.Native.Nat.{ℕ, ◌+◌, ◌-◌, ◌≤◌, min, max}
+use Prim.Native.Nat.{ℕ, ◌≤◌}
 use native.Mathlib.Omega.{arith}
 use lib.ListN.{length, take}
-use Rattle.rules.specs.declared.Edit.{Edit}
 use Rattle.rules.specs.declared.Exceptions.{Exceptions}
 use Rattle.rules.specs.declared.Record.{Record}
 use Rattle.rules.specs.declared.Report.{Report}
-use Rattle.rules.specs.Bytes.{all, over}
-use Rattle.rules.specs.Letters.{is_letter}
-use Rattle.rules.specs.Translation.{residue_count}
+use Rattle.rules.specs.Bytes.{over}
 use Rattle.rules.specs.Reference.{Reference, reference_protein}
-use Rattle.rules.specs.Edit.{Asked, kind_of}
+use Rattle.rules.specs.Edit.{Asked}
 use Rattle.rules.specs.Altered.{altered_transcript, altered_length}
 use Rattle.rules.specs.Record.{within, record_from, silent_within, silent_number}
 use Rattle.rules.specs.Views.{asked, reference_of}

@@ -1,20 +1,17 @@
 -- Laws of A where it is written: read whole with exceptions, and in pieces without. Assumes nothing.
-use Rattle.std.specs.Prelude.{if◌then◌else◌}
 use mathlib.Core.Path.{◌≡◌, refl, sym, ap, ◌∙◌}
-use mathlib.Core.Bool.{Bool, true, ◌&&◌}
+use mathlib.Core.Bool.{Bool, ◌&&◌}
 use mathlib.Core.List.{List, []}
-use Prim.Native.Nat.{ℕ, ◌+◌, ◌-◌, ◌*◌, ◌/◌, ◌≤◌, ◌<◌, min, max}
+use Prim.Native.Nat.{ℕ, ◌+◌, ◌-◌, ◌*◌, ◌/◌, ◌≤◌, ◌<◌, min}
 use native.Mathlib.Omega.{arith}
-use lib.Dec.{eqb}
-use lib.ListN.{length, take, drop, length-drop}
+use lib.ListN.{length, drop, length-drop}
 use borrow.Author.Tests.{eq-eqb, ne_eqb}
 use Rattle.rules.specs.declared.Exceptions.{Exceptions}
 use Rattle.rules.specs.Bytes.{byte, all, count}
-use Rattle.rules.specs.Letters.{is_letter}
 use Rattle.rules.specs.Translation.{exception_list, translated, through_stop, residue_count, folded_translated}
 use Rattle.rules.specs.Reference.{Reference, size, reference_protein}
 use Rattle.rules.specs.Edit.{Asked}
-use Rattle.rules.specs.Altered.{part, swap, kept, cut_swap, altered_transcript, altered_length}
+use Rattle.rules.specs.Altered.{part}
 use Rattle.rules.specs.Exceptions.{moved_exceptions}
 use Rattle.rules.specs.Protein.{protein_of, altered_protein}
 use Rattle.rules.specs.Views.{asked, reference_of}
@@ -26,7 +23,6 @@ use Rattle.rules.proofs.Kept.{nothing}
 use Rattle.rules.proofs.Pieces.{known_once}
 use Rattle.rules.proofs.Altered.{altered_length_lem, altered-fits}
 use Rattle.letters.specs.Sets.{is_base}
-use Rattle.places.specs.Looked.{Walks}
 use Rattle.walks.specs.Walks.{codons_walked}
 use Rattle.places.proofs.Strict.{strict-letters, whole_bases, bases_fold}
 use Rattle.reference.specs.declared.Known.{Known}

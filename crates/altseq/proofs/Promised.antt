@@ -1,12 +1,12 @@
 -- What the promise of `build_altseq` and `build_altseq_in` tells whoever reads the buffers: demand 3, and that there is a single answer. Both
 -- hold of any answer and any buffers that meet it.
 -- Assumes nothing.
-use mathlib.Core.Path.{◌≡◌, refl, sym, ap, subst, ◌∙◌}
+use mathlib.Core.Path.{◌≡◌, refl, sym, ap, ◌∙◌}
 use mathlib.Core.Bool.{Bool, true, false}
 use mathlib.Core.List.{List}
 use Prim.Native.Nat.{ℕ, zero, suc}
 use native.Mathlib.Omega.{arith}
-use lib.ListN.{length, take}
+use lib.ListN.{take}
 use Rattle.rules.specs.declared.Change.{Change}
 use Rattle.rules.specs.declared.Record.TheVariants.{Changed}
 use Rattle.rules.specs.declared.Edit.{Edit}
@@ -20,7 +20,7 @@ use Rattle.rules.specs.Reference.{Reference, reference_protein}
 use Rattle.rules.specs.Edit.{Asked}
 use Rattle.rules.specs.Altered.{frameshift}
 use Rattle.rules.specs.Protein.{altered_protein}
-use Rattle.rules.specs.Record.{is_unknown, record_of}
+use Rattle.rules.specs.Record.{is_unknown}
 use Rattle.rules.specs.Refusal.{refusal, Room, room_refusal}
 use Rattle.rules.specs.Answer.{Outcome, writes_nothing, unknown_report, full_report, writes_all, outcome_by, outcome, Answers}
 use Rattle.rules.proofs.Over.{read_back}

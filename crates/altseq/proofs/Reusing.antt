@@ -1,33 +1,32 @@
 -- The pieces of an edit's plan are document 02's: A by them is A, and the codons that they read are those looked up. Assumes nothing.
-use Rattle.std.specs.Prelude.{if◌then◌else◌}
 use mathlib.Core.Path.{◌≡◌, refl, sym, ap, ◌∙◌}
-use mathlib.Core.Bool.{Bool, true, false, ◌&&◌, ◌||◌}
-use mathlib.Core.List.{List, [], ◌∷◌, ◌++◌, append-nil}
-use Prim.Native.Nat.{ℕ, suc, ◌+◌, ◌-◌, ◌*◌, ◌/◌, ◌%◌, ◌≤◌, ◌<◌, min, max}
+use mathlib.Core.Bool.{Bool, true, false}
+use mathlib.Core.List.{List, [], ◌++◌, append-nil}
+use Prim.Native.Nat.{ℕ, ◌+◌, ◌-◌, ◌*◌, ◌/◌, ◌≤◌, ◌<◌, min}
 use native.Mathlib.Omega.{arith}
-use lib.Dec.{eqb, leb, ltb}
-use lib.ListN.{length, take, drop, length-append, length-drop, drop_of_length-le}
-use lib.Seq.{length-take-le, take_at, drop_at, drop-drop}
+use lib.Dec.{eqb, ltb}
+use lib.ListN.{length, take, drop, length-drop, drop_of_length-le}
+use lib.Seq.{drop-drop}
 use borrow.Author.Tests.{eqb-true, eqb-false, lt-ltb, le-ltb, ltb-true, ltb-false}
 use Rattle.rules.specs.declared.Cds.{Cds}
 use Rattle.rules.specs.declared.Kind.{Kind}
 use Rattle.rules.specs.declared.Kind.TheVariants.{Substitution, Deletion, Delins, Insertion, Duplication, Inversion, Identity, Other}
 use Rattle.rules.specs.declared.Limits.{Limits}
-use Rattle.rules.specs.Bytes.{byte, all, count}
+use Rattle.rules.specs.Bytes.{byte, if◌then◌else◌, all, count}
 use Rattle.rules.specs.Letters.{is_letter}
-use Rattle.rules.specs.Translation.{translated, residue_count, before_stop, through_stop, folded_translated}
-use Rattle.rules.specs.Reference.{Reference, at_stop, size, cds_size, codons, reference_protein}
+use Rattle.rules.specs.Translation.{translated, before_stop, through_stop, folded_translated}
+use Rattle.rules.specs.Reference.{Reference, cds_size, codons, reference_protein}
 use Rattle.rules.specs.Edit.{Asked, is, kind_of, start_index, end_index, fit_bases}
-use Rattle.rules.specs.Altered.{part, swap_by, swap, kept, cut_swap, altered_transcript, altered_length}
+use Rattle.rules.specs.Altered.{part, swap_by, swap, cut_swap, altered_transcript}
 use Rattle.rules.specs.Protein.{altered_protein}
 use Rattle.rules.specs.Reuse.{altered_coding, codons_through_stop, looked_up}
 use Rattle.rules.proofs.PieceNumbers.{keeps_all, behind_put, head_of, tail_of, back_of, is_level, middle}
 use Rattle.rules.specs.Record.{is_unknown}
 use Rattle.rules.specs.Refusal.{refusal}
 use Rattle.rules.specs.Views.{cds_of}
-use Rattle.rules.proofs.Tests.{or_left, all_drop, all_take}
+use Rattle.rules.proofs.Tests.{or_left}
 use Rattle.rules.proofs.Over.{tail-is}
-use Rattle.rules.proofs.Translation.{length-translated, length_through}
+use Rattle.rules.proofs.Translation.{length_through}
 use Rattle.rules.proofs.Parts.{length_part, letters-part}
 use Rattle.rules.proofs.Refusal.{reference-accepted, edit-allowed}
 use Rattle.rules.proofs.Span.{indexes_of}
@@ -44,7 +43,7 @@ use Rattle.transcript.proofs.Transcripts.{carried_by_is}
 use Rattle.record.specs.Shares.{Shares}
 use Rattle.record.proofs.Shared.{shares_parts}
 use Rattle.reuse.specs.declared.pieces.Pieces.{Pieces}
-use Rattle.reuse.specs.Reusing.{is_identity_by, keeps_all_by, codons_by, head_by, tail_by, back_by, is_level_by, pieces_by, Placed, resumed, behind_of, read_by, reused_by}
+use Rattle.reuse.specs.Reusing.{is_identity_by, keeps_all_by, codons_by, is_level_by, pieces_by, resumed, behind_of, read_by, reused_by}
 use Rattle.altseq.specs.Carried.{protein_by, looked_by}
 
 -- a plan that puts its own range in again is an identity's

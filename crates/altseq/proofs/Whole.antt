@@ -1,9 +1,9 @@
 -- Laws of the whole answer to an edit of a checked reference, from what was decided with the room that there is.
 -- Assumes nothing.
 use mathlib.Core.Path.{◌≡◌, refl, sym, ap, subst, ◌∙◌}
-use mathlib.Core.Bool.{Bool, true, false, ◌||◌}
-use mathlib.Core.List.{List, []}
-use Prim.Native.Nat.{ℕ, zero, suc, ◌+◌, ◌-◌, ◌≤◌, ◌<◌, zero-le}
+use mathlib.Core.Bool.{◌||◌}
+use mathlib.Core.List.{List}
+use Prim.Native.Nat.{ℕ, ◌+◌, ◌-◌, ◌≤◌}
 use native.Mathlib.Omega.{arith}
 use lib.Dec.{ltb}
 use lib.ListN.{length, take, length-take}
@@ -15,7 +15,7 @@ use Rattle.rules.specs.declared.Exceptions.{Exceptions}
 use Rattle.rules.specs.declared.Report.{Report}
 use Rattle.rules.specs.declared.Answer.{Answer}
 use Rattle.rules.specs.declared.Answer.TheVariants as answer
-use Rattle.rules.specs.Bytes.{first_number, over}
+use Rattle.rules.specs.Bytes.{over}
 use Rattle.rules.specs.Translation.{residue_count}
 use Rattle.rules.specs.Reference.{Reference, cds_size, reference_protein}
 use Rattle.rules.specs.Edit.{Asked}
@@ -31,7 +31,7 @@ use Rattle.edits.specs.declared.decision.Decision.{Decision}
 use Rattle.edits.specs.declared.decision.Decision.TheVariants as decision
 use Rattle.edits.specs.Decisions.{decision_of}
 use Rattle.altseq.specs.Carried.{report_by, Carries}
-use Rattle.altseq.specs.Decided.{room_by, with_room, decided_in, decided_outcome, reference_in, Copies, AnswersBeside}
+use Rattle.altseq.specs.Decided.{room_by, decided_in, decided_outcome, reference_in, Copies, AnswersBeside}
 use Rattle.altseq.proofs.Answering.{none-refused, not-unknown, plan-is, decided-is, room_left}
 
 -- what no refusal of 11 or 12 leaves

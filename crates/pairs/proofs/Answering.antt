@@ -2,7 +2,7 @@
 -- Assumes nothing.
 use mathlib.Core.Path.{◌≡◌, refl, sym, ap, subst, ◌∙◌}
 use mathlib.Core.List.{List, ◌++◌}
-use Prim.Native.Nat.{ℕ, zero, suc, ◌<◌, ◌≤◌}
+use Prim.Native.Nat.{ℕ, zero, suc, ◌≤◌}
 use native.Mathlib.Omega.{arith}
 use Rattle.rules.specs.declared.Form.{Form}
 use Rattle.rules.specs.declared.Cds.{Cds}
@@ -27,7 +27,7 @@ use Rattle.edits.specs.declared.plans.Plan.{Plan}
 use Rattle.edits.specs.Plans.{plan_of}
 use Rattle.joints.specs.declared.Joint.{Joint}
 use Rattle.joints.specs.declared.Joint.TheVariants.{Refused, Both}
-use Rattle.joints.specs.Joints.{Knowing, joint_by, joint_of}
+use Rattle.joints.specs.Joints.{joint_by, joint_of}
 use Rattle.pairs.specs.Carrying.{pair_room_of, carried_outcome, Goes, AcceptsPair}
 use Rattle.pairs.proofs.Whole.{outcome-is}
 

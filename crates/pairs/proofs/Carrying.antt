@@ -1,18 +1,17 @@
 -- Laws of two plans that are carried out: they make the pair's transcript, in either order, and have the room that its length asks for.
 -- Assumes nothing.
-use Rattle.std.specs.Prelude.{if◌then◌else◌}
 use mathlib.Core.Path.{◌≡◌, refl, sym, ap, ◌∙◌}
 use mathlib.Core.Bool.{Bool, true, false, ◌||◌}
-use mathlib.Core.List.{List, ◌++◌}
-use Prim.Native.Nat.{ℕ, zero, suc, ◌+◌, ◌-◌, ◌≤◌, ◌<◌}
+use mathlib.Core.List.{List}
+use Prim.Native.Nat.{ℕ, ◌+◌, ◌-◌, ◌≤◌, ◌<◌}
 use native.Mathlib.Omega.{arith}
 use lib.Dec.{ltb}
 use lib.ListN.{length, take, drop}
 use borrow.Author.Tests.{lt-ltb, le-ltb, ltb-true}
 use Rattle.rules.specs.declared.Limits.{Limits}
-use Rattle.rules.specs.Bytes.{all}
+use Rattle.rules.specs.Bytes.{if◌then◌else◌, all}
 use Rattle.rules.specs.Letters.{is_letter}
-use Rattle.rules.specs.Translation.{translated, residue_count, through_stop}
+use Rattle.rules.specs.Translation.{residue_count}
 use Rattle.rules.specs.Reference.{Reference, size}
 use Rattle.rules.specs.Edit.{Asked, kind_of, start_index, end_index}
 use Rattle.rules.specs.Altered.{part, Swap, swap, kept, deleted, inserted, cut_off, altered_length}
@@ -20,20 +19,20 @@ use Rattle.rules.specs.Refusal.{refusal}
 use Rattle.rules.specs.Pair.{touched_from, touched_to, is_ahead, are_apart, pair_transcript, pair_protein, pair_length}
 use Rattle.rules.specs.Views.{asked, reference_of}
 use Rattle.rules.proofs.Tests.{all_take, all_drop, all_both}
-use Rattle.rules.proofs.Refusal.{refused-edit, reference-accepted}
-use Rattle.rules.proofs.Span.{Span, span}
+use Rattle.rules.proofs.Refusal.{refused-edit}
+use Rattle.rules.proofs.Span.{span}
 use Rattle.rules.proofs.Altered.{puts}
-use Rattle.rules.proofs.Pairs.{five_parts, InOrder, length-parts, Touches, in_order, pair-front, pair-back, pair-length, touches_of, kept_whole, Joins, joins}
+use Rattle.rules.proofs.Pairs.{five_parts, InOrder, Touches, in_order, pair-front, pair-back, pair-length, touches_of, kept_whole, Joins, joins}
 use Rattle.letters.specs.Sets.{is_base}
 use Rattle.reference.specs.declared.Known.{Known}
 use Rattle.reference.specs.Known.{known_of}
 use Rattle.edits.specs.declared.plans.Plan.{Plan}
-use Rattle.edits.specs.Plans.{plan_of, goes_in}
+use Rattle.edits.specs.Plans.{plan_of}
 use Rattle.edits.proofs.Planning.{goes_in_lem}
 use Rattle.transcript.specs.Carrying.{Sourced}
 use Rattle.transcript.proofs.Bases.{plain_put}
 use Rattle.transcript.proofs.Transcripts.{sourced-of}
-use Rattle.pairs.specs.Carrying.{swap_of, both_by, protein_in, length_by, Behind, InRow, Codes, Goes}
+use Rattle.pairs.specs.Carrying.{swap_of, both_by, protein_in, length_by, InRow, Codes, Goes}
 
 -- each of the five parts passes
 parts_pass : (p : ℕ → Bool) (w v : Swap) (s : List ℕ) → all p s ≡ true → all p w.put ≡ true → all p v.put ≡ true → all p (five_parts w v s) ≡ true

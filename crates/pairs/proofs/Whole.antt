@@ -1,14 +1,12 @@
 -- Laws of the whole answer to a pair.
 -- Assumes nothing.
-use mathlib.Core.Path.{◌≡◌, refl, sym, ap, ◌∙◌}
+use mathlib.Core.Path.{◌≡◌, refl, sym, ◌∙◌}
 use mathlib.Core.List.{List}
-use Prim.Native.Nat.{ℕ, zero, suc, ◌+◌, ◌-◌, ◌≤◌, ◌<◌}
+use Prim.Native.Nat.{ℕ, zero, suc, ◌≤◌}
 use native.Mathlib.Omega.{arith}
 use lib.ListN.{length, take}
-use Rattle.rules.specs.declared.Paired.{Paired}
 use Rattle.rules.specs.declared.Paired.TheVariants.{Refused, Carried}
 use Rattle.rules.specs.Bytes.{first_number, over}
-use Rattle.rules.specs.Translation.{residue_count}
 use Rattle.rules.specs.Pair.{pair_room_tests, PairRoom, pair_transcript, pair_protein, pair_length, PairOutcome, pair_by, pair_outcome, Pairs}
 use Rattle.rules.specs.Views.{asked, reference_of}
 use Rattle.rules.proofs.Over.{fits_over, read_back}
@@ -17,7 +15,7 @@ use Rattle.reference.specs.declared.Known.{Known}
 use Rattle.edits.specs.declared.plans.Plan.{Plan}
 use Rattle.pairs.specs.Carrying.{both_by, protein_in, pair_room_of, length_by, carried_outcome, Codes, Goes}
 use Rattle.pairs.proofs.Rows.{room-is}
-use Rattle.pairs.proofs.Carrying.{length-is, both_is, protein-is, both-length, pair-codes}
+use Rattle.pairs.proofs.Carrying.{length-is, both_is, protein-is, pair-codes}
 
 module _ (s : List ℕ) (k : Known) (p q : Plan) (new other t alt : List ℕ) where
   abbrev room : PairRoom

@@ -1,9 +1,9 @@
 -- Laws of writing: the store in the parts that it is written in, and what each test leaves.
 -- Assumes nothing.
 use Rattle.std.specs.Prelude.{if◌then◌else◌}
-use mathlib.Core.Path.{◌≡◌, refl, sym, ap, ◌∙◌}
+use mathlib.Core.Path.{◌≡◌, refl, ap}
 use mathlib.Core.Bool.{Bool, true, false, ◌&&◌, ◌||◌}
-use mathlib.Core.List.{List, [], ◌∷◌, ◌++◌}
+use mathlib.Core.List.{List, ◌++◌}
 use Prim.Native.Nat.{ℕ, ◌+◌, ◌-◌, ◌≤◌, ◌<◌}
 use native.Mathlib.Omega.{arith}
 use lib.Dec.{eqb, leb}
@@ -12,7 +12,7 @@ use borrow.Author.Tests.{leb-true, eqb-true, lt-ltb, le-ltb}
 use Rattle.rules.specs.declared.Settings.{Settings}
 use Rattle.rules.specs.declared.Written.{Written}
 use Rattle.rules.specs.declared.Written.TheVariants.{Refused, Bytes}
-use Rattle.rules.specs.Bytes.{each, first_number, Result, given, refused, unless, over}
+use Rattle.rules.specs.Bytes.{each, first_number, unless, over}
 use Rattle.rules.specs.Codons.{is_table}
 use Rattle.rules.specs.Storing.{in_two, field_bytes, fields_bytes}
 use Rattle.rules.specs.Settings.{is_version, has_longest, is_longest, are_settings, settings_fields, store_of, settings_tests, written_settings}

@@ -2,19 +2,16 @@
 -- Assumes nothing.
 use mathlib.Core.Path.{◌≡◌, refl, sym, ap, ◌∙◌}
 use mathlib.Core.List.{List, []}
-use Prim.Native.Nat.{ℕ, ◌≤◌}
+use Prim.Native.Nat.{ℕ}
 use native.Mathlib.Omega.{arith}
 use lib.ListN.{length, take}
 use lib.Seq.{length-take-le}
-use Rattle.rules.specs.declared.Cds.{Cds}
 use Rattle.rules.specs.Reference.{Reference}
 use Rattle.rules.specs.Views.{bare, cds_of}
-use Rattle.reference.specs.declared.Known.{Known}
-use Rattle.reference.specs.Known.{known_of}
 use Rattle.text_answers.specs.declared.Phase.{Phase}
 use Rattle.text_answers.specs.declared.Phase.TheVariants.{Opening, Editing, Ended}
-use Rattle.text_answers.specs.Stage.{Stage, editing}
-use Rattle.text_answers.specs.Lines.{no_exceptions, Line, stage_by, KnownIn, Opens}
+use Rattle.text_answers.specs.Stage.{Stage}
+use Rattle.text_answers.specs.Lines.{Line, stage_by, KnownIn, Opens}
 
 -- an edit line's answer has one length
 pub line_once : (m n : ℕ) (text text' l : List ℕ) → Line m text l → Line n text' l → m ≡ n

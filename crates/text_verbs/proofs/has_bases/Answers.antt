@@ -1,13 +1,13 @@
 -- `text_verbs::has_bases` meets its contract. Assumes nothing.
-use mathlib.Core.Path.{sym, ◌∙◌, ap}
+use mathlib.Core.Path.{sym, ◌∙◌}
 use borrow.Author.Rules.{rules}
-use borrow.Author.Tests.{not-false}
 use Rattle.text_verbs.proofs.Verbs.{starts_long}
-use mathlib.Core.Bool.{not}
 use Rattle.text_verbs.proofs.has_bases.Goals as goal
 
 pub slice_bounds-are_capitals-count : goal.slice_bounds-are_capitals-count
-slice_bounds-are_capitals-count c = let h = starts_long c.args.word.now c.args.s.now (sym c.starts_with.ensures ∙ not-false _ (ap not c.if-not-starts_with.false)) in search rules
+slice_bounds-are_capitals-count c =
+    let h = starts_long c.args.word.now c.args.s.now (sym c.starts_with.ensures ∙ c.if-not-starts_with.false) in search rules
 
 pub slice_bounds-are_capitals-start : goal.slice_bounds-are_capitals-start
-slice_bounds-are_capitals-start c = let h = starts_long c.args.word.now c.args.s.now (sym c.starts_with.ensures ∙ not-false _ (ap not c.if-not-starts_with.false)) in search rules
+slice_bounds-are_capitals-start c =
+    let h = starts_long c.args.word.now c.args.s.now (sym c.starts_with.ensures ∙ c.if-not-starts_with.false) in search rules

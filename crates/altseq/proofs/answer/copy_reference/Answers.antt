@@ -1,0 +1,14 @@
+-- `altseq::answer::copy_reference` meets its contract. Assumes nothing.
+use mathlib.Core.Path.{refl}
+use Rattle.rules.specs.Bytes.{over}
+use Rattle.rules.proofs.Over.{copied_as}
+use Rattle.altseq.specs.Decided.{reference_in}
+use Rattle.altseq.proofs.answer.copy_reference.Goals as goal
+
+pub returns-in-Refused : goal.returns-in-Refused
+unfolding reference_in over
+returns-in-Refused c = rw c.in-Refused.is refl
+
+pub returns-in-Reported : goal.returns-in-Reported
+unfolding reference_in
+returns-in-Reported c = rw c.in-Reported.is (copied_as _ _ c.args.reference.now _ refl c.copy.ensures.after)

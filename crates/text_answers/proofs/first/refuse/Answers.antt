@@ -1,0 +1,7 @@
+-- `text_answers::first::refuse` meets its contract. Assumes nothing.
+use native.Mathlib.Omega.{arith}
+use Rattle.text_prints.proofs.Sizes.{refused_size}
+use Rattle.text_answers.proofs.first.refuse.Goals as goal
+
+pub print_refused-requires : goal.print_refused-requires
+print_refused-requires c = omega (arith, refused_size c.args.n, c.requires)
