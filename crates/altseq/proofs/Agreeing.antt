@@ -1,5 +1,6 @@
 -- The altered transcript alone and the whole answer agree: on 1 to 11, Unknown, the transcript and the flag. Only 12 is the whole answer's alone.
 -- Assumes nothing.
+use Rattle.std.specs.Prelude.{if◌then◌else◌}
 use mathlib.Core.Path.{◌≡◌, refl}
 use mathlib.Core.Bool.{Bool, true, false, ◌||◌}
 use mathlib.Core.List.{List}
@@ -9,7 +10,7 @@ use lib.Dec.{ltb}
 use Rattle.rules.specs.declared.Limits.{Limits}
 use Rattle.rules.specs.declared.Report.{Report}
 use Rattle.rules.specs.declared.Answer.TheVariants as answer
-use Rattle.rules.specs.Bytes.{if◌then◌else◌, first_number}
+use Rattle.rules.specs.Bytes.{first_number}
 use Rattle.rules.specs.Translation.{residue_count}
 use Rattle.rules.specs.Reference.{Reference, cds_size}
 use Rattle.rules.specs.Edit.{Asked}

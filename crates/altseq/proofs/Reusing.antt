@@ -1,4 +1,5 @@
 -- The pieces of an edit's plan are document 02's: A by them is A, and the codons that they read are those looked up. Assumes nothing.
+use Rattle.std.specs.Prelude.{if◌then◌else◌}
 use mathlib.Core.Path.{◌≡◌, refl, sym, ap, ◌∙◌}
 use mathlib.Core.Bool.{Bool, true, false}
 use mathlib.Core.List.{List, [], ◌++◌, append-nil}
@@ -12,7 +13,7 @@ use Rattle.rules.specs.declared.Cds.{Cds}
 use Rattle.rules.specs.declared.Kind.{Kind}
 use Rattle.rules.specs.declared.Kind.TheVariants.{Substitution, Deletion, Delins, Insertion, Duplication, Inversion, Identity, Other}
 use Rattle.rules.specs.declared.Limits.{Limits}
-use Rattle.rules.specs.Bytes.{byte, if◌then◌else◌, all, count}
+use Rattle.rules.specs.Bytes.{byte, all, count}
 use Rattle.rules.specs.Letters.{is_letter}
 use Rattle.rules.specs.Translation.{translated, before_stop, through_stop, folded_translated}
 use Rattle.rules.specs.Reference.{Reference, cds_size, codons, reference_protein}

@@ -1,5 +1,6 @@
 -- Laws of the altered transcript alone: which answer each way out has.
 -- Assumes nothing.
+use Rattle.std.specs.Prelude.{if◌then◌else◌}
 use mathlib.Core.Path.{◌≡◌, refl, sym, ap, subst, ◌∙◌}
 use mathlib.Core.Bool.{Bool, true, false}
 use mathlib.Core.List.{List}
@@ -11,7 +12,7 @@ use Rattle.rules.specs.declared.Form.{Form}
 use Rattle.rules.specs.declared.Cds.{Cds}
 use Rattle.rules.specs.declared.Exceptions.{Exceptions}
 use Rattle.rules.specs.declared.Limits.{Limits}
-use Rattle.rules.specs.Bytes.{if◌then◌else◌, over}
+use Rattle.rules.specs.Bytes.{over}
 use Rattle.rules.specs.Reference.{Reference, reference_protein}
 use Rattle.rules.specs.Edit.{Asked}
 use Rattle.rules.specs.Altered.{altered_transcript, altered_length, frameshift}

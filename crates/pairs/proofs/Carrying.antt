@@ -1,5 +1,6 @@
 -- Laws of two plans that are carried out: they make the pair's transcript, in either order, and have the room that its length asks for.
 -- Assumes nothing.
+use Rattle.std.specs.Prelude.{if◌then◌else◌}
 use mathlib.Core.Path.{◌≡◌, refl, sym, ap, ◌∙◌}
 use mathlib.Core.Bool.{Bool, true, false, ◌||◌}
 use mathlib.Core.List.{List}
@@ -9,7 +10,7 @@ use lib.Dec.{ltb}
 use lib.ListN.{length, take, drop}
 use borrow.Author.Tests.{lt-ltb, le-ltb, ltb-true}
 use Rattle.rules.specs.declared.Limits.{Limits}
-use Rattle.rules.specs.Bytes.{if◌then◌else◌, all}
+use Rattle.rules.specs.Bytes.{all}
 use Rattle.rules.specs.Letters.{is_letter}
 use Rattle.rules.specs.Translation.{residue_count}
 use Rattle.rules.specs.Reference.{Reference, size}

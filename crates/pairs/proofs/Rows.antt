@@ -1,5 +1,6 @@
 -- Laws of the five parts of two plans in a row, and of the room that 11 and 12 leave.
 -- Assumes nothing.
+use Rattle.std.specs.Prelude.{if◌then◌else◌}
 use mathlib.Core.Path.{◌≡◌, refl, ◌∙◌}
 use mathlib.Core.Bool.{Bool, true, false}
 use mathlib.Core.List.{List}
@@ -8,7 +9,7 @@ use native.Mathlib.Omega.{arith}
 use lib.Dec.{ltb}
 use lib.ListN.{length}
 use borrow.Author.Tests.{lt-ltb, le-ltb, ltb-false}
-use Rattle.rules.specs.Bytes.{if◌then◌else◌, first_number}
+use Rattle.rules.specs.Bytes.{first_number}
 use Rattle.rules.specs.Translation.{residue_count}
 use Rattle.rules.specs.Pair.{PairRoom, pair_room_tests}
 use Rattle.rules.proofs.Pairs.{five_parts, InOrder, length-parts}
