@@ -30,6 +30,11 @@ Turned Stop x x' came = (x' ≡ after x came) × (is_ended x' ≡ true)
 Turned Unread x x' came = x' ≡ x
 Turned Unwritten x x' came = Unit
 
+-- the exit status where answers are missing; where nobody reads them any more, a shell's for a program that a broken pipe has ended
+abbrev pub unwritten_status : Bool → ℕ
+unwritten_status true = 141
+unwritten_status false = 1
+
 abbrev pub is_editing : Stage → Bool
 is_editing (opening l) = false
 is_editing (editing r l) = true

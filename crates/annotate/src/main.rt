@@ -8,11 +8,11 @@
 
 mod says;
 
-ghost use Rattle.std.specs.Prelude.{◌≡◌, true, List, ℕ, ◌≤◌, length, take};
+ghost use Rattle.std.specs.Prelude.{◌≡◌, true, false, List, ℕ, ◌≤◌, length, take};
 ghost use Rattle.text_answers.specs.Stage.{is_ended};
 ghost use Rattle.text_gather.specs.Steps.{after, Steps};
 ghost use Rattle.text_lines.specs.Memory.{stage_of, Rooms, Keeps};
-ghost use Rattle.annotate.specs.Turns.{piece_room, next_by, is_read, Turned};
+ghost use Rattle.annotate.specs.Turns.{piece_room, next_by, is_read, unwritten_status, Turned};
 
 use rules::Written;
 use says::{hint_return, say_unread, say_unwritten};
@@ -72,7 +72,9 @@ struct Put {
     closed: bool,
 }
 
-fn send(stdout: &mut Stdout, bytes: &[u8]) -> Sent {
+fn send(stdout: &mut Stdout, bytes: &[u8]) -> Sent
+    ensures { result.written ≡ true → result.closed ≡ false }
+{
     match stdout.write_all(bytes) {
         Ok(()) => Sent {
             written: true,
@@ -253,7 +255,9 @@ fn run_reads(
 }
 
 // Says that answers are missing, unless nobody reads them any more, and gives the exit status.
-fn end_unwritten(stderr: &mut Stderr, closed: bool) -> u8 {
+fn end_unwritten(stderr: &mut Stderr, closed: bool) -> u8
+    ensures { result ≡ unwritten_status closed }
+{
     if closed {
         return CLOSED;
     }
@@ -298,6 +302,8 @@ fn end_run(
 ) -> u8
     requires rooms { Rooms line.old letters.old protein.old }
     requires keeps { Keeps turn.state letters.old protein.old }
+    ensures unread { turn.next ≡ Next.Unread → result ≡ 1 }
+    ensures unwritten { turn.next ≡ Next.Unwritten → result ≡ unwritten_status turn.closed }
 {
     let state = turn.state;
     let next = turn.next;

@@ -2,27 +2,26 @@
 -- Assumes nothing.
 use Rattle.std.specs.Prelude.{if◌then◌else◌}
 use mathlib.Core.Path.{◌≡◌, refl, sym, ap, ◌∙◌}
-use mathlib.Core.Bool.{Bool, true, false, not, ◌&&◌, ◌||◌}
+use mathlib.Core.Bool.{Bool, true, false, not}
 use mathlib.Core.List.{List, [], ◌∷◌}
-use Prim.Native.Nat.{ℕ, zero, suc, ◌+◌, ◌-◌, ◌≤◌, ◌<◌}
+use Prim.Native.Nat.{ℕ, ◌-◌, ◌≤◌, ◌<◌}
 use native.Mathlib.Omega.{arith}
 use lib.Dec.{eqb, ltb}
 use lib.ListN.{length, drop, length-drop, drop_of_length-le}
 use borrow.Author.Tests.{ltb-false}
-use Rattle.rules.specs.declared.Cds.{Cds}
 use Rattle.rules.specs.declared.Exception.{Exception}
 use Rattle.rules.specs.declared.Exceptions.{Exceptions}
-use Rattle.rules.specs.Bytes.{byte, is_none, same, count, first_number}
+use Rattle.rules.specs.Bytes.{byte, is_none, same, count}
 use Rattle.rules.specs.Codons.{residue_x, codon}
 use Rattle.rules.specs.Translation.{exception_list, excepted, residues_from, translated, through_stop}
 use Rattle.rules.specs.Trims.{common_prefix}
-use Rattle.rules.specs.Reference.{Reference, size, reference_protein}
-use Rattle.rules.specs.Edit.{Asked, ends_past, edit_tests}
-use Rattle.rules.specs.Altered.{swap, altered_transcript, altered_length}
+use Rattle.rules.specs.Reference.{Reference, reference_protein}
+use Rattle.rules.specs.Edit.{Asked, ends_past}
+use Rattle.rules.specs.Altered.{altered_transcript}
 use Rattle.rules.specs.Exceptions.{moved_all, moved_exceptions}
-use Rattle.rules.specs.Protein.{protein_of, altered_protein}
+use Rattle.rules.specs.Protein.{protein_of}
 use Rattle.rules.specs.Record.{is_unknown}
-use Rattle.rules.specs.Refusal.{limits, refusal, Room, room_refusal}
+use Rattle.rules.specs.Refusal.{limits}
 use Rattle.rules.specs.Check.{is_changed}
 use Rattle.rules.specs.Views.{bare, asked, reference_of}
 use Rattle.rules.proofs.Tests.{or_left}
@@ -30,13 +29,9 @@ use Rattle.rules.proofs.Altered.{altered_length_lem}
 use Rattle.rules.proofs.Refusal.{reference-accepted}
 use Rattle.rules.proofs.Span.{span}
 use Rattle.reference.specs.declared.Known.{Known}
-use Rattle.reference.specs.Known.{Knows}
 use Rattle.reference.proofs.Checking.{sound}
 use Rattle.edits.specs.declared.plans.Plan.{Plan}
-use Rattle.edits.specs.declared.decision.Decision.{Decision}
-use Rattle.edits.specs.declared.decision.Decision.TheVariants as decision
 use Rattle.edits.specs.Plans.{plan_of}
-use Rattle.edits.specs.Decisions.{decision_of}
 use Rattle.edits.proofs.Planning.{planned}
 use Rattle.exceptions.specs.Moving.{Given}
 use Rattle.exceptions.proofs.Moving.{given-of, moved_is}

@@ -4,7 +4,7 @@ use Rattle.std.specs.Prelude.{if◌then◌else◌}
 use mathlib.Core.Path.{◌≡◌, refl, sym, ap, subst, ◌∙◌}
 use mathlib.Core.Bool.{Bool, true, false, not}
 use mathlib.Core.List.{List, [], ◌∷◌}
-use Prim.Native.Nat.{ℕ, zero, suc, ◌+◌, ◌-◌, ◌≤◌}
+use Prim.Native.Nat.{ℕ, zero, suc, ◌≤◌}
 use native.Mathlib.Omega.{arith}
 use lib.ListN.{length, take}
 use lib.Seq.{take-length, take-take}
@@ -15,17 +15,15 @@ use Rattle.rules.specs.declared.Verdict.{Verdict}
 use Rattle.rules.specs.declared.Check.{Check}
 use Rattle.rules.specs.declared.Check.TheVariants as check
 use Rattle.rules.specs.Bytes.{over, ◌↯◌, first_number}
-use Rattle.rules.specs.Translation.{residue_count}
 use Rattle.rules.specs.Reference.{Reference, cds_size, reference_protein}
 use Rattle.rules.specs.Edit.{Asked}
 use Rattle.rules.specs.Altered.{altered_transcript}
 use Rattle.rules.specs.Protein.{altered_protein}
 use Rattle.rules.specs.Record.{is_unknown}
 use Rattle.rules.specs.Refusal.{limits, reference_refusal, refusal, Room, room_refusal}
-use Rattle.rules.specs.Check.{Proposal, replays, is_shortest, is_changed, is_proposal, proposal_tests, CheckOutcome, checks_nothing, verdict_of, checks_all, check_by, check_outcome}
+use Rattle.rules.specs.Check.{Proposal, is_changed, is_proposal, proposal_tests, CheckOutcome, checks_nothing, verdict_of, checks_all, check_by, check_outcome}
 use Rattle.rules.specs.Views.{bare, asked, reference_of}
 use Rattle.rules.proofs.Refusal.{refused-reference}
-use Rattle.rules.proofs.Reference.{protein_read}
 use Rattle.reference.specs.declared.Known.{Known}
 use Rattle.reference.specs.Known.{Knows}
 use Rattle.reference.proofs.Checking.{residues-is}
@@ -39,7 +37,7 @@ use Rattle.altseq.specs.Carried.{protein_by, Carries}
 use Rattle.altseq.specs.Decided.{decided_in}
 use Rattle.altseq.proofs.Whole.{room_with, left, carries, room_for, protein-length}
 use Rattle.checks.specs.Changing.{changing_by, changing_in}
-use Rattle.checks.specs.Checking.{CheckAnswers, Holds, verdict_by, judged_outcome, decided_check, reference_in, Copies}
+use Rattle.checks.specs.Checking.{CheckAnswers, Holds, verdict_by, judged_outcome, decided_check, reference_in}
 use Rattle.checks.proofs.Deciding.{changed-goes}
 
 -- what a plan makes is what the edit makes
