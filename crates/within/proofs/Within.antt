@@ -1,7 +1,7 @@
 -- Laws of the longest edit of a call: 62 changes no byte, and any other call is answered as at the module's own limits, of the new bases as they are
 -- handed on.
 -- Assumes nothing.
-use mathlib.Core.Path.{◌≡◌, refl, sym, ap, ◌∙◌}
+use mathlib.Core.Path.{◌≡◌, refl, sym, ◌∙◌}
 use mathlib.Core.Bool.{Bool, true, false, not}
 use mathlib.Core.List.{List, []}
 use Prim.Native.Nat.{ℕ}
@@ -20,7 +20,7 @@ use Rattle.rules.specs.Reference.{Reference}
 use Rattle.rules.specs.Edit.{Asked}
 use Rattle.rules.specs.Altered.{altered_transcript, altered_length, frameshift}
 use Rattle.rules.specs.Record.{is_unknown}
-use Rattle.rules.specs.Refusal.{limits, refusal, Room}
+use Rattle.rules.specs.Refusal.{limits, Room}
 use Rattle.rules.specs.Answer.{writes_nothing, outcome, Answers}
 use Rattle.rules.specs.Check.{Proposal, checks_nothing, check_outcome}
 use Rattle.rules.specs.Pair.{PairRoom, PairOutcome, pair_by, pair_limits, pair_outcome, Pairs}

@@ -8,11 +8,11 @@ use Rattle.entries.proofs.halves_at.Goals as goal
 pub returns-then-place-eq0 : goal.returns-then-place-eq0
 returns-then-place-eq0 c =
     let a = c.args in
-    let bytes : (k : ℕ) → get_or a.packed.now k 0 < 256 = λ k. omega (arith, c.shared_slice_known-1.given k) in
+    let bytes : (k : ℕ) → get_or a.packed.now k 0 < 256 = λ k. omega (arith, c.type_inv.packed k) in
     record { value = cc (even-halves a.packed.now bytes a.place c.if-place-eq0.true); small = omega (arith, c.wide.ensures.small, c.wide-2.ensures.small) }
 
 pub returns : goal.returns
 returns c =
     let a = c.args in
-    let bytes : (k : ℕ) → get_or a.packed.now k 0 < 256 = λ k. omega (arith, c.shared_slice_known-1.given k) in
+    let bytes : (k : ℕ) → get_or a.packed.now k 0 < 256 = λ k. omega (arith, c.type_inv.packed k) in
     record { value = cc (odd-halves a.packed.now bytes a.place c.if-place-eq0.false); small = omega arith }

@@ -9,7 +9,6 @@ use Rattle.stored_fields.proofs.Reading.{refuses}
 use Rattle.stored.proofs.Judged.{read-refused, none-joined, unfound, refused-at, is-joined, not-fitted, reads_at}
 use Rattle.stored.proofs.read.read_stored.Goals as goal
 
--- `stored::read::read_stored` meets its contract. Assumes nothing.
 -- nothing is written
 untouched : (w d : List ℕ) → w ≡ [] → d ≡ over w d
 unfolding over
