@@ -12,9 +12,9 @@ use Rattle.bytewise.specs.Find.{index_of}
 use Rattle.rules.specs.Bytes.{over}
 use Rattle.rules.specs.Run.{line_feed}
 use Rattle.rules.proofs.Over.{length_over, lent_on_by, tail-is}
-use Rattle.text_answers.specs.Stage.{Stage, ended, next_line, answered}
+use Rattle.text_answers.specs.Stage.{Stage, next_line, answered}
 use Rattle.text_gather.specs.Steps.{longer, after, printed, Moves, Full, Steps}
-use Rattle.text_gather.proofs.Pieces.{after-append, printed-append, after_ended, printed_ended, after_feed, printed_feed, after_plain, printed_plain, Short, Plain}
+use Rattle.text_gather.proofs.Pieces.{after-append, printed-append, after_feed, printed_feed, after_plain, printed_plain, Short, Plain}
 use Rattle.text_gather.proofs.Feeds.{plain_before, feed_at}
 
 -- nothing taken

@@ -4,7 +4,8 @@ use Rattle.text_gather.proofs.Gathering.{gathers}
 use Rattle.text_gather.proofs.gather.Goals as goal
 
 pub returns : goal.returns
-returns c = let args = c.args in
+returns c =
+    let args = c.args in
     let pre = c.requires in
     let find = c.find-end in
     let hold = c.hold in

@@ -3,7 +3,8 @@ use Rattle.text_gather.proofs.Gathering.{gathered}
 use Rattle.text_gather.proofs.hold.Goals as goal
 
 pub returns : goal.returns
-returns c = let args = c.args in
+returns c =
+    let args = c.args in
     let pre = c.requires in
     let least = c.least-n in
     let copy = c.copy in
