@@ -3,8 +3,8 @@
 use Rattle.std.specs.Prelude.{if◌then◌else◌}
 use mathlib.Core.Path.{◌≡◌, refl, sym, ap, ◌∙◌}
 use mathlib.Core.Bool.{Bool, true, false, ◌&&◌, not}
-use mathlib.Core.List.{List, [], ◌∷◌, ◌++◌}
-use Prim.Native.Nat.{ℕ, zero, suc, ◌%◌, ◌<◌, ◌≤◌}
+use mathlib.Core.List.{List, [], ◌∷◌}
+use Prim.Native.Nat.{ℕ, zero, suc, ◌%◌, ◌<◌}
 use native.Mathlib.Decide.{dec_lt, ℕ_discrete}
 use native.Mathlib.Omega.{arith}
 use lib.Dec.{leb}
@@ -12,11 +12,10 @@ use lib.ListN.{length}
 use borrow.Author.Tests.{eq-eqb, ne_eqb, lt-leb}
 use Rattle.rules.specs.declared.Exception.{Exception}
 use Rattle.rules.specs.declared.Limits.{Limits}
-use Rattle.rules.specs.declared.Answer.TheVariants as answer
-use Rattle.rules.specs.Bytes.{all, first_number, Result, refused, unless}
+use Rattle.rules.specs.Bytes.{all, first_number, refused, unless}
 use Rattle.rules.specs.Letters.{is_letter}
 use Rattle.rules.specs.Codons.{is_table}
-use Rattle.rules.specs.Translation.{no_exception, exception_list, is_residue, are_exceptions, folded_translated, translation_tests, translation}
+use Rattle.rules.specs.Translation.{no_exception, exception_list, are_exceptions, folded_translated, translation_tests, translation}
 use Rattle.rules.specs.Reference.{Reference, size, is_size, cds_size, are_bounds, codons, are_rising, fit_exceptions, reference_tests}
 use Rattle.rules.specs.Edit.{Asked}
 use Rattle.rules.specs.Refusal.{Room, reference_refusal, refusal}

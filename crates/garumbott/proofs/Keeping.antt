@@ -1,9 +1,9 @@
 -- What a host is told of a stored reference, case by case. Assumes nothing.
-use mathlib.Core.Path.{◌≡◌, refl, sym, ap, ◌∙◌}
+use mathlib.Core.Path.{◌≡◌, sym, ap, ◌∙◌}
 use mathlib.Core.List.{List}
 use Prim.Native.Nat.{ℕ, ◌+◌, ◌≤◌}
-use Rattle.rules.specs.Bytes.{Result, given, refused}
-use Rattle.rules.specs.Reference.{Reference, size}
+use Rattle.rules.specs.Bytes.{given, refused}
+use Rattle.rules.specs.Reference.{size}
 use Rattle.rules.specs.Refusal.{limits}
 use Rattle.rules.specs.Stored.{read_reference}
 use Rattle.stored_fields.specs.declared.field_places.StoredAt.{StoredAt}

@@ -1,6 +1,6 @@
 -- What a host's numbers are answered with the longest edit of a call, exceptions held or read.
 -- Assumes nothing.
-use mathlib.Core.Path.{◌≡◌, refl}
+use mathlib.Core.Path.{◌≡◌}
 use mathlib.Core.List.{List}
 use Prim.Native.Nat.{ℕ}
 use Rattle.rules.specs.declared.Cds.{Cds}
