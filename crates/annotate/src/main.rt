@@ -72,6 +72,7 @@ struct Put {
     closed: bool,
 }
 
+// Writes bytes out.
 fn send(stdout: &mut Stdout, bytes: &[u8]) -> Sent
     ensures { result.written ≡ true → result.closed ≡ false }
 {

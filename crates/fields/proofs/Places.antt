@@ -1,6 +1,9 @@
 -- Laws of places: what a field at a place holds, what stands behind it, and where a content is looked for.
 -- Assumes nothing.
 use Rattle.std.specs.Prelude.{if◌then◌else◌}
+use denote.Enum.Declared.{tag_of}
+use types.Run.{OneOf, miss}
+use Rattle.fields.specs.contracts.reader.Field.{the_type}
 use mathlib.Core.Path.{◌≡◌, refl, sym, ap, ◌∙◌}
 use mathlib.Core.Bool.{Bool, true, false}
 use mathlib.Core.List.{List, [], ◌∷◌}
@@ -18,6 +21,12 @@ use Rattle.fields.specs.declared.reader.Field.{Field}
 use Rattle.fields.specs.declared.reader.Field.TheVariants.{Whole, Cut, End}
 use Rattle.fields.specs.declared.lookup.Content.TheVariants.{At, Missing}
 use Rattle.fields.specs.Places.{placed, field_at, Within, whole_then, whole_from, whole_fields, place_of, content_at}
+
+-- a field that is cut off, or none
+pub not_whole : (f : Field) → OneOf (1 ∷ 2 ∷ []) (tag_of the_type f) → (t : ℕ) (p : Part) → f ≡ Whole t p → ⊥
+not_whole (Whole x q) h t p e = miss (1 ∷ 2 ∷ []) 0 tt h
+not_whole (Cut x) h t p e = let z : ◌≡◌ {A = ℕ} 0 1 = cc in omega arith
+not_whole End h t p e = let z : ◌≡◌ {A = ℕ} 0 1 = cc in omega arith
 
 pub length_of_part : (s : List ℕ) (p : Part) → p.at + p.len ≤ length s → length (part_of p s) ≡ p.len
 unfolding part_of
