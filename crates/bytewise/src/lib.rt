@@ -4,14 +4,17 @@
 ghost use Rattle.std.specs.Prelude.{◌≡◌, ◌+◌, ◌≤◌, ◌++◌, length, take, drop};
 ghost use Rattle.bytewise.specs.Find.{index_of, slice};
 
-// Copies src to dst's start, and answers how many bytes that were.
+// Copies src to dst's start, and answers how many bytes that were. A loop, which the compiler makes memcpy or wide moves of: std's copy_from_slice wants
+// memmove, which a host of the archive need not have.
 pub fn copy(src: &[u8], dst: &mut [u8]) -> usize
     requires { length src.now ≤ length dst.old }
     ensures count { result ≡ length src.now }
     ensures after { dst.new ≡ take (length src.now) src.now ++ drop (length src.now) dst.old }
 {
     let n = src.len();
-    dst[..n].copy_from_slice(src);
+    for i in 0..n {
+        dst[i] = src[i];
+    }
     n
 }
 
