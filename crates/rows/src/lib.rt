@@ -2,7 +2,7 @@
 // aren't all X.
 #![tactic(auto)]
 
-ghost use Rattle.std.specs.Prelude.{◌≡◌, ℕ, ◌+◌, ◌*◌, ◌<◌, eqb, length, get_or, if◌then◌else◌};
+ghost use Rattle.std.specs.Prelude.{◌≡◌, ℕ, ◌+◌, ◌*◌, ◌<◌, eqb, length, get_or, replicate, if◌then◌else◌};
 ghost use Rattle.rows.specs.Rows.{row_in, HoldsRows, HoldsLetters};
 
 use numbers::wide;
@@ -40,18 +40,28 @@ fn put_third(rows: &[u8; 352], c: usize, all: &mut [u8])
     }
 }
 
-// The residues of all codons of letters, by the numbers of their letters: third * 256 + first * 16 + second.
+// Lays the residues of all codons of letters over a table of X, by the numbers of their letters: third * 256 + first * 16 + second. The table is
+// lent, so that no call makes room for it twice.
+pub fn lay_residues(table: usize, all: &mut [u8; 4096])
+    requires table_bound { table < 3 }
+    requires all_value { all.old ≡ replicate 4096 88 }
+    ensures { HoldsLetters table all.new }
+{
+    let rows = rows_of(table);
+    let mut c = 0;
+    while c < 16 {
+        put_third(&rows, c, all);
+        c += 1;
+    }
+}
+
+// The residues of all codons of letters, by the numbers of their letters.
 pub fn residues_by_number(table: usize) -> [u8; 4096]
     requires { table < 3 }
     ensures { HoldsLetters table result }
 {
-    let rows = rows_of(table);
     let mut all = [b'X'; 4096];
-    let mut c = 0;
-    while c < 16 {
-        put_third(&rows, c, &mut all);
-        c += 1;
-    }
+    lay_residues(table, &mut all);
     all
 }
 

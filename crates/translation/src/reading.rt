@@ -12,7 +12,7 @@ use codon_reader::read_by_plain;
 use codons::tables::plain_code;
 use letters::{is_base_letter, set_of_letter};
 use places::{entries_at, entry_at, pair_at, place_at};
-use rows::residues_by_number;
+use rows::lay_residues;
 
 // Writes the residues of bases, without exceptions, to the buffer's start: four codons at a time, then those that are left.
 fn write_plain(seq: &[u8], table: usize, code: &[u8; 64], out: &mut [u8])
@@ -152,7 +152,8 @@ fn write_long(seq: &[u8], table: usize, out: &mut [u8])
     requires seq_in_bounds { residue_count (length seq.now) ≤ length out.old }
     ensures { out.new ≡ over (folded_translated table [] seq.now) out.old }
 {
-    let residues = residues_by_number(table);
+    let mut residues = [b'X'; 4096];
+    lay_residues(table, &mut residues);
     write_any(seq, table, &residues, out);
 }
 

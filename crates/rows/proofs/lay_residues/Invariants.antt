@@ -1,6 +1,6 @@
 use Prim.Native.Nat.{◌-◌, ◌≤◌}
 use Rattle.rows.proofs.Rowed.{Laid}
-use Rattle.rows.proofs.residues_by_number.Given as goal
+use Rattle.rows.proofs.lay_residues.Given as goal
 
 abbrev pub invariant-loop-c : goal.invariant-loop-c
 invariant-loop-c l = (l.c ≤ 16) × Laid l.rows l.all l.c
