@@ -124,9 +124,9 @@ def main():
         if new != text:
             with open(path, "w", encoding="utf-8") as f:
                 f.write(new)
+    for old, new in sorted(to.items()):
+        print(old, new)
     print(f"{len(to)} names")
-    with open("/tmp/port_names.txt", "w", encoding="utf-8") as f:
-        f.writelines(f"{a} {b}\n" for a, b in sorted(to.items()))
 
 
 if __name__ == "__main__":
