@@ -46,3 +46,16 @@ pub fn all_bytes<F: Fn(u8) -> bool>(s: &[u8], test: F) -> bool
     }
     good
 }
+
+// The same by blocks of 256. The first block with a byte that fails ends it.
+pub fn all_blocks<F: Fn(u8) -> bool>(s: &[u8], test: F) -> bool
+    requires callable { F.IsAlwaysCallable test }
+    ensures value { (p : ℕ → Bool) → Computes (F.post test) p → result ≡ all p s.now }
+{
+    for block in s.chunks(256) {
+        if !all_bytes(block, &test) {
+            return false;
+        }
+    }
+    true
+}
