@@ -13,6 +13,7 @@ use mixes::join;
 const BITS: [usize; 4] = [8, 2, 1, 4];
 
 // The residues of the 64 plain codons, first base slowest, order T, C, A, G: the three codes of the tables.
+// Kept: a list of its own, in the order of `genetic_code`: that of `codons` is by the numbers of letters, and this reader is compared with it.
 const STANDARD: [u8; 64] = *b"FFLLSSSSYY**CC*WLLLLPPPPHHQQRRRRIIIMTTTTNNKKSSRRVVVVAAAADDEEGGGG";
 
 const SELENOCYSTEINE: [u8; 64] =
@@ -44,13 +45,11 @@ fn expand(table: usize, sets: [usize; 3], left: usize, place: usize, found: u8) 
     }
     let letter = sets[3 - left];
     let mut all = found;
-    let mut base = 0;
-    while base < 4 {
+    for base in 0..4 {
         let bit = BITS[base];
         if letter / bit % 2 == 1 {
             all = expand(table, sets, left - 1, place * 4 + base, all);
         }
-        base += 1;
     }
     all
 }
@@ -123,6 +122,7 @@ fn read_third(table: usize, code: &[u8; 64], pair: usize, c: usize) -> u8
 
 // The two pairs of bases that a mixed pair of sets stands for, a hexadecimal digit each, of RA, SA, TR, YT and MG. No other mixed pair agrees on a
 // residue, whatever the third letter: 0.
+// Kept: 0 for none, as the definition `two_pairs` has it; an Option would be made here and taken apart at the one call.
 fn two_pairs(sets: usize) -> usize
     ensures value { result ≡ two_pairs sets }
     ensures small { result < 256 }

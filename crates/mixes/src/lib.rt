@@ -33,6 +33,7 @@ fn mix(found: u8, residue: u8) -> u8
 }
 
 // A residue beside what was found so far, which is 0 where there is none yet.
+// Kept: 0 for none, as the definition `joined` has it; with an Option the reader of codons would fold one, and unwrap it at its end.
 pub fn join(found: u8, residue: u8) -> u8
     ensures { result ≡ joined found residue }
 {

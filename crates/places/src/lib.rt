@@ -4,14 +4,14 @@
 ghost use Rattle.std.specs.Prelude.{◌≡◌, ◌+◌, ◌*◌, ◌/◌, ◌%◌, ◌<◌, ◌≤◌, length};
 ghost use Rattle.places.specs.Places.{place_at, entry_at, entries_of, three_at};
 
-use numbers::{eight_at, wide};
+use numbers::eight_at;
 
 // Three bytes from place k on as one number, the first lowest.
 fn three_at(s: &[u8], k: usize) -> usize
     requires { k + 3 ≤ length s.now }
     ensures { result ≡ three_at s.now k }
 {
-    wide(s[k]) + wide(s[k + 1]) * 256 + wide(s[k + 2]) * 65536
+    usize::from(s[k]) + usize::from(s[k + 1]) * 256 + usize::from(s[k + 2]) * 65536
 }
 
 // The places of plain codons i and i + 1 among the 64: from bit 17 on, and from bit 41 on, six bits each. The mask keeps each letter's number
@@ -25,18 +25,20 @@ pub fn pair_at(seq: &[u8], i: usize) -> usize
 }
 
 // The place of plain codon i among the 64, by the numbers of its letters.
+#[tactic(auto, unfolding(crate::specs::Places::place_at))]
 pub fn place_at(seq: &[u8], i: usize) -> usize
     requires { i < length seq.now / 3 }
     ensures { result ≡ place_at seq.now i }
 {
-    let a = wide(seq[i * 3]) / 2 % 4;
-    let b = wide(seq[i * 3 + 1]) / 2 % 4;
-    let c = wide(seq[i * 3 + 2]) / 2 % 4;
+    let a = usize::from(seq[i * 3]) / 2 % 4;
+    let b = usize::from(seq[i * 3 + 1]) / 2 % 4;
+    let c = usize::from(seq[i * 3 + 2]) / 2 % 4;
     a * 16 + b * 4 + c
 }
 
 // The places of the two codons of six letters among the 4,096: from bit 10 on, and from bit 34 on, twelve bits each. The masks and the sum leave
 // each letter's number in bits 2 to 5 of its byte, and the product brings the three of a codon together.
+#[tactic(auto, unfolding(crate::specs::Places::entries_of))]
 fn entries_of(six: usize) -> usize
     ensures { result ≡ entries_of six }
 {

@@ -15,22 +15,20 @@ returns-then-left-eq0 t c =
 pub loop-base-init : goal.loop-base-init
 loop-base-init t c =
     let a = c.args in
-    (omega arith, ap (joined_all a.found) (sym (expanded_one a.left a.table a.place a.sets c.if-left-eq0.false)))
+    ap (joined_all a.found) (sym (expanded_one a.left a.table a.place a.sets c.if-left-eq0.false))
 
 pub loop-base-preserved : goal.loop-base-preserved
 loop-base-preserved t c =
     let a = c.args in
     let letter : ℕ = get_or a.sets (3 - a.left) 0 in
-    let rest : ℕ → List ℕ = λ i. expanded (a.left - 1) a.table a.sets (a.place * 4 + i) in (
-      omega arith,
-      elim c.if-letter-bit-eq1.branch [
-        | then-letter-bit-eq1 w ↦ rw (w.all-is, w.expand-all.ensures) (turn_in letter c.loop-base.base c.loop-base.all _ rest c.loop-base-test.true w.if-letter-bit-eq1.true c.loop-base.invariant.1)
-        | else-letter-bit-eq1 w ↦ rw w.all-is (turn_out letter c.loop-base.base c.loop-base.all _ rest c.loop-base-test.true w.if-letter-bit-eq1.false c.loop-base.invariant.1)
-      ],
-    )
+    let rest : ℕ → List ℕ = λ i. expanded (a.left - 1) a.table a.sets (a.place * 4 + i) in
+    elim c.if-letter-bit-eq1.branch [
+      | then-letter-bit-eq1 w ↦ rw (w.all-is, w.expand-all.ensures) (turn_in letter c.loop-base.base c.loop-base.all _ rest c.loop-base-test.true w.if-letter-bit-eq1.true c.loop-base.invariant)
+      | else-letter-bit-eq1 w ↦ rw w.all-is (turn_out letter c.loop-base.base c.loop-base.all _ rest c.loop-base-test.true w.if-letter-bit-eq1.false c.loop-base.invariant)
+    ]
 
 pub returns : goal.returns
 unfolding joined_all
 returns t c =
     let done : c.loop-base.base ≡ 4 = omega arith in
-    rw done at c.loop-base.invariant.1
+    rw done at c.loop-base.invariant
