@@ -15,13 +15,15 @@ fn equal_blocks<const N: usize>(a: &[u8], b: &[u8], k: usize) -> usize
     ensures passes_equal { k + common_prefix (drop k a.now) (drop k b.now) ≡ result + common_prefix (drop result a.now) (drop result b.now) }
     ensures few { common_prefix (drop result a.now) (drop result b.now) < N * 8 }
 {
-    let n = a.len().min(b.len());
-    for i in (k..n).step_by(N * 8) {
-        if n - i < N * 8 || !same_eights::<N>(a, b, i) {
+    let size = N * 8;
+    let blocks = (a.len().min(b.len()) - k) / size;
+    for j in 0..blocks {
+        let i = k + j * size;
+        if !same_eights::<N>(a, b, i) {
             return i;
         }
     }
-    n
+    k + blocks * size
 }
 
 pub fn common_prefix_len(a: &[u8], b: &[u8]) -> usize
