@@ -19,7 +19,7 @@ use Rattle.rules.proofs.Tests.{all_take, all_drop, all_both}
 use Rattle.rules.proofs.Lists.{all_at}
 use Rattle.rules.proofs.Complement.{complement-last, letters-complement}
 use Rattle.rules.proofs.Parts.{letters-part}
-use Rattle.rules.proofs.Refusal.{reference-accepted}
+use Rattle.rules.proofs.Refusing.{reference-accepted}
 use Rattle.rules.proofs.Span.{span}
 use Rattle.rules.proofs.Altered.{altered_length_lem, longest_altered, altered-fits}
 use Rattle.letters.proofs.Sets.{letter_some}

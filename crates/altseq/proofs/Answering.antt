@@ -19,7 +19,7 @@ use Rattle.rules.specs.Record.{is_unknown, silent_number}
 use Rattle.rules.specs.Refusal.{reference_refusal, refusal, Room, room_refusal}
 use Rattle.rules.specs.Answer.{Outcome, writes_nothing, full_report, writes_all, outcome, Answers}
 use Rattle.rules.specs.Views.{bare, reference_of}
-use Rattle.rules.proofs.Refusal.{refused-reference, refused-edit}
+use Rattle.rules.proofs.Refusing.{refused-reference, refused-edit}
 use Rattle.rules.proofs.Altered.{altered_length_lem}
 use Rattle.rules.proofs.Answers.{refused-by, unknown-by, room_by as room_refused, all-by}
 use Rattle.rules.proofs.Records.{record-known}

@@ -29,7 +29,7 @@ use Rattle.rules.proofs.Tests.{or_left}
 use Rattle.rules.proofs.Over.{tail-is}
 use Rattle.rules.proofs.Translation.{length_through}
 use Rattle.rules.proofs.Parts.{length_part, letters-part}
-use Rattle.rules.proofs.Refusal.{reference-accepted, edit-allowed}
+use Rattle.rules.proofs.Refusing.{reference-accepted, edit-allowed}
 use Rattle.rules.proofs.Span.{indexes_of}
 use Rattle.rules.proofs.Carried.{part_behind}
 use Rattle.rules.proofs.Kept.{nothing, cut-span}

@@ -19,7 +19,7 @@ use Rattle.rules.specs.Altered.{altered_transcript, altered_length, frameshift}
 use Rattle.rules.specs.Record.{is_unknown}
 use Rattle.rules.specs.Refusal.{limits, reference_refusal, refusal}
 use Rattle.rules.specs.Views.{bare, reference_of}
-use Rattle.rules.proofs.Refusal.{refused-reference}
+use Rattle.rules.proofs.Refusing.{refused-reference}
 use Rattle.reference.specs.declared.Known.{Known}
 use Rattle.reference.specs.declared.Checked.{Checked}
 use Rattle.reference.specs.declared.Checked.TheVariants as checked

@@ -26,7 +26,7 @@ use Rattle.rules.specs.Check.{is_changed}
 use Rattle.rules.specs.Views.{bare, asked, reference_of}
 use Rattle.rules.proofs.Tests.{or_left}
 use Rattle.rules.proofs.Altered.{altered_length_lem}
-use Rattle.rules.proofs.Refusal.{reference-accepted}
+use Rattle.rules.proofs.Refusing.{reference-accepted}
 use Rattle.rules.proofs.Span.{span}
 use Rattle.reference.specs.declared.Known.{Known}
 use Rattle.reference.proofs.Checking.{sound}

@@ -23,7 +23,7 @@ use Rattle.rules.specs.Record.{is_unknown}
 use Rattle.rules.specs.Refusal.{limits, reference_refusal, refusal, Room, room_refusal}
 use Rattle.rules.specs.Check.{Proposal, is_changed, is_proposal, proposal_tests, CheckOutcome, checks_nothing, verdict_of, checks_all, check_by, check_outcome}
 use Rattle.rules.specs.Views.{bare, asked, reference_of}
-use Rattle.rules.proofs.Refusal.{refused-reference}
+use Rattle.rules.proofs.Refusing.{refused-reference}
 use Rattle.reference.specs.declared.Known.{Known}
 use Rattle.reference.specs.Known.{Knows}
 use Rattle.reference.proofs.Checking.{residues-is}

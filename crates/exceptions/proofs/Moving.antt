@@ -23,7 +23,7 @@ use Rattle.rules.specs.Refusal.{refusal}
 use Rattle.rules.proofs.Over.{tail-is}
 use Rattle.rules.proofs.Translation.{length_exceptions, first_exceptions}
 use Rattle.rules.proofs.Reference.{Excepts, rising_cons, rising_of, rising_at}
-use Rattle.rules.proofs.Refusal.{reference-accepted}
+use Rattle.rules.proofs.Refusing.{reference-accepted}
 use Rattle.rules.proofs.Moved.{moved_to, suffix_fits, before-cds_shared, cds_fits}
 use Rattle.rules.proofs.Altered.{altered_length_lem, longest_altered, altered-fits}
 use Rattle.exceptions.specs.Moving.{left_of, Moves, Given, Rises, Lengths, Shared}

@@ -20,7 +20,7 @@ use Rattle.rules.specs.Refusal.{refusal}
 use Rattle.rules.specs.Pair.{touched_from, touched_to, is_ahead, are_apart, pair_transcript, pair_protein, pair_length}
 use Rattle.rules.specs.Views.{asked, reference_of}
 use Rattle.rules.proofs.Tests.{all_take, all_drop, all_both}
-use Rattle.rules.proofs.Refusal.{refused-edit}
+use Rattle.rules.proofs.Refusing.{refused-edit}
 use Rattle.rules.proofs.Span.{span}
 use Rattle.rules.proofs.Altered.{puts}
 use Rattle.rules.proofs.Pairs.{five_parts, InOrder, Touches, in_order, pair-front, pair-back, pair-length, touches_of, kept_whole, Joins, joins}

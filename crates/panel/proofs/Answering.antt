@@ -16,7 +16,7 @@ use Rattle.rules.specs.Refusal.{limits, Room, reference_refusal, refusal}
 use Rattle.rules.specs.Answer.{outcome, Answers}
 use Rattle.rules.specs.Views.{bare, reference_of, room_of}
 use Rattle.rules.specs.Panel.{has_bases, names_base, profile_tests, panel_outcome}
-use Rattle.rules.proofs.Refusal.{refused-reference, refused-edit}
+use Rattle.rules.proofs.Refusing.{refused-reference, refused-edit}
 use Rattle.rules.proofs.Answers.{refused-by}
 use Rattle.rules.proofs.Panels.{panel-is, accepted-is}
 use Rattle.altseq.proofs.Answering.{writes_nothing_lem}

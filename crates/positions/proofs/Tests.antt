@@ -15,7 +15,7 @@ use Rattle.rules.specs.Reference.{Reference}
 use Rattle.rules.specs.Position.{is_outside}
 use Rattle.rules.specs.Edit.{Asked, is, kind_of, ends_past, is_misplaced, are_new_bases, fit_bases, edit_tests}
 use Rattle.rules.proofs.Tests.{and_left, and_right, or_left, or_right}
-use Rattle.rules.proofs.Refusal.{Allowed, allowed}
+use Rattle.rules.proofs.Refusing.{Allowed, allowed}
 use Rattle.rules.proofs.Span.{Indexes, indexes_of}
 use Rattle.reference.specs.Bounds.{Sound}
 

@@ -21,7 +21,7 @@ use Rattle.rules.specs.Edit.{Asked, is, kind_of, start_place, start_index, end_i
 use Rattle.rules.specs.Altered.{part, swap_by, swap, deleted, inserted, is_uneven}
 use Rattle.rules.specs.Panel.{is_panel_kind, is_inside, has_bases, is_of_panel, names_base, profile_tests}
 use Rattle.rules.proofs.Tests.{and_left, and_right}
-use Rattle.rules.proofs.Refusal.{Allowed}
+use Rattle.rules.proofs.Refusing.{Allowed}
 use Rattle.rules.proofs.Reference.{Bounds}
 use Rattle.rules.proofs.Span.{Indexes}
 use Rattle.indexes.proofs.Inside.{in-cds}

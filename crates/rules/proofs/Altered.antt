@@ -24,7 +24,7 @@ use Rattle.rules.specs.Refusal.{refusal}
 use Rattle.rules.proofs.Tests.{and_left, and_right, all_take, all_drop, all_both}
 use Rattle.rules.proofs.Complement.{length-complement, letters-complement}
 use Rattle.rules.proofs.Parts.{letters-part}
-use Rattle.rules.proofs.Refusal.{reference-accepted, edit-allowed}
+use Rattle.rules.proofs.Refusing.{reference-accepted, edit-allowed}
 use Rattle.rules.proofs.Span.{Span, indexes, span}
 
 length_part : (from to : ℕ) (s : List ℕ) → length (part from to s) ≤ length s

@@ -28,7 +28,7 @@ abbrev pub is_later_copy : Test
 is_later_copy number n R A =
     ltb (n + 1) number && same (take n (drop (number - 1 - n) R)) (take n (drop (number - 1) A))
 
--- `changeAt` and `recordFrom`, by a test for a copy
+-- `change_at` and `record_from`, by a test for a copy
 abbrev pub change_by : Test → Bool → ℕ → ℕ → List ℕ → List ℕ → Change
 change_by test flag s n R A =
     let d = length R - s - n in

@@ -10,7 +10,7 @@ pub mod Plain
 pub mod Complement
 pub mod Parts
 pub mod Reference
-pub mod Refusal
+pub mod Refusing
 pub mod Packed
 pub mod Span
 pub mod Moved
@@ -49,3 +49,4 @@ pub mod PairWithin
 pub mod RequestedStores
 pub mod Panels
 pub mod RequestedPanel
+mod Told

@@ -26,7 +26,7 @@ use Rattle.rules.specs.Refusal.{refusal, reference_refusal}
 use Rattle.rules.proofs.Tests.{and_left, and_right, or_left}
 use Rattle.rules.proofs.Translation.{through_le}
 use Rattle.rules.proofs.Plain.{through_all}
-use Rattle.rules.proofs.Refusal.{none-refused, reference-accepted}
+use Rattle.rules.proofs.Refusing.{none-refused, reference-accepted}
 use Rattle.rules.proofs.Kept.{or_cases, cut_ends, cut-span, length-coding, identity-coding, CodonsFit, codons-fit}
 use Rattle.rules.proofs.Pieces.{reads-if, Resumes, resumes-if, pieces-fit, length-middle, all-kept, pieces-read, pieces-stopped, pieces-resumed}
 

@@ -47,7 +47,7 @@ pub stops_as_before : (t a b c : ℕ) → is_stop (codon t a b c) ≡ is_stop (c
 unfolding codon codon_rule
 stops_as_before t a b c = agreed_stops (residues t (letter_set a) (letter_set b) (letter_set c))
 
--- `residuesFrom`, by document 01's rule
+-- `residues_from`, by document 01's rule
 abbrev pub residues_before : ℕ → List Exception → ℕ → List ℕ → List ℕ
 residues_before t es n [] = []
 residues_before t es n (a ∷ []) = residue_x ∷ []

@@ -4,8 +4,7 @@ use mathlib.Core.Path.{◌≡◌, refl, sym, ap, ◌∙◌}
 use mathlib.Core.List.{List, [], ◌++◌}
 use Prim.Native.Nat.{ℕ, zero, suc}
 use native.Mathlib.Omega.{arith}
-use Rattle.rules.specs.declared.Paired.TheVariants.{Refused}
-use Rattle.rules.specs.Bytes.{all, Test, first_number, over}
+use Rattle.rules.specs.Bytes.{all, Test, first_number, refused, over}
 use Rattle.rules.specs.Reference.{Reference, reference_tests}
 use Rattle.rules.specs.Edit.{Asked, edit_tests}
 use Rattle.rules.specs.Refusal.{reference_refusal}
@@ -15,14 +14,14 @@ use Rattle.rules.proofs.Pairs.{length_commutes, pair-commutes, protein-commutes,
 
 -- an outcome that writes nothing
 unfoldable pub pair_nothing : ℕ → PairOutcome
-pair_nothing n = record { answer = Refused n; transcript = []; altered = [] }
+pair_nothing n = record { answer = refused n; transcript = []; altered = [] }
 
 -- what is written where nothing is refused
 unfoldable pub pair_all : Reference → Asked → Asked → PairOutcome
 pair_all r e f = pair_by 0 (pair_transcript r e f) (pair_protein r e f)
 
 -- a refused pair leaves the buffers
-pub pairs_nothing : (o : PairOutcome) (n : ℕ) (t a : List ℕ) → o ≡ pair_nothing n → Pairs o (Refused n) t t a a
+pub pairs_nothing : (o : PairOutcome) (n : ℕ) (t a : List ℕ) → o ≡ pair_nothing n → Pairs o (refused n) t t a a
 unfolding pair_nothing over
 pairs_nothing o n t a h = rw h (record { says = refl; holds-transcript = refl; holds-altered = refl })
 

@@ -4,9 +4,8 @@ use mathlib.Core.List.{List, [], ◌∷◌, ◌++◌, map}
 use mathlib.Core.Option.{Option, none, some}
 use Prim.Native.Nat.{ℕ}
 use Prim.Native.String.{String}
-use Rattle.rules.specs.declared.Paired.{Paired}
-use Rattle.rules.specs.declared.Paired.TheVariants.{Refused, Carried}
-use Rattle.rules.specs.Bytes.{bytes}
+use Rattle.rules.specs.declared.PairReport.{PairReport}
+use Rattle.rules.specs.Bytes.{bytes, Result, given, refused}
 use Rattle.rules.specs.Reference.{Reference}
 use Rattle.rules.specs.Edit.{Asked}
 use Rattle.rules.specs.Pair.{PairRoom, PairLimits, pair_limits, PairOutcome, pair_outcome}
@@ -17,9 +16,9 @@ use Rattle.rules.proofs.Doubtful.{Decided, ◌⇒◌, worked, exc}
 use Rattle.rules.proofs.Requested.{ending}
 
 -- a refusal's line, or the transcript and its protein
-abbrev pub answered_by : Paired → PairOutcome → List ℕ
-answered_by (Refused n) o = refused_line n
-answered_by (Carried t a) o = o.transcript ++ (bytes " " ++ o.altered)
+abbrev pub answered_by : Result PairReport → PairOutcome → List ℕ
+answered_by (refused n) o = refused_line n
+answered_by (given x) o = o.transcript ++ (bytes " " ++ o.altered)
 
 abbrev pub paired_of : PairLimits → PairRoom → Reference → Option Asked → Option Asked → List ℕ
 paired_of m room r none f = refused_line 30

@@ -1,4 +1,4 @@
--- The longest edits of a pair (E12, E13): two edits, each with more new bases than its longest or not, are answered as `basesWithin` hands them on, at the
+-- The longest edits of a pair (E12, E13): two edits, each with more new bases than its longest or not, are answered as `bases_within` hands them on, at the
 -- module's own limits.
 -- Assumes nothing.
 use mathlib.Core.Path.{◌≡◌, refl, sym, ap, ◌∙◌}

@@ -22,7 +22,7 @@ use Rattle.rules.specs.Refusal.{reference_refusal}
 use Rattle.rules.specs.Pair.{touched_from, touched_to, is_ahead, are_apart, pair_tests, moved_by, moved_swap, pair_transcript, pair_protein, pair_length}
 use Rattle.rules.proofs.Tests.{or_left, or_right, first_clear}
 use Rattle.rules.proofs.Parts.{length_part}
-use Rattle.rules.proofs.Refusal.{refused-edit}
+use Rattle.rules.proofs.Refusing.{refused-edit}
 use Rattle.rules.proofs.Span.{Indexes, Span, indexes, span}
 use Rattle.rules.proofs.Carried.{carried-front, carried-back, carried_from, carried-part}
 

@@ -6,8 +6,7 @@ use mathlib.Core.List.{List, ◌++◌}
 use Prim.Native.Nat.{ℕ, zero, suc}
 use Rattle.rules.specs.declared.Edit.{Edit}
 use Rattle.rules.specs.declared.Limits.{Limits}
-use Rattle.rules.specs.declared.Answer.TheVariants.{Refused}
-use Rattle.rules.specs.Bytes.{all, first_number}
+use Rattle.rules.specs.Bytes.{all, first_number, refused}
 use Rattle.rules.specs.Reference.{Reference, reference_tests}
 use Rattle.rules.specs.Edit.{Asked, edit_tests}
 use Rattle.rules.specs.Record.{is_unknown}
@@ -23,7 +22,7 @@ use Rattle.rules.proofs.WithLongest.{bases_within, within_by}
 abbrev pub profiled : ℕ → ℕ → Outcome → Outcome
 profiled (suc n) p full = full
 profiled zero zero full = full
-profiled zero (suc p) full = writes_nothing (Refused (suc p))
+profiled zero (suc p) full = writes_nothing (refused (suc p))
 
 module _ (m : Limits) (r : Reference) (e : Asked) (named : ℕ) where
   numbered : are_numbered (reference_tests m.longest r ++ edit_tests m.most r e) ≡ true

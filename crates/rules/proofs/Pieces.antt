@@ -29,7 +29,7 @@ use Rattle.rules.proofs.Translation.{length-translated}
 use Rattle.rules.proofs.Plain.{plain-append, plain-split, through_stopped, through_goes, through_all}
 use Rattle.rules.proofs.Parts.{length_part}
 use Rattle.rules.proofs.Reference.{Bounds, whole-codons, protein_read}
-use Rattle.rules.proofs.Refusal.{none-refused, reference-accepted}
+use Rattle.rules.proofs.Refusing.{none-refused, reference-accepted}
 use Rattle.rules.proofs.Span.{Span}
 use Rattle.rules.proofs.Silent.{through_last}
 use Rattle.rules.proofs.Carried.{carried-front, carried-back, carried_from, carried-part, part_behind}

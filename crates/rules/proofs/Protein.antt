@@ -13,7 +13,7 @@ use Rattle.rules.specs.Protein.{protein_of, altered_protein}
 use Rattle.rules.specs.declared.Limits.{Limits}
 use Rattle.rules.specs.Refusal.{refusal}
 use Rattle.rules.proofs.Translation.{length-translated, through_le}
-use Rattle.rules.proofs.Refusal.{reference-accepted}
+use Rattle.rules.proofs.Refusing.{reference-accepted}
 use Rattle.rules.proofs.Altered.{altered_length_lem}
 
 -- a buffer of ceil((altered length-cs+1)/3) holds A

@@ -8,9 +8,8 @@ use Prim.Native.Nat.{ℕ}
 use Prim.Native.String.{String}
 use lib.ListN.{length}
 use Rattle.rules.specs.declared.Exception.{Exception}
-use Rattle.rules.specs.declared.Check.{Check}
-use Rattle.rules.specs.declared.Check.TheVariants as check
-use Rattle.rules.specs.Bytes.{bytes}
+use Rattle.rules.specs.declared.Verdict.{Verdict}
+use Rattle.rules.specs.Bytes.{bytes, Result, given, refused}
 use Rattle.rules.specs.Translation.{translation}
 use Rattle.rules.specs.Reference.{Reference}
 use Rattle.rules.specs.Edit.{Asked}
@@ -72,9 +71,9 @@ unfolding opened
 cut_short_lem = refl
 
 -- what a proposal of an edit line is answered, with so much room for the altered transcript, R and A
-abbrev pub answered_by : Check → List ℕ
-answered_by (check.Refused n) = refused_line n
-answered_by (check.Judged v) = (if v.replays then bytes "yes " else bytes "no ") ++ (if v.shortest then bytes "yes" else bytes "no")
+abbrev pub answered_by : Result Verdict → List ℕ
+answered_by (refused n) = refused_line n
+answered_by (given v) = (if v.replays then bytes "yes " else bytes "no ") ++ (if v.shortest then bytes "yes" else bytes "no")
 
 abbrev pub checked_of : Room → Reference → Option Asked → Proposal → List ℕ
 checked_of room r none p = refused_line 30

@@ -6,17 +6,14 @@ use mathlib.Core.Option.{Option, none, some}
 use Prim.Native.Nat.{ℕ}
 use Prim.Native.String.{String}
 use lib.ListN.{length}
-use Rattle.rules.specs.declared.Answer.{Answer}
-use Rattle.rules.specs.declared.Answer.TheVariants as answer
+use Rattle.rules.specs.declared.Report.{Report}
 use Rattle.rules.specs.declared.Settings.{Settings}
-use Rattle.rules.specs.declared.Store.{Store}
-use Rattle.rules.specs.declared.Store.TheVariants.{Refused, Newer, Held}
 use Rattle.rules.specs.Bytes.{bytes, Result, given, refused}
 use Rattle.rules.specs.Reference.{Reference, reference_protein}
 use Rattle.rules.specs.Edit.{Asked}
 use Rattle.rules.specs.Protein.{altered_protein}
 use Rattle.rules.specs.Longest.{outcome_within, check_within}
-use Rattle.rules.specs.Settings.{stored_settings, written_settings}
+use Rattle.rules.specs.Settings.{Store, Refused, Newer, Held, stored_settings, written_settings}
 use Rattle.rules.specs.Line.{edit_line}
 use Rattle.rules.specs.Run.{decimal, refused_line, record_line}
 use Rattle.rules.specs.Opened.{opened}
@@ -54,9 +51,9 @@ shown_written (given s) = decimal (length s) ++ bytes " bytes " ++ reads 2 s
 abbrev pub writes : Settings → ℕ → List ℕ
 writes x room = shown_written (written_settings x room)
 
-abbrev pub line_of : Answer → Reference → Asked → List ℕ
-line_of (answer.Refused n) r e = refused_line n
-line_of (answer.Reported p) r e = record_line p.found (reference_protein r) (altered_protein r e)
+abbrev pub line_of : Result Report → Reference → Asked → List ℕ
+line_of (refused n) r e = refused_line n
+line_of (given p) r e = record_line p.found (reference_protein r) (altered_protein r e)
 
 abbrev pub edited_of : ℕ → Reference → Option Asked → List ℕ
 edited_of longest r none = refused_line 30

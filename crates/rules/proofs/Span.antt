@@ -19,7 +19,7 @@ use Rattle.rules.specs.declared.Limits.{Limits}
 use Rattle.rules.specs.Refusal.{refusal}
 use Rattle.rules.proofs.Tests.{or_left, or_right}
 use Rattle.rules.proofs.Reference.{Bounds}
-use Rattle.rules.proofs.Refusal.{Allowed, reference-accepted, edit-allowed}
+use Rattle.rules.proofs.Refusing.{Allowed, reference-accepted, edit-allowed}
 
 never : false ≡ true → ⊥
 never h = let z : ◌≡◌ {A = ℕ} 0 1 = cc in omega arith

@@ -12,13 +12,12 @@ use lib.ListN.{length, take, drop, length-append}
 use lib.Seq.{take-append_seam, drop-append_seam}
 use borrow.Author.Tests.{eq-eqb, ne_eqb, eqb-true, eqb-false, le-ltb, leb-true, ltb-false}
 use Rattle.rules.specs.declared.Settings.{Settings}
-use Rattle.rules.specs.declared.Store.TheVariants.{Refused, Newer, Held}
 use Rattle.rules.specs.Bytes.{is_none, all, each}
 use Rattle.rules.specs.Codons.{is_table}
 use Rattle.rules.specs.Refusal.{limits}
 use Rattle.rules.specs.Stored.{Field, ended, cut, whole, field, Tagged}
 use Rattle.rules.specs.Storing.{in_two, field_bytes, fields_bytes}
-use Rattle.rules.specs.Settings.{is_version, has_longest, version_of, layout, with_content, content_by, contents_in, settings_in, is_longest, are_settings, held_in, stored_by, stored_settings, settings_fields, store_of}
+use Rattle.rules.specs.Settings.{Refused, Newer, Held, is_version, has_longest, version_of, layout, with_content, content_by, contents_in, settings_in, is_longest, are_settings, held_in, stored_by, stored_settings, settings_fields, store_of}
 use Rattle.rules.proofs.Tests.{and_left, and_right, all_take, all_drop, all_both}
 use Rattle.rules.proofs.Fields.{is_byte, reads_field, two_back, two_of, begins}
 

@@ -25,7 +25,7 @@ use Rattle.rules.specs.Refusal.{refusal}
 use Rattle.rules.proofs.Tests.{and_left, and_right}
 use Rattle.rules.proofs.Translation.{length_through}
 use Rattle.rules.proofs.Plain.{before_at}
-use Rattle.rules.proofs.Refusal.{none-refused, reference-accepted, edit-allowed}
+use Rattle.rules.proofs.Refusing.{none-refused, reference-accepted, edit-allowed}
 use Rattle.rules.proofs.Span.{indexes}
 use Rattle.rules.proofs.Kept.{read_plain, cut_ends, length-coding}
 use Rattle.rules.proofs.Looked.{looks, none_below, reused-before, reused-behind}

@@ -25,7 +25,7 @@ use Rattle.rules.specs.Check.{Proposal, proposal_tests, checks_all, check_by, ch
 use Rattle.rules.specs.Reference as reference
 use Rattle.rules.specs.Protein.{altered_protein}
 use Rattle.rules.specs.Longest.{is_given_longest, limits_with}
-use Rattle.rules.proofs.Refusal.{none-refused, allowed}
+use Rattle.rules.proofs.Refusing.{none-refused, allowed}
 
 -- the kinds whose new bases the longest edit counts
 abbrev pub is_counted : Kind → Bool

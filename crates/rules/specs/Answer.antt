@@ -3,10 +3,6 @@ use Rattle.std.specs.Prelude.{ℕ, zero, suc, ◌≡◌, List, [], Bool, true, f
 use Rattle.rules.specs.declared.Record.TheVariants.{Unknown}
 use Rattle.rules.specs.declared.Limits.{Limits}
 use Rattle.rules.specs.declared.Report.{Report}
-use Rattle.rules.specs.declared.Answer.{Answer}
-use Rattle.rules.specs.declared.Answer.TheVariants.{Refused, Reported}
-use Rattle.rules.specs.declared.Written.{Written}
-use Rattle.rules.specs.declared.Written.TheVariants as written
 use Rattle.rules.specs.Bytes.{Result, given, refused, over}
 use Rattle.rules.specs.Reference.{Reference, reference_protein}
 use Rattle.rules.specs.Edit.{Asked}
@@ -17,9 +13,9 @@ use Rattle.rules.specs.Record.{is_unknown, record_of}
 use Rattle.rules.specs.Refusal.{refusal, Room, room_refusal}
 
 -- the answer of a function that fills one buffer, and what it writes there
-unfoldable pub written_of : Result (List ℕ) → Written
-written_of (given s) = written.Bytes (length s)
-written_of (refused n) = written.Refused n
+unfoldable pub written_of : Result (List ℕ) → Result ℕ
+written_of (given s) = given (length s)
+written_of (refused n) = refused n
 
 unfoldable pub bytes_of : Result (List ℕ) → List ℕ
 bytes_of (given s) = s
@@ -27,13 +23,13 @@ bytes_of (refused n) = []
 
 -- an answer, and what is written to each of the three buffers from its start
 pub record Outcome : Type 0 where
-  pub answer : Answer
+  pub answer : Result Report
   pub transcript : List ℕ
   pub reference : List ℕ
   pub altered : List ℕ
 
 -- an answer that writes nothing
-unfoldable pub writes_nothing : Answer → Outcome
+unfoldable pub writes_nothing : Result Report → Outcome
 writes_nothing a = record { answer = a; transcript = []; reference = []; altered = [] }
 
 -- zero lengths, no flag, and no codon looked up
@@ -55,7 +51,7 @@ full_report r e =
 unfoldable pub writes_all : Reference → Asked → Outcome
 writes_all r e =
     record {
-      answer = Reported (full_report r e);
+      answer = given (full_report r e);
       transcript = altered_transcript r e;
       reference = reference_protein r;
       altered = altered_protein r e;
@@ -63,16 +59,16 @@ writes_all r e =
 
 -- a refusal of 1 to 5, 6 or 28, 7 to 10, else Unknown, else a refusal of 11 or 12, else all
 unfoldable pub outcome_by : ℕ → Bool → ℕ → Outcome → Outcome
-outcome_by (suc n) unknown room all = writes_nothing (Refused (suc n))
-outcome_by zero true room all = writes_nothing (Reported unknown_report)
-outcome_by zero false (suc n) all = writes_nothing (Refused (suc n))
+outcome_by (suc n) unknown room all = writes_nothing (refused (suc n))
+outcome_by zero true room all = writes_nothing (given unknown_report)
+outcome_by zero false (suc n) all = writes_nothing (refused (suc n))
 outcome_by zero false zero all = all
 
 unfoldable pub outcome : Limits → Reference → Asked → Room → Outcome
 outcome m r e room = outcome_by (refusal m r e) (is_unknown r e) (room_refusal r e room) (writes_all r e)
 
 -- the answer is the outcome's, and each buffer is what it was under what the outcome writes
-pub record Answers (o : Outcome) (a : Answer) (transcript transcript' reference reference' altered altered' : List ℕ) : Type 0 where
+pub record Answers (o : Outcome) (a : Result Report) (transcript transcript' reference reference' altered altered' : List ℕ) : Type 0 where
   pub says : a ≡ o.answer
   pub holds-transcript : transcript' ≡ over o.transcript transcript
   pub holds-reference : reference' ≡ over o.reference reference

@@ -2,9 +2,7 @@
 use Rattle.std.specs.Prelude.{ℕ, zero, suc, ◌+◌, ◌-◌, List, [], ◌∷◌, Bool, true, false, ◌&&◌, not, eqb, ltb, length, take, drop}
 use Rattle.rules.specs.declared.Limits.{Limits}
 use Rattle.rules.specs.declared.Verdict.{Verdict}
-use Rattle.rules.specs.declared.Check.{Check}
-use Rattle.rules.specs.declared.Check.TheVariants.{Refused, Judged}
-use Rattle.rules.specs.Bytes.{same, is_none, all, Test, ◌↯◌, first_number}
+use Rattle.rules.specs.Bytes.{same, is_none, all, Test, ◌↯◌, first_number, Result, given, refused}
 use Rattle.rules.specs.Trims.{common_prefix}
 use Rattle.rules.specs.Translation.{is_residue}
 use Rattle.rules.specs.Reference.{Reference, reference_protein}
@@ -56,14 +54,14 @@ proposal_tests p R A = not (is_changed R A) ↯ 26 ∷ not (is_proposal p R) ↯
 
 -- an answer, and what is written to each of the three buffers from its start
 pub record CheckOutcome : Type 0 where
-  pub answer : Check
+  pub answer : Result Verdict
   pub transcript : List ℕ
   pub reference : List ℕ
   pub altered : List ℕ
 
 -- an answer that writes nothing
 unfoldable pub checks_nothing : ℕ → CheckOutcome
-checks_nothing n = record { answer = Refused n; transcript = []; reference = []; altered = [] }
+checks_nothing n = record { answer = refused n; transcript = []; reference = []; altered = [] }
 
 -- the two answers, and the bytes written to each buffer
 unfoldable pub verdict_of : Proposal → Reference → Asked → Verdict
@@ -79,7 +77,7 @@ verdict_of p r e =
 unfoldable pub checks_all : Proposal → Reference → Asked → CheckOutcome
 checks_all p r e =
     record {
-      answer = Judged (verdict_of p r e);
+      answer = given (verdict_of p r e);
       transcript = altered_transcript r e;
       reference = reference_protein r;
       altered = altered_protein r e;

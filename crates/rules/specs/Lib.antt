@@ -17,6 +17,7 @@ pub mod Protein
 pub mod Reuse
 pub mod Record
 pub mod Refusal
+pub mod Refusals
 pub mod Packed
 pub mod Views
 pub mod Answer

@@ -1,7 +1,7 @@
 -- E12: with a smaller longest edit, refusal 10's limit reads that number.
 use Rattle.std.specs.Prelude.{ℕ, Bool, [], eqb, leb, if◌then◌else◌}
 use Rattle.rules.specs.declared.Limits.{Limits}
-use Rattle.rules.specs.declared.Answer.TheVariants.{Refused}
+use Rattle.rules.specs.Bytes.{refused}
 use Rattle.rules.specs.Reference.{Reference}
 use Rattle.rules.specs.Edit.{Asked}
 use Rattle.rules.specs.Refusal.{limits, Room}
@@ -21,7 +21,7 @@ unfoldable pub with_longest : {A : Type 0} → ℕ → A → (Limits → A) → 
 with_longest n refusal62 answer = if is_given_longest n then answer (limits_with n) else refusal62
 
 unfoldable pub outcome_within : ℕ → Reference → Asked → Room → Outcome
-outcome_within n r e room = with_longest n (writes_nothing (Refused 62)) (λ m. outcome m r e room)
+outcome_within n r e room = with_longest n (writes_nothing (refused 62)) (λ m. outcome m r e room)
 
 unfoldable pub check_within : ℕ → Reference → Asked → Proposal → Room → CheckOutcome
 check_within n r e p room = with_longest n (checks_nothing 62) (λ m. check_outcome m r e p room)

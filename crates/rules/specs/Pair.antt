@@ -1,9 +1,8 @@
 -- E13, "Two edits on one transcript": the transcript of both, and its protein, read without exceptions.
 use Rattle.std.specs.Prelude.{ℕ, zero, suc, ◌+◌, ◌-◌, ◌≡◌, List, [], ◌∷◌, ◌++◌, Bool, ◌||◌, not, ltb, length, drop, if◌then◌else◌}
 use Rattle.rules.specs.declared.Kind.TheVariants.{Insertion}
-use Rattle.rules.specs.declared.Paired.{Paired}
-use Rattle.rules.specs.declared.Paired.TheVariants.{Refused, Carried}
-use Rattle.rules.specs.Bytes.{Test, ◌↯◌, first_number, over}
+use Rattle.rules.specs.declared.PairReport.{PairReport}
+use Rattle.rules.specs.Bytes.{Test, ◌↯◌, first_number, Result, given, refused, over}
 use Rattle.rules.specs.Translation.{translated, residue_count, through_stop}
 use Rattle.rules.specs.Reference.{Reference, size, reference_tests}
 use Rattle.rules.specs.Edit.{Asked, is, kind_of, start_index, end_index, edit_tests}
@@ -83,21 +82,21 @@ pair_refusal m r e f room =
 
 -- an answer, and what is written to each of the two buffers from its start
 pub record PairOutcome : Type 0 where
-  pub answer : Paired
+  pub answer : Result PairReport
   pub transcript : List ℕ
   pub altered : List ℕ
 
 -- a refusal writes nothing
 unfoldable pub pair_by : ℕ → List ℕ → List ℕ → PairOutcome
-pair_by (suc n) transcript altered = record { answer = Refused (suc n); transcript = []; altered = [] }
+pair_by (suc n) transcript altered = record { answer = refused (suc n); transcript = []; altered = [] }
 pair_by zero transcript altered =
-    record { answer = Carried (length transcript) (length altered); transcript = transcript; altered = altered }
+    record { answer = given (record { transcript = length transcript; altered = length altered }); transcript = transcript; altered = altered }
 
 unfoldable pub pair_outcome : PairLimits → Reference → Asked → Asked → PairRoom → PairOutcome
 pair_outcome m r e f room = pair_by (pair_refusal m r e f room) (pair_transcript r e f) (pair_protein r e f)
 
 -- the answer is the outcome's, and each buffer is what it was under what the outcome writes
-pub record Pairs (o : PairOutcome) (a : Paired) (transcript transcript' altered altered' : List ℕ) : Type 0 where
+pub record Pairs (o : PairOutcome) (a : Result PairReport) (transcript transcript' altered altered' : List ℕ) : Type 0 where
   pub says : a ≡ o.answer
   pub holds-transcript : transcript' ≡ over o.transcript transcript
   pub holds-altered : altered' ≡ over o.altered altered

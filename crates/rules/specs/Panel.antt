@@ -4,8 +4,7 @@ use Rattle.rules.specs.declared.Limits.{Limits}
 use Rattle.rules.specs.declared.Kind.{Kind}
 use Rattle.rules.specs.declared.Kind.TheVariants.{Substitution, Deletion, Delins, Insertion, Duplication, Inversion, Identity, Other}
 use Rattle.rules.specs.declared.Position.{Position}
-use Rattle.rules.specs.declared.Answer.TheVariants.{Refused}
-use Rattle.rules.specs.Bytes.{all, Test, ◌↯◌, first_number}
+use Rattle.rules.specs.Bytes.{all, Test, ◌↯◌, first_number, refused}
 use Rattle.rules.specs.Letters.{is_base}
 use Rattle.rules.specs.Reference.{Reference, reference_tests}
 use Rattle.rules.specs.Position.{is_before, is_behind}
@@ -62,4 +61,4 @@ panel_outcome m r e named room = outcome_by (panel_refusal m r e named) (is_unkn
 
 -- with the longest edit of a call (E12)
 unfoldable pub panel_within : ℕ → Reference → Asked → ℕ → Room → Outcome
-panel_within n r e named room = with_longest n (writes_nothing (Refused 62)) (λ m. panel_outcome m r e named room)
+panel_within n r e named room = with_longest n (writes_nothing (refused 62)) (λ m. panel_outcome m r e named room)

@@ -2,11 +2,13 @@
 use Rattle.std.specs.Prelude.{ℕ, List, [], ◌∷◌, ◌++◌, Bool, ◌&&◌, ◌||◌, not, eqb, leb, ltb, length, get_or, if◌then◌else◌}
 use Rattle.std.proofs.Math.Option.{Option, none, some}
 use Rattle.rules.specs.declared.Settings.{Settings}
-use Rattle.rules.specs.declared.Store.{Store}
-use Rattle.rules.specs.declared.Store.TheVariants.{Refused, Newer, Held}
+use Rattle.std.specs.Prelude.{Result as Returned, Ok, Err}
+use Rattle.rules.specs.declared.Unread.{Unread}
+use Rattle.rules.specs.declared.Unread.TheVariants as unread
 use Rattle.rules.specs.Bytes.{is_none, Test, ◌↯◌, first_number, Result, unless}
 use Rattle.rules.specs.Codons.{is_table}
 use Rattle.rules.specs.Refusal.{limits}
+use Rattle.rules.specs.Refusals.{refusal_number}
 use Rattle.rules.specs.Stored.{two_bytes, Field, ended, cut, whole, field, Tagged}
 use Rattle.rules.specs.Storing.{in_two, fields_bytes}
 
@@ -68,6 +70,17 @@ are_settings x =
     && (eqb x.width 1 || eqb x.width 3)
     && is_longest x.longest
     && (has_longest x.version || eqb x.longest limits.most)
+
+-- what a store is read as: a refusal's number, a version newer than the reader knows, or the settings
+pub data Store : Type 0 where
+  Refused : ℕ → Store
+  Newer : Store
+  Held : Settings → Store
+
+abbrev pub store_told : Returned Settings Unread → Store
+store_told (Ok x) = Held x
+store_told (Err (unread.Refused r)) = Refused (refusal_number r)
+store_told (Err unread.Newer) = Newer
 
 -- 61, then 62: a content out of range
 unfoldable pub held_in : Option (List ℕ) → Store

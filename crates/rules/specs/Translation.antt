@@ -10,6 +10,9 @@ use Rattle.rules.specs.Codons.{is_table, residue_x, codon}
 abbrev pub no_exception : Exception
 no_exception = record { codon = 0; residue = 0 }
 
+abbrev pub no_exceptions : Exceptions
+no_exceptions = record { all = replicate 16 no_exception; count = 0 }
+
 -- the exceptions given: the first `count`. A count above sixteen gives a list of that length, which breaks the rules
 unfoldable pub exception_list : Exceptions → List Exception
 exception_list e = take e.count (e.all ++ replicate e.count no_exception)

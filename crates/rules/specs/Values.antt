@@ -6,10 +6,10 @@ use Rattle.rules.specs.declared.Class.{Class}
 use Rattle.rules.specs.declared.Class.TheVariants.{StartLost, Extension, StopGained, Frameshift, Substitution, Deletion, Duplication, Insertion, Delins}
 use Rattle.rules.specs.declared.Record.{Record}
 use Rattle.rules.specs.declared.Record.TheVariants.{Unknown, NoProtein, Silent, Changed}
-use Rattle.rules.specs.declared.Answer.{Answer}
-use Rattle.rules.specs.declared.Answer.TheVariants.{Refused, Reported}
+use Rattle.rules.specs.declared.Report.{Report}
+use Rattle.rules.specs.Bytes.{Result, given, refused}
 
--- the kind of a number, as `kindNumber` numbers them
+-- the kind of a number, as `kind_number` numbers them
 abbrev pub kind_at : ℕ → Kind
 kind_at zero = kind.Other
 kind_at (suc zero) = kind.Substitution
@@ -82,9 +82,9 @@ pub record Values : Type 0 where
   pub codons : ℕ
 
 -- 0 refused
-unfoldable pub values_of : Answer → Values
-values_of (Refused n) = record { refusal = n; frameshift = 0; transcript = 0; reference = 0; altered = 0; told = alone 0; codons = 0 }
-values_of (Reported p) =
+unfoldable pub values_of : Result Report → Values
+values_of (refused n) = record { refusal = n; frameshift = 0; transcript = 0; reference = 0; altered = 0; told = alone 0; codons = 0 }
+values_of (given p) =
     record {
       refusal = 0;
       frameshift = flag_number p.frameshift;

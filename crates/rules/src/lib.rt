@@ -1,6 +1,12 @@
 // The plain types that references, edits and answers are made of. The definitions of documents 01 and 02 over them stand in specs/.
 #![tactic(auto)]
 
+ghost use Rattle.std.specs.Prelude.{◌≡◌};
+ghost use Rattle.rules.specs.Translation.{no_exceptions};
+ghost use Rattle.rules.specs.Refusals.{refusal_number};
+ghost use Rattle.rules.specs.Values.{kind_at};
+ghost use Rattle.rules.specs.Run.{class_name};
+
 // What an edit does. `Other` is any kind but the seven.
 #[derive(Clone, Copy)]
 pub enum Kind {
@@ -12,6 +18,24 @@ pub enum Kind {
     Inversion,
     Identity,
     Other,
+}
+
+impl From<u64> for Kind {
+    ghost from_gives = { λ n kind. kind ≡ kind_at n };
+
+    // By a host's numbers.
+    fn from(n: u64) -> Kind {
+        match n {
+            1 => Kind::Substitution,
+            2 => Kind::Deletion,
+            3 => Kind::Delins,
+            4 => Kind::Insertion,
+            5 => Kind::Duplication,
+            6 => Kind::Inversion,
+            7 => Kind::Identity,
+            _ => Kind::Other,
+        }
+    }
 }
 
 // `7` is Plus(7), `-2` is Minus(2), `*3` is Star(3).
@@ -43,6 +67,21 @@ pub struct Exception {
 pub struct Exceptions {
     pub all: [Exception; 16],
     pub count: usize,
+}
+
+impl Exceptions {
+    pub fn none() -> Exceptions
+        ensures { result ≡ no_exceptions }
+    {
+        let none = Exception {
+            codon: 0,
+            residue: 0,
+        };
+        Exceptions {
+            all: [none; 16],
+            count: 0,
+        }
+    }
 }
 
 // The bounds and the table of a reference, and how its CDS ends: 0 at a stop, 1 without one, 2 in one or two bases of a codon, any other
@@ -94,24 +133,88 @@ pub struct Limits {
     pub most: usize,
 }
 
-// What a function that fills one lent buffer answers: a refusal's number, or the number of bytes written from the buffer's start.
+// Why a call is refused, by the papers' numbers. The header says more of each.
 #[derive(Clone, Copy)]
-pub enum Written {
-    Refused(usize),
-    Bytes(usize),
+pub enum Refusal {
+    Length = 1,
+    Letter = 2,
+    Bounds = 3,
+    Table = 4,
+    Exceptions = 5,
+    LastCodon = 6,
+    Position = 7,
+    Order = 8,
+    OutOfCds = 9,
+    Bases = 10,
+    TranscriptRoom = 11,
+    ProteinRoom = 12,
+    Codon = 14,
+    Output = 15,
+    Cut = 20,
+    Tag = 21,
+    Missing = 22,
+    Field = 23,
+    StoredRoom = 24,
+    Parts = 25,
+    NotChanged = 26,
+    Proposal = 27,
+    End = 28,
+    JoinedRoom = 29,
+    Line = 30,
+    ProfileLetter = 40,
+    ProfileEdit = 41,
+    ProfileFrame = 42,
+    NamedBase = 43,
+    List = 50,
+    Touching = 51,
+    PairUnknown = 52,
+    PairStop = 53,
+    Version = 60,
+    SettingsField = 61,
+    Setting = 62,
+    SettingsRoom = 63,
 }
 
+impl Refusal {
+    // The number that a host and a line of the text program show.
+    pub fn number(self) -> usize
+        ensures { result ≡ refusal_number self }
+    {
+        self as usize
+    }
+}
+
+// The classes of a change, by the papers' numbers.
 #[derive(Clone, Copy)]
 pub enum Class {
-    StartLost,
-    Extension,
-    StopGained,
-    Frameshift,
-    Substitution,
-    Deletion,
-    Duplication,
-    Insertion,
-    Delins,
+    StartLost = 1,
+    Extension = 2,
+    StopGained = 3,
+    Frameshift = 4,
+    Substitution = 5,
+    Deletion = 6,
+    Duplication = 7,
+    Insertion = 8,
+    Delins = 9,
+}
+
+impl Class {
+    // The word for it in a line of the text program.
+    pub fn name(self) -> &'static [u8]
+        ensures { result.now ≡ class_name self }
+    {
+        match self {
+            Class::StartLost => b"start-lost",
+            Class::Extension => b"extension",
+            Class::StopGained => b"stop-gained",
+            Class::Frameshift => b"frameshift",
+            Class::Substitution => b"substitution",
+            Class::Deletion => b"deletion",
+            Class::Duplication => b"duplication",
+            Class::Insertion => b"insertion",
+            Class::Delins => b"delins",
+        }
+    }
 }
 
 // `len` bytes or residues, behind the first `at`.
@@ -151,13 +254,6 @@ pub struct Report {
     pub codons: usize,
 }
 
-// What an edit of a reference is answered: a refusal's number, or a report.
-#[derive(Clone, Copy)]
-pub enum Answer {
-    Refused(usize),
-    Reported(Report),
-}
-
 // Whether a proposed record replays, whether it is the shortest, and the number of bytes written to each of the three buffers.
 #[derive(Clone, Copy)]
 pub struct Verdict {
@@ -168,18 +264,11 @@ pub struct Verdict {
     pub altered: usize,
 }
 
-// What a proposed record is answered: a refusal's number, or a verdict.
+// The number of bytes that two edits of one reference write to each of the two buffers.
 #[derive(Clone, Copy)]
-pub enum Check {
-    Refused(usize),
-    Judged(Verdict),
-}
-
-// What two edits of one reference are answered: a refusal's number, or the number of bytes written to each of the two buffers.
-#[derive(Clone, Copy)]
-pub enum Paired {
-    Refused(usize),
-    Carried { transcript: usize, altered: usize },
+pub struct PairReport {
+    pub transcript: usize,
+    pub altered: usize,
 }
 
 // The version of a store, and what a bench keeps in it: its default table, the profile (0 off, 1 on), the output width of residue names (1 or 3
@@ -193,10 +282,9 @@ pub struct Settings {
     pub longest: usize,
 }
 
-// What a store of settings is read as: a refusal's number, a version newer than the reader knows, or the settings.
+// Why a store of settings isn't read: a refusal, or a version newer than the reader knows.
 #[derive(Clone, Copy)]
-pub enum Store {
-    Refused(usize),
+pub enum Unread {
+    Refused(Refusal),
     Newer,
-    Held(Settings),
 }

@@ -20,7 +20,7 @@ use Rattle.rules.specs.Refusal.{reference_refusal, Room}
 use Rattle.rules.specs.Stored.{reference_form, fields, assembled_in, checked, fitted, read_reference}
 use Rattle.rules.specs.Answer.{Outcome, writes_nothing, outcome, Answers}
 use Rattle.rules.specs.Views.{reference_of}
-use Rattle.rules.proofs.Refusal.{refused-reference}
+use Rattle.rules.proofs.Refusing.{refused-reference}
 use Rattle.rules.proofs.Answers.{refused-by, Alike, single}
 use Rattle.altseq.proofs.Answering.{writes_nothing_lem}
 use Rattle.altseq.proofs.Promised as promised

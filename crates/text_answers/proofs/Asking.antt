@@ -28,7 +28,7 @@ use Rattle.rules.specs.Run.{refused_line, change_line, record_line, answer_line,
 use Rattle.rules.specs.Views.{bare, asked, reference_of}
 use Rattle.rules.proofs.Over.{fits_over, read_back}
 use Rattle.rules.proofs.Records.{record-unknown}
-use Rattle.rules.proofs.Refusal.{reference-accepted}
+use Rattle.rules.proofs.Refusing.{reference-accepted}
 use Rattle.rules.proofs.Altered.{altered-fits}
 use Rattle.rules.proofs.Reference.{accepted, protein_read}
 use Rattle.reference.specs.declared.Known.{Known}

@@ -1,4 +1,4 @@
--- `editLine` from what the parsers below answer.
+-- `edit_line` from what the parsers below answer.
 -- Assumes nothing.
 use mathlib.Core.Path.{◌≡◌}
 use mathlib.Core.List.{List}

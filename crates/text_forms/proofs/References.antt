@@ -1,4 +1,4 @@
--- `spaced` and `referenceLine` from what the parsers below answer.
+-- `spaced` and `reference_line` from what the parsers below answer.
 -- Assumes nothing.
 use mathlib.Core.Path.{◌≡◌, sym, ap, ◌∙◌}
 use mathlib.Core.Bool.{Bool, true, false}

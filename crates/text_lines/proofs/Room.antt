@@ -19,7 +19,7 @@ use Rattle.rules.specs.Refusal.{reference_refusal, refusal, record_unless}
 use Rattle.rules.specs.Line.{text_limits, edit_line, fits_line, reference_line}
 use Rattle.rules.specs.Run.{refused_line, answer_line, edit_answer, edit_line_answer, answers_from, answers_of, answers, line_feed, unlines}
 use Rattle.rules.proofs.Reference.{accepted, protein_read}
-use Rattle.rules.proofs.Refusal.{reference-accepted}
+use Rattle.rules.proofs.Refusing.{reference-accepted}
 use Rattle.rules.proofs.Altered.{altered-fits}
 use Rattle.rules.proofs.Protein.{altered_room_lem}
 use Rattle.rules.specs.Views.{bare}

@@ -1,4 +1,4 @@
--- Laws of `starts_with`, `areCapitals` and `isArrow`, and `verb` from what the parsers below answer.
+-- Laws of `starts_with`, `are_capitals` and `is_arrow`, and `verb` from what the parsers below answer.
 -- Assumes nothing.
 use mathlib.Core.Path.{◌≡◌, refl, sym, ap, ◌∙◌}
 use mathlib.Core.Bool.{Bool, true, false, ◌&&◌}

@@ -15,7 +15,7 @@ use Rattle.rules.specs.Refusal.{refusal}
 use Rattle.rules.proofs.Over.{tail-is}
 use Rattle.rules.proofs.Complement.{length-complement}
 use Rattle.rules.proofs.Parts.{length_part, take_part, take-complement}
-use Rattle.rules.proofs.Refusal.{reference-accepted}
+use Rattle.rules.proofs.Refusing.{reference-accepted}
 use Rattle.rules.proofs.Span.{indexes, span}
 use Rattle.rules.proofs.Altered.{length-carried, altered_length_lem}
 use Rattle.edits.specs.declared.plans.Plan.{Plan}
