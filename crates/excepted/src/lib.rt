@@ -20,17 +20,13 @@ pub fn are_exceptions(e: Exceptions) -> bool
     ensures value { result ≡ are_exceptions (exception_list e) }
     ensures few { result ≡ true → e.count ≤ 16 }
 {
-    let count = e.count;
-    if 16 < count {
+    if 16 < e.count {
         return false;
     }
-    let mut k = 0;
-    while k < count {
-        let x = e.all[k];
-        if !is_exception(x) {
+    for k in 0..e.count {
+        if !is_exception(e.all[k]) {
             return false;
         }
-        k += 1;
     }
     true
 }
@@ -52,21 +48,17 @@ pub fn put_exceptions(e: Exceptions, whole: usize, out: &mut [u8])
     requires whole_in_bounds { whole ≤ length out.old }
     ensures { out.new ≡ excepted_from (exception_list e) 1 (take whole out.old) ++ drop whole out.old }
 {
-    let count = e.count;
-    let mut k = 0;
-    while k < count {
+    for k in 0..e.count {
         put_exception(e.all[k], whole, out);
-        k += 1;
     }
 }
 
+// A codon's residue with one exception.
+#[tactic(auto, unfolding(rules::specs::Translation::excepted))]
 fn excepted_by(x: Exception, n: usize, r: u8) -> u8
     ensures { result ≡ excepted (x ∷ []) n r }
 {
-    if x.codon as usize == n {
-        return x.residue;
-    }
-    r
+    if x.codon as usize == n { x.residue } else { r }
 }
 
 // The residue of codon n: r, unless an exception replaces it, the last one counting.
@@ -74,25 +66,24 @@ pub fn excepted_at(e: Exceptions, n: usize, r: u8) -> u8
     requires { e.count ≤ 16 }
     ensures { result ≡ excepted (exception_list e) n r }
 {
-    let count = e.count;
     let mut y = r;
-    let mut k = 0;
-    while k < count {
-        let x = e.all[k];
-        y = excepted_by(x, n, y);
-        k += 1;
+    for k in 0..e.count {
+        y = excepted_by(e.all[k], n, y);
     }
     y
 }
 
+// The same with one exception more.
+#[tactic(auto, unfolding(crate::specs::Exceptions::nearer))]
 fn nearer_by(x: Exception, n: usize, next: usize) -> usize
     ensures { result ≡ nearer x n next }
 {
     let codon = x.codon as usize;
     if (n <= codon) & (codon < next) {
-        return codon;
+        codon
+    } else {
+        next
     }
-    next
 }
 
 // The least number from n on, and below `past`, of a codon with an exception; with none, `past`.
@@ -100,13 +91,9 @@ pub fn next_exception(e: Exceptions, n: usize, past: usize) -> usize
     requires { e.count ≤ 16 }
     ensures { result ≡ next_from (exception_list e) n past }
 {
-    let count = e.count;
     let mut next = past;
-    let mut k = 0;
-    while k < count {
-        let x = e.all[k];
-        next = nearer_by(x, n, next);
-        k += 1;
+    for k in 0..e.count {
+        next = nearer_by(e.all[k], n, next);
     }
     next
 }

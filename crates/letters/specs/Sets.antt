@@ -1,5 +1,5 @@
 -- A byte's reading in plain translation, a letter's number, and what the tables of letter sets and of complements hold. Assumes nothing: these are definitions.
-use Rattle.std.specs.Prelude.{ℕ, ◌+◌, ◌*◌, ◌/◌, ◌%◌, ◌<◌, List, [], ◌∷◌, Bool, ◌≡◌, ltb, get_or}
+use Rattle.std.specs.Prelude.{ℕ, ◌+◌, ◌*◌, ◌/◌, ◌%◌, ◌<◌, List, [], ◌∷◌, Bool, ◌≡◌, get_or}
 use Rattle.rules.specs.Letters.{letter_set, folded}
 pub use Rattle.rules.specs.Letters.{is_base}
 use Rattle.rules.specs.Complement.{complement}

@@ -20,6 +20,5 @@ pub fn complement_of(complements: &[u8; 32], b: u8) -> u8
     requires b_value { is_letter b ≡ true }
     ensures { result ≡ complement b }
 {
-    let i = (b % 32) as usize;
-    complements[i]
+    complements[usize::from(b % 32)]
 }

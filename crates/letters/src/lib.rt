@@ -13,6 +13,7 @@ ghost use Rattle.rules.specs.Translation.{is_residue};
 ghost use Rattle.letters.specs.Sets.{HoldsSets, folded_set, folds_to_base, is_base};
 
 // The set of an upper-case letter, and 0 of any other byte.
+#[tactic(auto, unfolding(rules::specs::Letters::letter_set))]
 pub fn letter_set(b: u8) -> usize
     ensures value { result ≡ letter_set b }
     ensures small { result < 16 }
@@ -38,24 +39,19 @@ pub fn letter_set(b: u8) -> usize
 }
 
 // Whether a byte is A to Z.
+#[tactic(auto, unfolding(rules::specs::Bytes::is_capital))]
 pub fn is_capital(b: u8) -> bool
     ensures { result ≡ is_capital b }
 {
-    match b {
-        b'A'..=b'Z' => true,
-        _ => false,
-    }
+    b.is_ascii_uppercase()
 }
 
 // Whether a byte is a residue: A to Z or `*`.
+#[tactic(auto, unfolding(rules::specs::Translation::is_residue))]
 pub fn is_residue(r: u8) -> bool
     ensures { result ≡ is_residue r }
 {
-    match r {
-        b'A'..=b'Z' => true,
-        b'*' => true,
-        _ => false,
-    }
+    is_capital(r) | (r == b'*')
 }
 
 // The tests below have no table and no branch, so that a loop of one goes many bytes at a time.
@@ -136,9 +132,7 @@ pub fn folded_set(sets: &[u8; 256], b: u8) -> usize
     ensures value { result ≡ folded_set b }
     ensures small { result < 16 }
 {
-    let i = b as usize;
-    let x = sets[i];
-    x as usize
+    usize::from(sets[usize::from(b)])
 }
 
 // The set of each byte in plain translation, sixteen bytes a line.

@@ -8,7 +8,7 @@ ghost use Rattle.numbers.specs.Packed.{four_at, eight_at};
 pub fn least(a: usize, b: usize) -> usize
     ensures { result ≡ min a b }
 {
-    if a < b { a } else { b }
+    a.min(b)
 }
 
 // A byte as a number.
@@ -16,17 +16,14 @@ pub fn wide(b: u8) -> usize
     ensures value { result ≡ b }
     ensures small { result < 256 }
 {
-    b as usize
+    usize::from(b)
 }
 
 // A third, rounded up.
 pub fn thirds(n: usize) -> usize
     ensures { result ≡ (n + 2) / 3 }
 {
-    if n % 3 == 0 {
-        return n / 3;
-    }
-    n / 3 + 1
+    n.div_ceil(3)
 }
 
 // Four bytes from place k on as one number, the first lowest.

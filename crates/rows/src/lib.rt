@@ -5,8 +5,6 @@
 ghost use Rattle.std.specs.Prelude.{◌≡◌, ℕ, ◌+◌, ◌*◌, ◌<◌, eqb, length, get_or, replicate, if◌then◌else◌};
 ghost use Rattle.rows.specs.Rows.{row_in, HoldsRows, HoldsLetters};
 
-use numbers::wide;
-
 // The first two letters of each row by their numbers, a hexadecimal digit each: none, AA, AC, AG, AT, CA, CC, CG, CT, RA, SA, GA, GC, GG, GT, TA,
 // TC, TR, TG, TT, YT, MG.
 const PAIRS: [u8; 22] =
@@ -32,11 +30,9 @@ fn put_third(rows: &[u8; 352], c: usize, all: &mut [u8])
     ensures { (d p : ℕ) → d < 16 → p < 256 → get_or all.new (d * 256 + p) 0 ≡ (if eqb d c then get_or rows.now (row_in 22 p * 16 + c) 0 else get_or all.old (d * 256 + p) 0) }
 {
     let pairs = PAIRS;
-    let mut k = 0;
-    while k < 22 {
-        let pair = wide(pairs[k]);
+    for k in 0..22 {
+        let pair = usize::from(pairs[k]);
         all[c * 256 + pair] = rows[k * 16 + c];
-        k += 1;
     }
 }
 
@@ -48,10 +44,8 @@ pub fn lay_residues(table: usize, all: &mut [u8; 4096])
     ensures { HoldsLetters table all.new }
 {
     let rows = rows_of(table);
-    let mut c = 0;
-    while c < 16 {
+    for c in 0..16 {
         put_third(&rows, c, all);
-        c += 1;
     }
 }
 

@@ -1,44 +1,31 @@
--- `translation::are_exceptions` meets its contract. The invariant: those that were looked at can be taken.
--- Assumes nothing.
-use mathlib.Core.Path.{◌≡◌, refl, sym, ◌∙◌, ap}
-use mathlib.Core.Bool.{not}
+-- `excepted::are_exceptions` meets its contract. The invariant: those that were looked at can be taken.
+use mathlib.Core.Path.{refl, sym, ◌∙◌}
 use native.Mathlib.Omega.{arith}
 use borrow.Author.Rules.{rules}
-use borrow.Author.Tests.{not-true, not-false}
-use lib.ListN.{length}
 use Rattle.rules.specs.Bytes.{all}
 use Rattle.excepted.proofs.Putting.{never}
 use Rattle.excepted.proofs.Putting.{too_many, taken_more, not_taken, all-taken}
 use Rattle.excepted.proofs.are_exceptions.Goals as goal
 
-pub returns-then-count-gt16 : goal.returns-then-count-gt16
-returns-then-count-gt16 c = let args = c.args in
-    let long : length args.e.all ≡ 16 = omega arith in
-    record { value = sym (too_many args.e long c.if-count-gt16.true); few = λ e. absurd (never e) }
+pub returns-then-e-gt16 : goal.returns-then-e-gt16
+returns-then-e-gt16 c = record { value = sym (too_many c.args.e (omega arith) c.if-e-gt16.true); few = λ e. absurd (never e) }
 
 pub loop-k-init : goal.loop-k-init
 unfolding all
-loop-k-init c = let args = c.args in
-    let long : length args.e.all ≡ 16 = omega arith in
-    (search rules, search rules, long, refl)
+loop-k-init c = refl
 
 pub returns-then-not-is_exception : goal.returns-then-not-is_exception
-returns-then-not-is_exception c = let args = c.args in
-    let loop = c.loop-k in
-    let is-exception = c.is_exception in
-    record { value = sym (not_taken args.e loop.invariant.2 loop.invariant.1 loop.k _ (search rules) (sym is-exception.ensures ∙ not-true is-exception.result (ap not c.if-not-is_exception.true))); few = λ e. loop.invariant.1 }
+returns-then-not-is_exception c = record {
+  value = sym (not_taken c.args.e (omega arith) c.if-e-gt16.false c.loop-k.k _ (search rules) (sym c.is_exception.ensures ∙ c.if-not-is_exception.true));
+  few = λ e. c.if-e-gt16.false;
+}
 
 pub loop-k-preserved : goal.loop-k-preserved
-loop-k-preserved c = let loop = c.loop-k in
-    let args = c.args in
-    let is-exception = c.is_exception in (
-      search rules,
-      loop.invariant.1,
-      loop.invariant.2,
-      taken_more args.e loop.invariant.2 loop.invariant.1 loop.k _ (search rules) loop.invariant.3 (sym is-exception.ensures ∙ not-false is-exception.result (ap not c.if-not-is_exception.false)),
-    )
+loop-k-preserved c =
+    taken_more c.args.e (omega arith) c.if-e-gt16.false c.loop-k.k _ (search rules) c.loop-k.invariant (sym c.is_exception.ensures ∙ c.if-not-is_exception.false)
 
 pub returns : goal.returns
-returns c = let args = c.args in
-    let loop = c.loop-k in
-    record { value = sym (all-taken args.e loop.invariant.2 loop.invariant.1 loop.k (omega arith) loop.invariant.3); few = λ e. loop.invariant.1 }
+returns c = record {
+  value = sym (all-taken c.args.e (omega arith) c.if-e-gt16.false c.loop-k.k (omega arith) c.loop-k.invariant);
+  few = λ e. c.if-e-gt16.false;
+}

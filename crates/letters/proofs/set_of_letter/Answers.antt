@@ -10,7 +10,6 @@ use Rattle.letters.specs.Sets.{folded_set}
 use Rattle.letters.proofs.Sets.{at_letter}
 use Rattle.letters.proofs.set_of_letter.Goals as goal
 
--- `letters::set_of_letter` meets its contract: antt computes the sets alike for all letters. Assumes nothing.
 packed-set : (b : ℕ) → is_letter (folded b) ≡ true → (if ltb (b % 32) 16 then 0x0f30c00b400d2e10 else 0x000000a097886500) / 2 ^ (b % 32 % 16 * 4) % 16 ≡ folded_set b
 unfolding letter_set is_letter upper folded folded_set
 packed-set b e =

@@ -6,4 +6,4 @@ use Rattle.rows.proofs.put_third.Goals as goal
 pub loop-k-preserved : goal.loop-k-preserved
 loop-k-preserved c =
     let loop = c.loop-k in
-    (search rules, put-more c.args.rows.now c.args.all.now c.args.c loop.all loop.k c.wide-pair.result c.requires.c_bound loop.invariant.1 c.loop-k-test.true c.wide-pair.ensures.value)
+    put-more c.args.rows.now c.args.all.now c.args.c loop.all loop.k _ c.requires.c_bound loop.invariant c.loop-k-test.true (search rules)
