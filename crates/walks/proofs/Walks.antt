@@ -118,20 +118,9 @@ module _ (t : ℕ) (s A old out : List ℕ) (i : ℕ) (w : Walk t [] s A old out
       let none : drop (length out - i) (drop i out) ≡ [] = drop_of_length-le (drop i out) {i = length out - i} (rw length-drop (omega arith)) in
       simp (none, append-nil) (on part j (rw (tail-is (i * 3) s, tail-is i out) at x))
 
--- a count of codons looked up that keeps up with the codon's index: at the stop, and behind the last codon
-pub counted_stop : (i looked n : ℕ) → looked ≡ i → i < n → looked + 1 ≡ min (i + 1) n
-counted_stop i looked n e h = omega arith
-
-pub counted_end : (i looked n : ℕ) → looked ≡ i → i ≡ n → looked ≡ min (n + 1) n
-counted_end i looked n e h = omega arith
-
 -- the length of the part from place n on
 pub length-on : (n : ℕ) (s : List ℕ) → length (take (length s - n) (drop n s)) ≡ length s - n
 length-on n s = ap (λ (l : List ℕ). length l) (tail-is n s) ∙ length-drop n s
-
--- a count that goes on in the part from codon i on
-pub counted-on : (s : List ℕ) (i looked j more : ℕ) → i ≤ length s / 3 → looked ≡ i → more ≡ min (j + 1) (length (take (length s - i * 3) (drop (i * 3) s)) / 3) → looked + more ≡ min (i + j + 1) (length s / 3)
-counted-on s i looked j more h e is = omega (arith, length-on (i * 3) s)
 
 -- the whole codons through the first stop, where there is one and where there is none
 module _ (t : ℕ) (es : List Exception) (s : List ℕ) (stop looked : ℕ) (is : looked ≡ min (stop + 1) (length s / 3)) where
