@@ -10,23 +10,18 @@ use rules::Class;
 fn class_by_counts(deleted: usize, inserted: usize, copy: bool) -> Class
     ensures { result ≡ class_by_counts deleted inserted copy }
 {
-    match inserted {
-        0 => return Class::Deletion,
-        _ => {}
-    }
-    match deleted {
-        0 => {
-            if copy {
-                Class::Duplication
-            } else {
-                Class::Insertion
-            }
+    if inserted == 1 && deleted == 1 {
+        Class::Substitution
+    } else if inserted == 0 {
+        Class::Deletion
+    } else if deleted == 0 {
+        if copy {
+            Class::Duplication
+        } else {
+            Class::Insertion
         }
-        1 => match inserted {
-            1 => Class::Substitution,
-            _ => Class::Delins,
-        },
-        _ => Class::Delins,
+    } else {
+        Class::Delins
     }
 }
 
@@ -42,20 +37,14 @@ pub fn class_of(
 ) -> Class
     ensures { result ≡ class_by number deleted inserted reference altered flag copy }
 {
-    match number {
-        1 => return Class::StartLost,
-        _ => {}
+    if number == 1 {
+        return Class::StartLost;
     }
-    match deleted {
-        0 => {}
-        _ => match reference {
-            b'*' => return Class::Extension,
-            _ => {}
-        },
+    if deleted != 0 && reference == b'*' {
+        return Class::Extension;
     }
-    match altered {
-        b'*' => return Class::StopGained,
-        _ => {}
+    if altered == b'*' {
+        return Class::StopGained;
     }
     if flag {
         return Class::Frameshift;

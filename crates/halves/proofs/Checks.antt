@@ -1,8 +1,7 @@
 -- Laws of a test of each letter that packed bytes hold, by whole bytes and the last: proved once, for whichever test. Assumes nothing.
-use Rattle.std.proofs.Common.{◌≡◌, ℕ, zero, suc, ◌+◌, ◌*◌, ◌/◌, ◌%◌, ◌<◌, ◌≤◌, Bool, true, false, not, ◌&&◌, eqb, List, [], ◌∷◌, length, get_or, take, replicate, sym, refl, ap, ◌∙◌, arith, eq-eqb}
+use Rattle.std.proofs.Common.{◌≡◌, ℕ, zero, suc, ◌+◌, ◌*◌, ◌/◌, ◌%◌, ◌<◌, ◌≤◌, Bool, true, false, ◌&&◌, eqb, List, [], ◌∷◌, length, get_or, take, replicate, sym, refl, ap, ◌∙◌, arith, eq-eqb}
 use mathlib.Core.Bool.{and-true, and-false, and_assoc}
 use lib.ListN.{get_or-eq_default}
-use borrow.Author.Tests.{not-true, not-false}
 use Rattle.rules.specs.Bytes.{all}
 use Rattle.rules.specs.Packed.{halves, set_at, letter_of, letters_in, half_up, unpacked}
 use Rattle.rules.proofs.Packed.{spare-zero, spare-used}
@@ -69,18 +68,18 @@ module _ (p : ℕ → Bool) where
 
     -- the test of the bytes decides
     module _ (pairs : Bool) (is : pairs ≡ all (are_pair p) (take (n / 2) bs)) (e : p 0 ≡ false) where
-      pub some-fails : not pairs ≡ true → false ≡ all p (unpacked n bs)
+      pub some-fails : pairs ≡ false → false ≡ all p (unpacked n bs)
       some-fails bad-pairs = by (n % 2) refl
         where
           bad : all (are_pair p) (take (n / 2) bs) ≡ false
-          bad = sym is ∙ not-true pairs bad-pairs
+          bad = sym is ∙ bad-pairs
 
           by : (k : ℕ) → n % 2 ≡ k → false ≡ all p (unpacked n bs)
           by zero h = sym (even-tested h ∙ bad)
           by (suc k) h = sym (odd-tested (λ (z : n % 2 ≡ 0). omega arith) e ∙ rw bad)
 
-      pub all-even : not pairs ≡ false → n % 2 ≡ 0 → true ≡ all p (unpacked n bs)
-      all-even good h = sym (even-tested h ∙ sym is ∙ not-false pairs good)
+      pub all-even : pairs ≡ true → n % 2 ≡ 0 → true ≡ all p (unpacked n bs)
+      all-even good h = sym (even-tested h ∙ sym is ∙ good)
 
-      pub all-odd : (last : Bool) → not pairs ≡ false → (n % 2 ≡ 0 → ⊥) → last ≡ is_last p (get_or bs (n / 2) 0) → last ≡ all p (unpacked n bs)
-      all-odd last good h q = q ∙ sym (odd-tested h e ∙ rw (← is, not-false pairs good))
+      pub all-odd : (last : Bool) → pairs ≡ true → (n % 2 ≡ 0 → ⊥) → last ≡ is_last p (get_or bs (n / 2) 0) → last ≡ all p (unpacked n bs)
+      all-odd last good h q = q ∙ sym (odd-tested h e ∙ rw (← is, good))

@@ -1,12 +1,13 @@
 // Which letters packed bytes hold.
-ghost use Rattle.std.specs.Prelude.{◌≡◌, ◌<◌, length};
+ghost use Rattle.std.specs.Prelude.{◌≡◌, ℕ, Bool, false, ◌<◌, length};
+ghost use Rattle.bytewise.specs.Tests.{Computes};
 ghost use Rattle.rules.specs.Bytes.{all};
 ghost use Rattle.rules.specs.Letters.{is_letter};
 ghost use Rattle.rules.specs.Packed.{half_up, unpacked};
 ghost use Rattle.rules.specs.Letters.{is_base};
 ghost use Rattle.halves.specs.Halves.{are_pair, is_last};
 
-use numbers::least;
+use bytewise::all_blocks;
 use std::num::wrapping_sub_u8;
 
 // Whether both halves of a byte are letters: neither is empty.
@@ -38,45 +39,26 @@ fn is_last_base(b: u8) -> bool
     (b == 16) | (b == 32) | (b == 64) | (b == 128)
 }
 
-// No byte ends the loop early, so that it goes many at a time.
-fn all_pairs(packed: &[u8]) -> bool
-    ensures { result ≡ all (are_pair is_letter) packed.now }
+// Whether all of so many letters pass: those of whole bytes by a test of a byte, and that of an odd last byte, whose spare half is zero.
+fn packed_pass<P: Fn(u8) -> bool, L: Fn(u8) -> bool>(
+    packed: &[u8],
+    size: usize,
+    pair: P,
+    last: L,
+) -> bool
+    requires size_value { (0 < size) × (length packed.now ≡ half_up size) }
+    requires pair_callable { P.IsAlwaysCallable pair }
+    requires last_callable { L.IsAlwaysCallable last }
+    ensures { (p : ℕ → Bool) → p 0 ≡ false → Computes (P.post pair) (are_pair p) → Computes (L.post last) (is_last p) → result ≡ all p (unpacked size packed.now) }
 {
-    let mut good = true;
-    let mut i = 0;
-    while i < packed.len() {
-        good = good & is_pair(packed[i]);
-        i += 1;
+    let whole = size / 2;
+    if !all_blocks(&packed[..whole], pair) {
+        return false;
     }
-    good
-}
-
-// The same of bases in a block.
-fn block_base_pairs(packed: &[u8]) -> bool
-    ensures { result ≡ all (are_pair is_base) packed.now }
-{
-    let mut good = true;
-    let mut i = 0;
-    while i < packed.len() {
-        good = good & is_base_pair(packed[i]);
-        i += 1;
+    if size % 2 == 0 {
+        return true;
     }
-    good
-}
-
-// Block by block: the first with another letter ends it.
-fn all_base_pairs(packed: &[u8]) -> bool
-    ensures { result ≡ all (are_pair is_base) packed.now }
-{
-    let mut i = 0;
-    while i < packed.len() {
-        let end = i + least(256, packed.len() - i);
-        if !block_base_pairs(&packed[i..end]) {
-            return false;
-        }
-        i = end;
-    }
-    true
+    last(packed[whole])
 }
 
 // Whether all of so many letters are letters, and the spare half is zero.
@@ -84,14 +66,7 @@ pub fn packed_letters(packed: &[u8], size: usize) -> bool
     requires { (0 < size) × (length packed.now ≡ half_up size) }
     ensures { result ≡ all is_letter (unpacked size packed.now) }
 {
-    let whole = size / 2;
-    if !all_pairs(&packed[..whole]) {
-        return false;
-    }
-    if size % 2 == 0 {
-        return true;
-    }
-    is_last(packed[whole])
+    packed_pass(packed, size, is_pair, is_last)
 }
 
 // Whether all of them are one base each.
@@ -99,12 +74,5 @@ pub fn packed_bases(packed: &[u8], size: usize) -> bool
     requires { (0 < size) × (length packed.now ≡ half_up size) }
     ensures { result ≡ all is_base (unpacked size packed.now) }
 {
-    let whole = size / 2;
-    if !all_base_pairs(&packed[..whole]) {
-        return false;
-    }
-    if size % 2 == 0 {
-        return true;
-    }
-    is_last_base(packed[whole])
+    packed_pass(packed, size, is_base_pair, is_last_base)
 }

@@ -7,7 +7,6 @@ ghost use Rattle.rules.specs.Record.{ending};
 ghost use Rattle.joined.specs.Joined.{joined, Joins};
 
 use changes::byte_at;
-use numbers::least;
 use sequences::{common_prefix_len, common_suffix_len};
 
 // How many first residues R and A share. R is compared with itself only where it stands beside other residues than its own.
@@ -36,7 +35,7 @@ pub fn ending_over(r: &[u8], m: &[u8], head: usize, back: usize, s: usize, flag:
         return 0;
     }
     let behind = r.len() - back;
-    let most = least(r.len(), head + m.len() + behind) - s;
+    let most = r.len().min(head + m.len() + behind) - s;
     if most < behind {
         return most;
     }

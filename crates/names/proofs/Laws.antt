@@ -196,33 +196,20 @@ module _ (s : List ℕ) (room : ℕ) where
     unfolding one_letters first_number unless
     threes-given e h = (rw (even, e, le-ltb room (length (each one_of (threes s))) (omega (arith, length-residues s even e))), sym (length-residues s even e))
 
--- the loops' turns: k is the row that was found
-module _ (s : List ℕ) (i k : ℕ) (h : i < length s) (e : three_of (get_or s i 0) ≡ three_at k) where
-  pub ones-stop : k ≡ 25 → all is_one (drop i s) ≡ false
-  ones-stop f = all-stop is_one s i h (is_one_lem (get_or s i 0) k e ∙ le-ltb k 25 (omega arith))
-
-  pub ones-more : k ≤ 25 → (k ≡ 25 → ⊥) → all is_one (drop i s) ≡ all is_one (drop (i + 1) s)
-  ones-more l f = all_more is_one s i h (is_one_lem (get_or s i 0) k e ∙ lt-ltb k 25 (omega arith))
-
-  pub ones-row : all is_one s ≡ true → k < 25
-  ones-row a = ltb-true k 25 (sym (is_one_lem (get_or s i 0) k e) ∙ all_at is_one s i a h)
-
-module _ (s : List ℕ) (i k : ℕ) (h : i < length s / 3) (e : one_of (name_at s i) ≡ one_at k) where
-  pub threes-stop : k ≡ 25 → all is_three (threes (drop (i * 3) s)) ≡ false
+-- the loops' turns
+module _ (s : List ℕ) (i : ℕ) (h : i < length s / 3) where
+  pub threes-stop : is_three (name_at s i) ≡ false → all is_three (threes (drop (i * 3) s)) ≡ false
   unfolding all
-  threes-stop f = rw (threes-cons s i h, is_three_lem (name_at s i) k e, le-ltb k 25 (omega arith))
+  threes-stop e = rw (threes-cons s i h, e)
 
-  pub threes-more : k ≤ 25 → (k ≡ 25 → ⊥) → all is_three (threes (drop (i * 3) s)) ≡ all is_three (threes (drop ((i + 1) * 3) s))
+  pub threes-more : is_three (name_at s i) ≡ true → all is_three (threes (drop (i * 3) s)) ≡ all is_three (threes (drop ((i + 1) * 3) s))
   unfolding all
-  threes-more l f = rw (threes-cons s i h, is_three_lem (name_at s i) k e, lt-ltb k 25 (omega arith))
+  threes-more e = rw (threes-cons s i h, e)
 
   -- the name, and those behind it
-  pub threes-row : all is_three (threes (drop (i * 3) s)) ≡ true → (k < 25) × (all is_three (threes (drop ((i + 1) * 3) s)) ≡ true)
+  pub threes-row : all is_three (threes (drop (i * 3) s)) ≡ true → (is_three (name_at s i) ≡ true) × (all is_three (threes (drop ((i + 1) * 3) s)) ≡ true)
   unfolding all
-  threes-row a =
-      let b : (is_three (name_at s i) && all is_three (threes (drop ((i + 1) * 3) s))) ≡ true = rw (threes-cons s i h) at a in
-      let p = (and-eq-true_iff (is_three (name_at s i)) (all is_three (threes (drop ((i + 1) * 3) s)))).0 b in
-      (ltb-true k 25 (sym (is_three_lem (name_at s i) k e) ∙ p.0), p.1)
+  threes-row a = (and-eq-true_iff (is_three (name_at s i)) (all is_three (threes (drop ((i + 1) * 3) s)))).0 (rw (threes-cons s i h) at a)
 
 module _ (s out : List ℕ) (i : ℕ) (whole : List ℕ) where
   pub written-end : length s ≤ i → over_from (i * 3) (each three_of (drop i s)) out ≡ whole → out ≡ whole

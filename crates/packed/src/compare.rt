@@ -6,7 +6,6 @@ ghost use Rattle.rules.specs.Packed.{letters_in};
 ghost use Rattle.packed.specs.Halves.{HoldsPairs};
 
 use crate::unpack::unpack_part;
-use numbers::least;
 use sequences::{common_prefix_len, common_suffix_len};
 
 // How many first letters from a place on are equal to a block's.
@@ -35,15 +34,13 @@ pub(crate) fn part_prefix_len(
     requires to_in_bounds { to ≤ length packed.now * 2 }
     ensures { result ≡ common_prefix (part from to (letters_in packed.now)) new.now }
 {
-    let n = least(to - from, new.len());
-    let mut i = 0;
-    while i < n {
-        let end = i + least(64, n - i);
+    let n = new.len().min(to - from);
+    for i in (0..n).step_by(64) {
+        let end = n.min(i + 64);
         let found = block_prefix(packed, from + i, pairs, &new[i..end]);
         if found < end - i {
             return i + found;
         }
-        i = end;
     }
     n
 }
@@ -61,14 +58,6 @@ fn block_suffix(packed: &[u8], at: usize, pairs: &[u16; 256], new: &[u8]) -> usi
     common_suffix_len(&block[..n], new)
 }
 
-// At most 64 of those that are left.
-pub(crate) fn block_of(left: usize) -> usize
-    requires { 0 < left }
-    ensures { (0 < result) × (result ≤ left) × (result ≤ 64) }
-{
-    if left < 64 { left } else { 64 }
-}
-
 // How many last letters of from..to are equal to the last bytes of `new`: `left` more are to be looked at, before p and before q.
 pub(crate) fn part_suffix_len(
     packed: &[u8],
@@ -82,12 +71,13 @@ pub(crate) fn part_suffix_len(
     requires to_in_bounds { to ≤ length packed.now * 2 }
     ensures { result ≡ common_suffix (part from to (letters_in packed.now)) new.now }
 {
-    let n = least(to - from, new.len());
+    let n = new.len().min(to - from);
     let mut p = to;
     let mut q = new.len();
     let mut left = n;
+    // Kept: the blocks go from the end, and the last of them may be short: how far a turn moves back is computed in it.
     while 0 < left {
-        let k = block_of(left);
+        let k = left.min(64);
         let at = p - k;
         let start = q - k;
         let found = block_suffix(packed, at, pairs, &new[start..q]);

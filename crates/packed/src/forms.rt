@@ -19,7 +19,6 @@ use crate::unpack::{letter_pairs, unpack_part};
 use halves::check::{packed_bases, packed_letters};
 use halves::half::{half_at, letter_of};
 use letters::letter_set;
-use numbers::wide;
 use rules::{Exceptions, Form};
 use sequences::{all_letters, common_prefix_len, common_suffix_len, write_revcomp};
 use translation::{all_bases, write_translated};
@@ -55,7 +54,7 @@ pub fn letter_at(letters: &[u8], form: Form, place: usize) -> u8
 {
     match form {
         Form::Bytes => letters[place],
-        Form::Packed(_) => letter_of(wide(half_at(letters, place))),
+        Form::Packed(_) => letter_of(usize::from(half_at(letters, place))),
     }
 }
 
@@ -68,7 +67,7 @@ pub fn set_at(letters: &[u8], form: Form, place: usize) -> usize
 {
     match form {
         Form::Bytes => letter_set(letters[place]),
-        Form::Packed(_) => wide(half_at(letters, place)),
+        Form::Packed(_) => usize::from(half_at(letters, place)),
     }
 }
 

@@ -11,7 +11,6 @@ ghost use Rattle.rules.specs.Packed.{set_at, letters_in};
 ghost use Rattle.packed.specs.Halves.{codons_at};
 
 use excepted::put_exceptions;
-use numbers::wide;
 use rules::Exceptions;
 use tables::residues_of;
 
@@ -21,7 +20,7 @@ pub(crate) fn even_codon(packed: &[u8], j: usize, table: usize, lut: &[u8; 4096]
     requires j_in_bounds { j + 1 < length packed.now }
     ensures { result ≡ codon_rule table (set_at packed.now (j * 2)) (set_at packed.now (j * 2 + 1)) (set_at packed.now ((j + 1) * 2)) }
 {
-    let i = (wide(packed[j]) * 256 + wide(packed[j + 1])) / 16;
+    let i = (usize::from(packed[j]) * 256 + usize::from(packed[j + 1])) / 16;
     lut[i]
 }
 
@@ -31,7 +30,7 @@ pub(crate) fn odd_codon(packed: &[u8], j: usize, table: usize, lut: &[u8; 4096])
     requires j_in_bounds { j + 1 < length packed.now }
     ensures { result ≡ codon_rule table (set_at packed.now (j * 2 + 1)) (set_at packed.now ((j + 1) * 2)) (set_at packed.now ((j + 1) * 2 + 1)) }
 {
-    let i = (wide(packed[j]) * 256 + wide(packed[j + 1])) % 4096;
+    let i = (usize::from(packed[j]) * 256 + usize::from(packed[j + 1])) % 4096;
     lut[i]
 }
 
@@ -53,15 +52,13 @@ fn write_pairs(
 {
     let start = first / 2 + done + (done + first % 2) / 2;
     let pairs = (codons - done) / 2;
-    let mut k = 0;
-    while k < pairs {
+    for k in 0..pairs {
         let i = done + k * 2;
         let j = start + k * 3;
         let one = even_codon(packed, j, table, lut);
         let two = odd_codon(packed, j + 1, table, lut);
         out[i] = one;
         out[i + 1] = two;
-        k += 1;
     }
     let last = done + pairs * 2;
     if last < codons {
@@ -87,8 +84,7 @@ fn write_fours(
 {
     let start = first / 2 + done + (done + first % 2) / 2;
     let fours = (codons - done) / 4;
-    let mut k = 0;
-    while k < fours {
+    for k in 0..fours {
         let i = done + k * 4;
         let j = start + k * 6;
         let one = even_codon(packed, j, table, lut);
@@ -99,7 +95,6 @@ fn write_fours(
         out[i + 1] = two;
         out[i + 2] = three;
         out[i + 2 + 1] = four;
-        k += 1;
     }
     write_pairs(packed, first, done + fours * 4, codons, table, lut, out);
 }
@@ -115,7 +110,7 @@ fn write_packed_translated(
 )
     requires holds_code { HoldsCode table lut.now }
     requires codons_in_bounds { first + codons * 3 ≤ length packed.now * 2 }
-    requires codons_in_bounds_2 { codons ≤ length out.old }
+    requires room { codons ≤ length out.old }
     ensures { out.new ≡ over (folded_translated table [] (codons_at first codons packed.now)) out.old }
 {
     if first % 2 == 0 {

@@ -7,7 +7,6 @@ ghost use Rattle.rules.specs.Complement.{reverse_complement};
 ghost use Rattle.rules.specs.Packed.{letters_in};
 ghost use Rattle.packed.specs.Halves.{HoldsPairs};
 
-use crate::compare::block_of;
 use crate::unpack::unpack_part;
 use sequences::write_revcomp;
 
@@ -27,8 +26,9 @@ pub(crate) fn write_turned(
 {
     let mut p = to;
     let mut i = 0;
+    // Kept: the blocks go from the end, and the last of them may be short: how far a turn moves back is computed in it.
     while from < p {
-        let k = block_of(p - from);
+        let k = (p - from).min(64);
         let at = p - k;
         let mut block = [0u8; 64];
         unpack_part(packed, at, p, pairs, &mut block);

@@ -6,8 +6,6 @@ ghost use Rattle.rules.proofs.Over.{over_from};
 ghost use Rattle.rules.specs.Packed.{letters_in, set_at, letter_of};
 ghost use Rattle.packed.specs.Halves.{HoldsPairs};
 
-use numbers::wide;
-
 // The two letters of each byte, to be loaded once and lent.
 pub fn letter_pairs() -> [u16; 256]
     ensures { HoldsPairs result }
@@ -19,11 +17,10 @@ pub fn letter_pairs() -> [u16; 256]
 fn pair_at(packed: &[u8], j: usize, pairs: &[u16; 256]) -> u16
     requires holds_pairs { HoldsPairs pairs.now }
     requires j_in_bounds { j < length packed.now }
-    ensures result_value { result % 256 ≡ letter_of (set_at packed.now (j * 2)) }
+    ensures first { result % 256 ≡ letter_of (set_at packed.now (j * 2)) }
     ensures second { result / 256 ≡ letter_of (set_at packed.now (j * 2 + 1)) }
 {
-    let i = wide(packed[j]);
-    pairs[i]
+    pairs[usize::from(packed[j])]
 }
 
 // Writes the letters of the places from + done .. to, of which the first is in a high half: two at a time.
@@ -44,13 +41,11 @@ fn write_bytes(
     let n = to - from;
     let start = (from + done) / 2;
     let both = (n - done) / 2;
-    let mut k = 0;
-    while k < both {
+    for k in 0..both {
         let i = done + k * 2;
         let p = pair_at(packed, start + k, pairs);
         out[i] = (p % 256) as u8;
         out[i + 1] = (p / 256) as u8;
-        k += 1;
     }
     let last = done + both * 2;
     if last < n {

@@ -1,14 +1,15 @@
--- Laws of a comparison that goes over two lists in blocks and in eights. Assumes nothing.
+-- Laws of a comparison that goes over two lists in blocks. Assumes nothing.
 use mathlib.Core.Path.{◌≡◌, sym, ap, ap₂, ◌∙◌}
 use mathlib.Core.Bool.{true, false}
 use mathlib.Core.List.{List, ◌++◌}
-use Prim.Native.Nat.{ℕ, ◌+◌, ◌-◌, ◌<◌, ◌≤◌}
+use Prim.Native.Nat.{ℕ, ◌+◌, ◌*◌, ◌/◌, ◌<◌, ◌≤◌, min}
+use native.Mathlib.Nat.{mul-le-mul_left}
 use native.Mathlib.Omega.{arith}
 use lib.ListN.{length, take, drop, take-append-drop, length-drop}
 use lib.Seq.{drop-drop, length-take-le}
 use Rattle.rules.specs.Bytes.{same}
 use Rattle.rules.specs.Trims.{common_prefix}
-use Rattle.rules.proofs.Trims.{cp_append, cp_take, same_self}
+use Rattle.rules.proofs.Trims.{cp_le_l, cp_le_r, cp_append, cp_take, same_self}
 use Rattle.same_blocks.proofs.Blocks.{same_true}
 
 -- k equal bytes from place i on
@@ -20,12 +21,6 @@ first_part a b i k ha hb e =
     let right : drop i b ≡ p ++ drop (i + k) b = sym (take-append-drop k (drop i b)) ∙ rw (drop-drop k i b, ← same_true p (take k (drop i b)) e) in
     ap₂ common_prefix left right ∙ cp_append p (drop (i + k) a) (drop (i + k) b) ∙ ap (◌+ common_prefix (drop (i + k) a) (drop (i + k) b)) long
 
--- a block of them
-pub first_block : (a b : List ℕ) (i end : ℕ) → i ≤ end → end ≤ length a → end ≤ length b → same (take (end - i) (drop i a)) (take (end - i) (drop i b)) ≡ true → common_prefix (drop i a) (drop i b) ≡ (end - i) + common_prefix (drop end a) (drop end b)
-first_block a b i end h ha hb e =
-    let at : i + (end - i) ≡ end = omega arith in
-    first_part a b i (end - i) (omega arith) (omega arith) e ∙ ap (λ (k : ℕ). (end - i) + common_prefix (drop k a) (drop k b)) at
-
 -- fewer than n are equal where the first n differ
 pub differ_in : (n : ℕ) (a b : List ℕ) → same (take n a) (take n b) ≡ false → common_prefix a b < n
 differ_in n a b e = not-le n (common_prefix a b) (λ h. never (sym e ∙ ap (same (take n a)) (sym (cp_take n a b h)) ∙ same_self (take n a)))
@@ -35,3 +30,14 @@ differ_in n a b e = not-le n (common_prefix a b) (λ h. never (sym e ∙ ap (sam
 
     not-le : (m p : ℕ) → (m ≤ p → ⊥) → p < m
     not-le m p f = omega arith
+
+-- or where fewer than n are left
+pub few_left : (a b : List ℕ) (i n : ℕ) → i ≤ min (length a) (length b) → min (length a) (length b) < i + n → common_prefix (drop i a) (drop i b) < n
+few_left a b i n g h = omega (arith, cp_le_l (drop i a) (drop i b), cp_le_r (drop i a) (drop i b), length-drop i a, length-drop i b)
+
+-- block j of those of d bytes that m has, and what they leave
+pub block_within : (j m d : ℕ) → 0 < d → j < m / d → j * d + d ≤ m
+block_within j m d some h = omega (arith, mul-le-mul_left d h)
+
+pub blocks_leave : (m d : ℕ) → 0 < d → (m / d * d ≤ m) × (m < m / d * d + d)
+blocks_leave m d some = (omega arith, omega arith)

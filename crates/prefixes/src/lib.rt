@@ -1,58 +1,41 @@
 // The number of equal first bytes of two byte strings, and whether they are the same.
 #![tactic(auto)]
 
-ghost use Rattle.std.specs.Prelude.{◌≡◌, ◌+◌, ◌<◌, ◌≤◌, min, length, drop};
+ghost use Rattle.std.specs.Prelude.{◌≡◌, ◌+◌, ◌*◌, ◌<◌, ◌≤◌, min, length, drop};
 ghost use Rattle.rules.specs.Bytes.{same};
 ghost use Rattle.rules.specs.Trims.{common_prefix};
 
-use numbers::least;
-use same_blocks::{same_eight, same_eights};
+use same_blocks::same_eights;
 
-// How many first bytes are equal, in whole blocks.
-fn equal_first_blocks(a: &[u8], b: &[u8], n: usize) -> usize
-    requires { (n ≤ length a.now) × (n ≤ length b.now) }
-    ensures upper_bound { result ≤ n }
-    ensures b_value { common_prefix a.now b.now ≡ result + common_prefix (drop result a.now) (drop result b.now) }
+// How many first bytes are equal where the first k are, in blocks of N eights from there on. Fewer equal bytes than a block has are left.
+fn equal_blocks<const N: usize>(a: &[u8], b: &[u8], k: usize) -> usize
+    requires eights { (0 < N) × (N ≤ 8) }
+    requires k_in_bounds { (k ≤ length a.now) × (k ≤ length b.now) }
+    ensures upper_bound { result ≤ min (length a.now) (length b.now) }
+    ensures passes_equal { k + common_prefix (drop k a.now) (drop k b.now) ≡ result + common_prefix (drop result a.now) (drop result b.now) }
+    ensures few { common_prefix (drop result a.now) (drop result b.now) < N * 8 }
 {
-    let mut i = 0;
-    while 64 <= n - i {
-        let end = i + 64;
-        if !same_eights(&a[i..end], &b[i..end]) {
+    let size = N * 8;
+    let blocks = (a.len().min(b.len()) - k) / size;
+    for j in 0..blocks {
+        let i = k + j * size;
+        if !same_eights::<N>(a, b, i) {
             return i;
         }
-        i = end;
     }
-    i
-}
-
-// The same where the first k are equal, in eights from there on. Fewer than eight equal bytes are left.
-fn equal_first_eights(a: &[u8], b: &[u8], k: usize, n: usize) -> usize
-    requires { (k ≤ n) × (n ≡ min (length a.now) (length b.now)) }
-    ensures upper_bound { result ≤ n }
-    ensures b_value { k + common_prefix (drop k a.now) (drop k b.now) ≡ result + common_prefix (drop result a.now) (drop result b.now) }
-    ensures few { common_prefix (drop result a.now) (drop result b.now) < 8 }
-{
-    let mut i = k;
-    while 8 <= n - i {
-        if !same_eight(a, b, i) {
-            return i;
-        }
-        i += 8;
-    }
-    i
+    k + blocks * size
 }
 
 pub fn common_prefix_len(a: &[u8], b: &[u8]) -> usize
     ensures { result ≡ common_prefix a.now b.now }
 {
-    let n = least(a.len(), b.len());
-    let blocks = equal_first_blocks(a, b, n);
-    let mut i = equal_first_eights(a, b, blocks, n);
-    while i < n {
+    let blocks = equal_blocks::<8>(a, b, 0);
+    let eights = equal_blocks::<1>(a, b, blocks);
+    let n = a.len().min(b.len());
+    for i in eights..n {
         if a[i] != b[i] {
             return i;
         }
-        i += 1;
     }
     n
 }

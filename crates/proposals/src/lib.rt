@@ -7,6 +7,7 @@ ghost use Rattle.rules.specs.Translation.{is_residue};
 ghost use Rattle.rules.specs.Check.{replays, is_shortest, is_proposal};
 ghost use Rattle.replays.specs.Proposed.{proposed};
 
+use bytewise::all_bytes;
 use letters::is_residue;
 use replays::replays_to;
 use shortest::parts_there;
@@ -15,13 +16,7 @@ use shortest::parts_there;
 fn are_residues(s: &[u8]) -> bool
     ensures { result ≡ all is_residue s.now }
 {
-    let mut good = true;
-    let mut i = 0;
-    while i < s.len() {
-        good = good & is_residue(s[i]);
-        i += 1;
-    }
-    good
+    all_bytes(s, is_residue)
 }
 
 // Whether a number is from 1 to one more than a protein's residues.

@@ -16,7 +16,7 @@ use sequences::equals;
 // Behind the first m residues of a buffer, those of R from `back` on, so that `end` stand there.
 fn write_on(r: &[u8], back: usize, m: usize, end: usize, out: &mut [u8])
     requires m_in_bounds { (m ≤ length out.old) × (end ≤ length out.old) }
-    requires m_in_bounds_2 { back + (end - m) ≤ length r.now }
+    requires r_in_bounds { back + (end - m) ≤ length r.now }
     ensures { take end out.new ≡ take end (take m out.old ++ drop back r.now) }
 {
     if m < end {

@@ -7,17 +7,13 @@ ghost use Rattle.rules.specs.Record.{replayed};
 ghost use Rattle.rules.specs.Check.{stands, replays};
 ghost use Rattle.replays.specs.Proposed.{proposed};
 
-use numbers::least;
 use sequences::equals;
 
 // How many of a protein's residues stand before a number: all of them where it lies further on.
 fn residues_before(residues: usize, number: usize) -> usize
     ensures { result ≡ min (number - 1) residues }
 {
-    if number == 0 {
-        return 0;
-    }
-    least(number - 1, residues)
+    number.saturating_sub(1).min(residues)
 }
 
 // Whether the deleted residues stand in R at a number, whatever is inserted.
@@ -55,7 +51,7 @@ fn gives(reference: &[u8], altered: &[u8], number: usize, deleted: &[u8], insert
     ensures { result ≡ same (replayed number deleted.now inserted.now reference.now) altered.now }
 {
     let at = residues_before(reference.len(), number);
-    let end = least(at + deleted.len(), reference.len());
+    let end = (at + deleted.len()).min(reference.len());
     is_replaced(reference, altered, at, end, inserted)
 }
 

@@ -1,12 +1,12 @@
 -- Laws of a comparison that goes over two lists in eights, each read as one number. Assumes nothing.
-use mathlib.Core.Path.{◌≡◌, refl, ap, ap₂, ◌∙◌}
+use mathlib.Core.Path.{◌≡◌, refl, sym, ap, ap₂, ◌∙◌}
 use mathlib.Core.Bool.{Bool, true, false, ◌&&◌}
-use mathlib.Core.List.{List, [], ◌∷◌}
+use mathlib.Core.List.{List, [], ◌∷◌, ◌++◌}
 use Prim.Native.Nat.{ℕ, zero, suc, ◌+◌, ◌*◌, ◌<◌, ◌≤◌}
 use native.Mathlib.Omega.{arith}
 use lib.Dec.{eqb}
 use lib.ListN.{length, take, drop, get_or, length-drop}
-use lib.Seq.{drop-cons, drop-drop}
+use lib.Seq.{drop-cons, drop-drop, take-add, length-take-le}
 use borrow.Author.Tests.{eq-eqb, ne_eqb, eqb-true, eqb-false}
 use Rattle.rules.specs.Bytes.{same}
 use Rattle.numbers.specs.Packed.{eight_at}
@@ -50,16 +50,17 @@ module _ (a b : List ℕ) (small : (k : ℕ) → get_or a k 0 < 256) (small' : (
   pub eight-same : (k : ℕ) → k + 8 ≤ length a → k + 8 ≤ length b → eqb (eight_at a k) (eight_at b k) ≡ same (take 8 (drop k a)) (take 8 (drop k b))
   eight-same k h g = ap₂ eqb (eight_packed a k) (eight_packed b k) ∙ packed-same 8 k h g
 
--- a part of both lists, and the rest
-same_split : (n : ℕ) (a b : List ℕ) → n ≤ length a → n ≤ length b → same (take n a) (take n b) && same (drop n a) (drop n b) ≡ same a b
+same_append : (p q r s : List ℕ) → length p ≡ length r → same (p ++ q) (r ++ s) ≡ same p r && same q s
 unfolding same
-same_split zero a b h k = refl
-same_split (suc n) [] b h k = absurd (omega arith)
-same_split (suc n) (x ∷ a) [] h k = absurd (omega arith)
-same_split (suc n) (x ∷ a) (y ∷ b) h k = and_and (eqb x y) (same (take n a) (take n b)) (same (drop n a) (drop n b)) ∙ ap (eqb x y &&◌) (same_split n a b (omega arith) (omega arith))
+same_append [] q [] s h = refl
+same_append [] q (y ∷ r) s h = absurd (omega arith)
+same_append (x ∷ p) q [] s h = absurd (omega arith)
+same_append (x ∷ p) q (y ∷ r) s h = ap (eqb x y &&◌) (same_append p q r s (omega arith)) ∙ sym (and_and (eqb x y) (same p r) (same q s))
 
--- a loop that keeps what it found of two lists, n bytes a turn
-pub same_and_part : (a b : List ℕ) (k n : ℕ) (good one : Bool) → k + n ≤ length a → k + n ≤ length b → one ≡ same (take n (drop k a)) (take n (drop k b)) → good && one && same (drop (k + n) a) (drop (k + n) b) ≡ good && same (drop k a) (drop k b)
-same_and_part a b k n good one h g e =
-    let rest = same_split n (drop k a) (drop k b) (simp length-drop (omega arith)) (simp length-drop (omega arith)) in
-    and_and good one (same (drop (k + n) a) (drop (k + n) b)) ∙ ap (good &&◌) (rw (e, ← drop-drop n k a, ← drop-drop n k b) rest)
+-- a loop that keeps what it found of the bytes from place k on, n more a turn
+pub same_more : (a b : List ℕ) (k m n : ℕ) {good one : Bool} → k + m + n ≤ length a → k + m + n ≤ length b → good ≡ same (take m (drop k a)) (take m (drop k b)) → one ≡ same (take n (drop (k + m) a)) (take n (drop (k + m) b)) → good && one ≡ same (take (m + n) (drop k a)) (take (m + n) (drop k b))
+same_more a b k m n h g e f =
+    let long : length (take m (drop k a)) ≡ length (take m (drop k b)) =
+    length-take-le m (drop k a) (simp length-drop (omega arith)) ∙ sym (length-take-le m (drop k b) (simp length-drop (omega arith))) in
+    rw (take-add m n (drop k a), take-add m n (drop k b), drop-drop m k a, drop-drop m k b)
+    (ap₂ ◌&&◌ e f ∙ sym (same_append _ _ _ _ long))

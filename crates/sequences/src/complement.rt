@@ -4,23 +4,19 @@ ghost use Rattle.rules.specs.Bytes.{all, over};
 ghost use Rattle.rules.specs.Letters.{is_letter};
 ghost use Rattle.rules.specs.Complement.{reverse_complement, complemented};
 ghost use Rattle.rules.specs.Answer.{written_of, bytes_of};
+ghost use Rattle.rules.specs.Refusals.{told};
 ghost use Rattle.letters.specs.Sets.{HoldsComplements};
 
+use bytewise::all_bytes;
 use letters::complement::{complement_of, complements};
 use letters::is_letter;
-use rules::Written;
+use rules::Refusal;
 
-// Whether each byte is one of the fifteen letters. No byte ends the loop early, so that it goes many at a time.
+// Whether each byte is one of the fifteen letters.
 pub fn all_letters(seq: &[u8]) -> bool
     ensures { result ≡ all is_letter seq.now }
 {
-    let mut good = true;
-    let mut i = 0;
-    while i < seq.len() {
-        good = good & is_letter(seq[i]);
-        i += 1;
-    }
-    good
+    all_bytes(seq, is_letter)
 }
 
 // Writes the reverse complement of letters, by the table of complements, to the buffer's start.
@@ -31,10 +27,8 @@ fn write_reversed(seq: &[u8], complements: &[u8; 32], out: &mut [u8])
     ensures { out.new ≡ over (reverse_complement seq.now) out.old }
 {
     let n = seq.len();
-    let mut i = 0;
-    while i < n {
+    for i in 0..n {
         out[i] = complement_of(complements, seq[n - 1 - i]);
-        i += 1;
     }
 }
 
@@ -49,16 +43,16 @@ pub fn write_revcomp(seq: &[u8], out: &mut [u8])
 }
 
 // The reverse complement: 15 for too little room, then 2 for a byte that is none of the fifteen letters.
-pub fn revcomp(seq: &[u8], out: &mut [u8]) -> Written
-    ensures value { result ≡ written_of (complemented seq.now (length out.old)) }
+pub fn revcomp(seq: &[u8], out: &mut [u8]) -> Result<usize, Refusal>
+    ensures value { told result ≡ written_of (complemented seq.now (length out.old)) }
     ensures out_after { out.new ≡ over (bytes_of (complemented seq.now (length out.old))) out.old }
 {
     if out.len() < seq.len() {
-        return Written::Refused(15);
+        return Err(Refusal::Output);
     }
     if !all_letters(seq) {
-        return Written::Refused(2);
+        return Err(Refusal::Letter);
     }
     write_revcomp(seq, out);
-    Written::Bytes(seq.len())
+    Ok(seq.len())
 }

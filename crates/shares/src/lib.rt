@@ -6,7 +6,6 @@ ghost use Rattle.rules.specs.Trims.{common_prefix};
 ghost use Rattle.rules.specs.Record.{ending};
 ghost use Rattle.shares.specs.Shares.{Shares};
 
-use numbers::least;
 use sequences::{common_prefix_len, common_suffix_len};
 
 // How many first residues R and A share, the first `ahead` and the last `behind` known to be shared. A known residue is looked at only where it
@@ -36,7 +35,7 @@ pub fn ending_of(r: &[u8], a: &[u8], s: usize, flag: bool, behind: usize) -> usi
     if flag {
         return 0;
     }
-    let known = least(behind, least(r.len(), a.len()) - s);
+    let known = behind.min(r.len().min(a.len()) - s);
     let r_end = r.len() - known;
     let a_end = a.len() - known;
     known + common_suffix_len(&r[s..r_end], &a[s..a_end])

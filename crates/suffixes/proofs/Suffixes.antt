@@ -2,7 +2,7 @@
 use mathlib.Core.Path.{◌≡◌, sym, ap, ap₂, ◌∙◌}
 use mathlib.Core.Bool.{true}
 use mathlib.Core.List.{List, ◌++◌}
-use Prim.Native.Nat.{ℕ, ◌+◌, ◌-◌, ◌<◌, ◌≤◌}
+use Prim.Native.Nat.{ℕ, ◌+◌, ◌-◌, ◌≤◌}
 use native.Mathlib.Omega.{arith}
 use lib.ListN.{length, take, drop, length-drop}
 use lib.Seq.{take-add, length-take-le}
@@ -36,20 +36,3 @@ last_block a b k i ha hb e =
     let right : take (length b - i - k + k - (length b - i - k)) (drop (length b - i - k) b) ≡ take k (drop n b) = rw (whole (length b - i - k) k, down (length b) i k) in
     let found : same (take k (drop m a)) (take k (drop n b)) ≡ true = ap₂ same (sym left) (sym right) ∙ e in
     rw (← back (length a) i k ha, ← back (length b) i k hb) (last_at a b k m n (omega arith) (omega arith) found)
-
-pub block_length : (l : List ℕ) (m k : ℕ) → m + k ≤ length l → length (take (m + k - m) (drop m l)) ≡ k
-block_length l m k h = rw (whole m k) (length-take-le k (drop m l) (simp length-drop (omega arith)))
-
--- i and k are counted
-pub counted : (n i k x y : ℕ) → n ≡ i + x → x ≡ k + y → n ≡ i + k + y
-counted n i k x y e f = omega arith
-
--- a block is left where 64 bytes are
-pub left_in : (l n i : ℕ) → n ≤ l → 64 ≤ n - i → i + 64 ≤ l
-left_in l n i h k = omega arith
-
-pub left_room : (l n i : ℕ) → n ≤ l → 64 ≤ n - i → l - i - 64 + 64 ≤ l
-left_room l n i h k = omega arith
-
-pub left_less : (n i : ℕ) → 64 ≤ n - i → n - (i + 64) < n - i
-left_less n i k = omega arith

@@ -1,42 +1,37 @@
 // The number of equal last bytes of two byte strings.
 #![tactic(auto)]
 
-ghost use Rattle.std.specs.Prelude.{◌≡◌, ◌+◌, ◌-◌, ◌≤◌, length, take};
+ghost use Rattle.std.specs.Prelude.{◌≡◌, ◌+◌, ◌-◌, ◌≤◌, min, length, take};
 ghost use Rattle.rules.specs.Trims.{common_suffix};
 
-use numbers::least;
 use same_blocks::same_block;
 
 // How many last bytes are equal, in whole blocks.
-fn equal_last_blocks(a: &[u8], b: &[u8], n: usize) -> usize
-    requires { (n ≤ length a.now) × (n ≤ length b.now) }
-    ensures upper_bound { result ≤ n }
-    ensures b_value { common_suffix a.now b.now ≡ result + common_suffix (take (length a.now - result) a.now) (take (length b.now - result) b.now) }
+fn equal_last_blocks(a: &[u8], b: &[u8]) -> usize
+    ensures upper_bound { result ≤ min (length a.now) (length b.now) }
+    ensures passes_equal { common_suffix a.now b.now ≡ result + common_suffix (take (length a.now - result) a.now) (take (length b.now - result) b.now) }
 {
-    let mut i = 0;
-    while 64 <= n - i {
+    let n = a.len().min(b.len());
+    for k in 0..n / 64 {
+        let i = k * 64;
         let p = a.len() - i - 64;
-        let p_end = p + 64;
         let q = b.len() - i - 64;
-        let q_end = q + 64;
-        if !same_block(&a[p..p_end], &b[q..q_end]) {
+        if !same_block(&a[p..p + 64], &b[q..q + 64]) {
             return i;
         }
-        i += 64;
     }
-    i
+    n - n % 64
 }
 
 pub fn common_suffix_len(a: &[u8], b: &[u8]) -> usize
     ensures { result ≡ common_suffix a.now b.now }
 {
-    let n = least(a.len(), b.len());
-    let mut i = equal_last_blocks(a, b, n);
-    while i < n {
+    let n = a.len().min(b.len());
+    let blocks = equal_last_blocks(a, b);
+    for i in blocks..n {
         if a[a.len() - 1 - i] != b[b.len() - 1 - i] {
             return i;
         }
-        i += 1;
     }
     n
 }

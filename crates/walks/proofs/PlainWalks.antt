@@ -1,17 +1,23 @@
 -- Laws of a walk over bases, by the places of their codons. Assumes nothing.
 use mathlib.Core.Path.{◌≡◌}
 use mathlib.Core.Bool.{true}
-use mathlib.Core.List.{List, []}
+use mathlib.Core.List.{List, [], map}
 use Prim.Native.Nat.{ℕ, ◌+◌, ◌/◌, ◌≤◌, ◌<◌}
 use native.Mathlib.Omega.{arith}
 use lib.ListN.{length, get_or, set}
 use Rattle.rules.specs.Bytes.{byte}
+use Rattle.rules.specs.Letters.{folded}
 use Rattle.rules.specs.Translation.{excepted, residue_count}
 use Rattle.codons.specs.Tables.{HoldsPlain}
-use Rattle.places.specs.Places.{place_at, fold_to_bases}
+use Rattle.places.specs.Places.{codon_at, place_at, fold_to_bases}
 use Rattle.walks.specs.Walks.{residue_at, WalkedTo}
 use Rattle.places.proofs.Places.{place_read}
 use Rattle.walks.proofs.Walks.{Walk, walk_more, walk-stop}
+
+-- without exceptions a codon has the table's residue
+pub plain-reads : (t : ℕ) (s : List ℕ) (i v : ℕ) → v ≡ codon_at t (map folded s) i → v ≡ residue_at t [] s i
+unfolding excepted residue_at
+plain-reads t s i v is = is
 
 module _ (t : ℕ) (code s : List ℕ) (holds : HoldsPlain t code) (bases : fold_to_bases s ≡ true) where
   -- the residue at a codon's place

@@ -16,23 +16,14 @@ use Rattle.rules.specs.Letters.{folded}
 use Rattle.rules.specs.Translation.{exception_list, excepted, folded_translated, before_stop, through_stop, whole_codons}
 use Rattle.rules.proofs.Over.{over_from, from_start, from_end, from_turn, tail-is}
 use Rattle.rules.proofs.Reading.{rest_of, before_here, before_later, through_here, through_later, through_rest, length_whole}
-use Rattle.excepted.specs.Exceptions.{next_from, Clear}
 use Rattle.places.specs.Places.{codon_at}
-use Rattle.walks.specs.Walks.{residue_at, WalkedTo, codons_walked}
+use Rattle.walks.specs.Walks.{residue_at, ReadsCodons, WalkedTo, codons_walked}
 use Rattle.places.proofs.Residues.{plain_at_lem, left_from, left-all, left-more, left-rest, left_part}
-use Rattle.excepted.proofs.Putting.{next_clear, still_clear}
 
--- a codon with an exception, and one without
-module _ (t : ℕ) (es : List Exception) (s : List ℕ) (i next c : ℕ) (is : c ≡ codon_at t (map folded s) i) where
-  pub at-exception : (past r next' : ℕ) → i + 1 < past → i + 1 ≡ next → r ≡ excepted es next c → next' ≡ next_from es (next + 1) past → (r ≡ residue_at t es s i) × Clear es (i + 1) next'
-  unfolding residue_at
-  at-exception past r next' h e x n = (x ∙ rw (e, is), next_clear es (i + 1) past next' h (rw e n))
-
-  pub at-no-exception : Clear es i next → (i + 1 ≡ next → ⊥) → (c ≡ residue_at t es s i) × Clear es (i + 1) next
-  unfolding residue_at
-  at-no-exception clear n =
-      let still = still_clear es i next c clear n in
-      (rw (← is) still.0, still.1)
+-- the residue of a codon that was read, exceptions applied
+pub read_at : {post : ℕ → ℕ → Type 0} (t : ℕ) (es : List Exception) (s : List ℕ) (whole i c v : ℕ) → ReadsCodons post t s whole → i < whole → post i c → v ≡ excepted es (i + 1) c → v ≡ residue_at t es s i
+unfolding residue_at
+read_at t es s whole i c v reads h called is = is ∙ ap (excepted es (i + 1)) (reads.each i c h called)
 
 -- before codon i: writing what is left gives the protein, and its length is that of both
 pub record Walk (t : ℕ) (es : List Exception) (s A old out : List ℕ) (i : ℕ) : Type 0 where
@@ -127,32 +118,9 @@ module _ (t : ℕ) (s A old out : List ℕ) (i : ℕ) (w : Walk t [] s A old out
       let none : drop (length out - i) (drop i out) ≡ [] = drop_of_length-le (drop i out) {i = length out - i} (rw length-drop (omega arith)) in
       simp (none, append-nil) (on part j (rw (tail-is (i * 3) s, tail-is i out) at x))
 
--- a count of codons looked up that keeps up with the codon's index: at the stop, and behind the last codon
-pub counted_stop : (i looked n : ℕ) → looked ≡ i → i < n → looked + 1 ≡ min (i + 1) n
-counted_stop i looked n e h = omega arith
-
-pub counted_end : (i looked n : ℕ) → looked ≡ i → i ≡ n → looked ≡ min (n + 1) n
-counted_end i looked n e h = omega arith
-
--- the same behind codons that were looked up already
-pub further_stop : (already i looked n : ℕ) → looked ≡ already + i → i < n → looked + 1 ≡ already + min (i + 1) n
-further_stop already i looked n e h = omega arith
-
-pub further_end : (already i looked n : ℕ) → looked ≡ already + i → i ≡ n → looked ≡ already + min (n + 1) n
-further_end already i looked n e h = omega arith
-
-further_both : (i looked m n j k : ℕ) → looked ≡ i → looked + m ≡ n → k ≡ looked + min (j + 1) m → k ≡ min (i + j + 1) n
-further_both i looked m n j k e f h = omega arith
-
--- a walk that goes on in the part from codon i on
-module _ (s : List ℕ) (i looked : ℕ) (h : i ≤ length s / 3) (e : looked ≡ i) where
-  pub further-fits : looked + length (take (length s - i * 3) (drop (i * 3) s)) / 3 ≡ length s / 3
-  further-fits =
-      let size : length (take (length s - i * 3) (drop (i * 3) s)) ≡ length s - i * 3 = ap (λ (l : List ℕ). length l) (tail-is (i * 3) s) ∙ length-drop (i * 3) s in
-      omega arith
-
-  pub further-on : (j k : ℕ) → k ≡ looked + min (j + 1) (length (take (length s - i * 3) (drop (i * 3) s)) / 3) → k ≡ min (i + j + 1) (length s / 3)
-  further-on j k is = further_both i looked (length (take (length s - i * 3) (drop (i * 3) s)) / 3) (length s / 3) j k e further-fits is
+-- the length of the part from place n on
+pub length-on : (n : ℕ) (s : List ℕ) → length (take (length s - n) (drop n s)) ≡ length s - n
+length-on n s = ap (λ (l : List ℕ). length l) (tail-is n s) ∙ length-drop n s
 
 -- the whole codons through the first stop, where there is one and where there is none
 module _ (t : ℕ) (es : List Exception) (s : List ℕ) (stop looked : ℕ) (is : looked ≡ min (stop + 1) (length s / 3)) where
@@ -210,7 +178,7 @@ module _ (t : ℕ) (es : List Exception) (s : List ℕ) where
       omega (arith, ap before_stop e)
 
 -- no exceptions are given
-listed_none : (e : Exceptions) → e.count ≡ 0 → exception_list e ≡ []
+pub listed_none : (e : Exceptions) → e.count ≡ 0 → exception_list e ≡ []
 unfolding exception_list
 listed_none e z = rw z
 

@@ -12,6 +12,11 @@ use Rattle.places.specs.Places.{codon_at}
 unfoldable pub residue_at : ℕ → List Exception → List ℕ → ℕ → ℕ
 residue_at t es s i = excepted es (i + 1) (codon_at t (map folded s) i)
 
+-- what a walk calls reads the codons of letters, so many in all, by their numbers
+pub record ReadsCodons (post : ℕ → ℕ → Type 0) (t : ℕ) (s : List ℕ) (whole : ℕ) : Type 0 where
+  pub many : whole ≡ length s / 3
+  pub each : (i r : ℕ) → i < whole → post i r → r ≡ codon_at t (map folded s) i
+
 -- a walk over n bases that ended at the stop codon r has written the protein A; one that met none has still to write the X for a rest
 pub record WalkedTo (A : List ℕ) (n : ℕ) (old out : List ℕ) (r : ℕ) : Type 0 where
   pub within : r ≤ n / 3

@@ -1,16 +1,16 @@
 // The first stop, and the residues through it.
 #![tactic(auto)]
 
-ghost use Rattle.std.specs.Prelude.{◌≡◌, true, false, [], map, ◌+◌, ◌/◌, ◌^◌, ◌<◌, ◌≤◌, min, length};
+ghost use Rattle.std.specs.Prelude.{◌≡◌, ℕ, true, List, [], map, ◌+◌, ◌/◌, ◌^◌, ◌<◌, ◌≤◌, min, length};
 ghost use Rattle.rules.specs.Bytes.{over};
 ghost use Rattle.rules.specs.Letters.{folded};
-ghost use Rattle.rules.specs.Translation.{exception_list, residue_count, before_stop, through_stop, whole_codons, fold_to_letters, folded_translated};
+ghost use Rattle.rules.specs.Translation.{exception_list, excepted, residue_count, before_stop, through_stop, whole_codons, fold_to_letters, folded_translated};
 ghost use Rattle.letters.specs.Sets.{HoldsSets, folded_set};
 ghost use Rattle.codons.specs.Tables.{HoldsCode, HoldsPlain};
 ghost use Rattle.excepted.specs.Exceptions.{Clear};
 ghost use Rattle.places.specs.Places.{codon_at, fold_to_bases};
 ghost use Rattle.places.specs.Looked.{Reads, Walks};
-ghost use Rattle.walks.specs.Walks.{residue_at, WalkedTo, codons_walked};
+ghost use Rattle.walks.specs.Walks.{ReadsCodons, WalkedTo, codons_walked};
 
 use codons::tables::{plain_code, residue_in};
 use excepted::{excepted_at, next_exception};
@@ -33,6 +33,17 @@ fn codon_at(seq: &[u8], table: usize, sets: &[u8; 256], residues: &[u8; 4096], i
     residue_in(table, residues, a, b, c)
 }
 
+// The same of bases, by its place in the table of plain codons.
+fn plain_codon_at(seq: &[u8], table: usize, code: &[u8; 64], i: usize) -> u8
+    requires holds_plain { HoldsPlain table code.now }
+    requires seq_value { fold_to_bases seq.now ≡ true }
+    requires i_in_bounds { i < length seq.now / 3 }
+    ensures { result ≡ codon_at table (map folded seq.now) i }
+{
+    let place = place_at(seq, i);
+    code[place]
+}
+
 // A codon's residue, exceptions applied, and the number of the next codon with an exception.
 #[derive(Clone, Copy)]
 struct Turn {
@@ -40,68 +51,39 @@ struct Turn {
     next: usize,
 }
 
-// A turn of the walks below, at codon i, where the number of the next codon with an exception is known.
-fn turn_at(
-    seq: &[u8],
-    table: usize,
-    sets: &[u8; 256],
-    residues: &[u8; 4096],
-    e: Exceptions,
-    i: usize,
-    next: usize,
-) -> Turn
-    requires holds_sets { HoldsSets folded_set sets.now }
-    requires holds_code { HoldsCode table residues.now }
-    requires seq_value { (fold_to_letters seq.now ≡ true) × (e.count ≤ 16) }
-    requires i_in_bounds { (i < length seq.now / 3) × Clear (exception_list e) i next }
-    ensures residue_value { result.residue ≡ residue_at table (exception_list e) seq.now i }
+// A turn of a walk at codon i, whose residue by the table is known, as is the number of the next codon with an exception.
+fn turn_at(e: Exceptions, i: usize, next: usize, past: usize, residue: u8) -> Turn
+    requires count_bound { e.count ≤ 16 }
+    requires i_in_bounds { (i + 1 < past) × (past < 2 ^ 63) }
+    requires clear { Clear (exception_list e) i next }
+    ensures residue_value { result.residue ≡ excepted (exception_list e) (i + 1) residue }
     ensures clear { Clear (exception_list e) (i + 1) result.next }
 {
-    let r = codon_at(seq, table, sets, residues, i);
     if i + 1 == next {
-        let past = seq.len() / 3 + 1;
-        let y = excepted_at(e, next, r);
         return Turn {
-            residue: y,
+            residue: excepted_at(e, next, residue),
             next: next_exception(e, next + 1, past),
         };
     }
-    Turn {
-        residue: r,
-        next: next,
-    }
+    Turn { residue, next }
 }
 
-// The index of the first codon that reads `*`, exceptions applied, or the number of whole codons.
-fn stop_by_sets(
-    seq: &[u8],
-    table: usize,
-    sets: &[u8; 256],
-    residues: &[u8; 4096],
-    e: Exceptions,
-) -> usize
-    requires holds_sets { HoldsSets folded_set sets.now }
-    requires holds_code { HoldsCode table residues.now }
-    requires seq_value { fold_to_letters seq.now ≡ true }
-    requires count_bound { e.count ≤ 16 }
-    ensures { result ≡ before_stop (folded_translated table (exception_list e) (whole_codons seq.now)) }
+// The index of the first codon that reads `*`, exceptions applied, or the number of whole codons. `read` gives a codon's residue by the table.
+pub fn first_stop_of<F: Fn(usize) -> u8>(whole: usize, e: Exceptions, read: F) -> usize
+    requires reads { (i : ℕ) → i < whole → F.pre read i }
+    requires bounds { (e.count ≤ 16) × (whole + 1 < 2 ^ 63) }
+    ensures { (t : ℕ) (s : List ℕ) → ReadsCodons (F.post read) t s whole → result ≡ before_stop (folded_translated t (exception_list e) (whole_codons s)) }
 {
-    let whole = seq.len() / 3;
-    let mut next = next_exception(e, 1, whole + 1);
-    let mut i = 0;
-    let stop = loop {
-        if whole <= i {
-            break whole;
+    let past = whole + 1;
+    let mut next = next_exception(e, 1, past);
+    for i in 0..whole {
+        let turn = turn_at(e, i, next, past, read(i));
+        if turn.residue == b'*' {
+            return i;
         }
-        let turn = turn_at(seq, table, sets, residues, e, i, next);
-        let r = turn.residue;
         next = turn.next;
-        if r == b'*' {
-            break i;
-        }
-        i += 1;
-    };
-    stop
+    }
+    whole
 }
 
 // The same of bases without exceptions.
@@ -111,18 +93,12 @@ fn stop_by_places(seq: &[u8], table: usize, code: &[u8; 64]) -> usize
     ensures { result ≡ before_stop (folded_translated table [] (whole_codons seq.now)) }
 {
     let whole = seq.len() / 3;
-    let mut i = 0;
-    let stop = loop {
-        if whole <= i {
-            break whole;
+    for i in 0..whole {
+        if plain_codon_at(seq, table, code, i) == b'*' {
+            return i;
         }
-        let place = place_at(seq, i);
-        if code[place] == b'*' {
-            break i;
-        }
-        i += 1;
-    };
-    stop
+    }
+    whole
 }
 
 // The index of the first codon that reads `*`, exceptions applied, or the number of whole codons, the faster way where all letters are bases
@@ -137,7 +113,8 @@ pub fn first_stop(seq: &[u8], table: usize, plain: bool, e: Exceptions) -> usize
     }
     let sets = folded_sets();
     let residues = residues_of(table);
-    stop_by_sets(seq, table, &sets, &residues, e)
+    let read = |i: usize| codon_at(seq, table, &sets, &residues, i);
+    first_stop_of(seq.len() / 3, e, read)
 }
 
 // Where a walk ended, the index of the first `*` or the number of whole codons, and how many codons it looked up.
@@ -147,80 +124,43 @@ struct Ended {
     looked: usize,
 }
 
-// Writes the residues of any letters, exceptions applied, to the buffer's start, through the first `*`. `looked` is raised where a codon is read
-// in the table, and nowhere else.
-fn write_to_stop(
-    seq: &[u8],
-    table: usize,
-    sets: &[u8; 256],
-    residues: &[u8; 4096],
-    e: Exceptions,
-    out: &mut [u8],
-) -> Ended
-    requires holds_sets { HoldsSets folded_set sets.now }
-    requires holds_code { HoldsCode table residues.now }
-    requires walks { Walks table false seq.now e out.old }
-    ensures walked_to { WalkedTo (through_stop (folded_translated table (exception_list e) seq.now)) (length seq.now) out.old out.new result.stop }
-    ensures counted { result.looked ≡ min (result.stop + 1) (length seq.now / 3) }
+// Writes the residues of codons, exceptions applied, to the buffer's start, through the first `*`. `read` gives a codon's residue by the table:
+// `looked` is raised where it is called, and nowhere else.
+fn write_to_stop<F: Fn(usize) -> u8>(whole: usize, e: Exceptions, read: F, out: &mut [u8]) -> Ended
+    requires reads { (i : ℕ) → i < whole → F.pre read i }
+    requires bounds { (e.count ≤ 16) × (whole + 1 < 2 ^ 63) × (whole ≤ length out.old) }
+    ensures walked_to { (t : ℕ) (s : List ℕ) → ReadsCodons (F.post read) t s whole → WalkedTo (through_stop (folded_translated t (exception_list e) s)) (length s) out.old out.new result.stop }
+    ensures within { result.stop ≤ whole }
+    ensures counted { result.looked ≡ min (result.stop + 1) whole }
 {
-    let whole = seq.len() / 3;
-    let mut next = next_exception(e, 1, whole + 1);
+    let past = whole + 1;
+    let mut next = next_exception(e, 1, past);
     let mut looked = 0;
-    let mut i = 0;
-    let stop = loop {
-        if whole <= i {
-            break whole;
-        }
-        let turn = turn_at(seq, table, sets, residues, e, i, next);
+    for i in 0..whole {
+        let turn = turn_at(e, i, next, past, read(i));
         looked += 1;
-        let r = turn.residue;
-        next = turn.next;
-        out[i] = r;
-        if r == b'*' {
-            break i;
+        out[i] = turn.residue;
+        if turn.residue == b'*' {
+            return Ended { stop: i, looked };
         }
-        i += 1;
-    };
-    Ended { stop, looked }
+        next = turn.next;
+    }
+    Ended {
+        stop: whole,
+        looked,
+    }
 }
 
-// The same of bases without exceptions, behind codons that were looked up already.
-fn write_codons_to_stop(
+// The same of bases without exceptions: two codons at a time, then those that are left.
+fn write_plain_to_stop(
     seq: &[u8],
     table: usize,
     code: &[u8; 64],
-    already: usize,
+    e: Exceptions,
     out: &mut [u8],
 ) -> Ended
     requires holds_plain { HoldsPlain table code.now }
-    requires seq_value { fold_to_bases seq.now ≡ true }
-    requires seq_bound { already + length seq.now / 3 < 2 ^ 64 }
-    requires seq_in_bounds { residue_count (length seq.now) ≤ length out.old }
-    ensures walked_to { WalkedTo (through_stop (folded_translated table [] seq.now)) (length seq.now) out.old out.new result.stop }
-    ensures counted { result.looked ≡ already + min (result.stop + 1) (length seq.now / 3) }
-{
-    let whole = seq.len() / 3;
-    let mut looked = already;
-    let mut i = 0;
-    let stop = loop {
-        if whole <= i {
-            break whole;
-        }
-        let place = place_at(seq, i);
-        let r = code[place];
-        looked += 1;
-        out[i] = r;
-        if r == b'*' {
-            break i;
-        }
-        i += 1;
-    };
-    Ended { stop, looked }
-}
-
-// The same, two codons at a time, then those that are left.
-fn write_plain_to_stop(seq: &[u8], table: usize, code: &[u8; 64], out: &mut [u8]) -> Ended
-    requires holds_plain { HoldsPlain table code.now }
+    requires no_exceptions { e.count ≡ 0 }
     requires seq_value { fold_to_bases seq.now ≡ true }
     requires seq_in_bounds { residue_count (length seq.now) ≤ length out.old }
     ensures walked_to { WalkedTo (through_stop (folded_translated table [] seq.now)) (length seq.now) out.old out.new result.stop }
@@ -228,31 +168,36 @@ fn write_plain_to_stop(seq: &[u8], table: usize, code: &[u8; 64], out: &mut [u8]
 {
     let mut looked = 0;
     let mut i = 0;
-    let stop = loop {
-        if seq.len() < i * 3 + 8 {
-            let at = i * 3;
-            let rest = write_codons_to_stop(&seq[at..], table, code, looked, &mut out[i..]);
-            looked = rest.looked;
-            break i + rest.stop;
-        }
+    // Kept: a turn moves on by six bytes and reads eight, which a range by steps of two says no plainer.
+    while i * 3 + 8 <= seq.len() {
         let pair = pair_at(seq, i);
         let first = pair / 131072 % 64;
         let r = code[first];
         looked += 1;
         out[i] = r;
         if r == b'*' {
-            break i;
+            return Ended { stop: i, looked };
         }
         let second = pair / 2199023255552 % 64;
         let next = code[second];
         looked += 1;
         out[i + 1] = next;
         if next == b'*' {
-            break i + 1;
+            return Ended {
+                stop: i + 1,
+                looked,
+            };
         }
         i += 2;
-    };
-    Ended { stop, looked }
+    }
+    let rest = &seq[i * 3..];
+    let read = |k: usize| plain_codon_at(rest, table, code, k);
+    let ended = write_to_stop(rest.len() / 3, e, read, &mut out[i..]);
+    looked += ended.looked;
+    Ended {
+        stop: i + ended.stop,
+        looked,
+    }
 }
 
 // The walk to the first stop, the faster way where all letters are bases and there are no exceptions.
@@ -263,11 +208,12 @@ fn write_walk(seq: &[u8], table: usize, plain: bool, e: Exceptions, out: &mut [u
 {
     if plain & (e.count == 0) {
         let code = plain_code(table);
-        return write_plain_to_stop(seq, table, &code, out);
+        return write_plain_to_stop(seq, table, &code, e, out);
     }
     let sets = folded_sets();
     let residues = residues_of(table);
-    write_to_stop(seq, table, &sets, &residues, e, out)
+    let read = |i: usize| codon_at(seq, table, &sets, &residues, i);
+    write_to_stop(seq.len() / 3, e, read, out)
 }
 
 // What a walk wrote, in residues, and how many codons it looked up in the table.

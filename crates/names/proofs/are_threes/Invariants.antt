@@ -1,13 +1,10 @@
 use mathlib.Core.Path.{◌≡◌}
-use Prim.Native.Nat.{◌*◌, ◌/◌, ◌-◌, ◌≤◌}
-use lib.ListN.{length, drop}
+use Prim.Native.Nat.{◌*◌}
+use lib.ListN.{drop}
 use Rattle.rules.specs.Bytes.{all}
 use Rattle.rules.specs.Names.{threes}
 use Rattle.names.specs.Rows.{is_three}
 use Rattle.names.proofs.are_threes.Given as goal
 
 abbrev pub invariant-loop-i : goal.invariant-loop-i
-invariant-loop-i l = (l.i ≤ l.n) × (l.n ≡ length l.three / 3) × (all is_three (threes (drop (l.i * 3) l.three)) ≡ all is_three (threes l.three))
-
-abbrev pub decreases-loop-i : goal.decreases-loop-i
-decreases-loop-i l = l.n - l.i
+invariant-loop-i l = all is_three (threes (drop (l.i * 3) l.three)) ≡ all is_three (threes l.three)

@@ -66,7 +66,7 @@ write_on-requires c = let args = c.args in
     let M = take args.m args.out.now in
     let counted = sym (length-take-le args.m args.out.now pre.le_number.1) in
     let ends = end-in args.flag args.number args.head args.back args.m R M pre.joins counted c.if-long-eq0.false c.beginning_over-s.result c.beginning_over-s.ensures c.if-s-r.false c.ending_over-n.result c.ending_over-n.ensures in
-    record { m_in_bounds = (pre.le_number.1, le_trans ends pre.out_in_bounds); m_in_bounds_2 = lacks args.flag args.number args.head args.back args.m R M pre.joins counted c.if-long-eq0.false c.beginning_over-s.result c.beginning_over-s.ensures c.if-s-r.false c.ending_over-n.result c.ending_over-n.ensures }
+    record { m_in_bounds = (pre.le_number.1, le_trans ends pre.out_in_bounds); r_in_bounds = lacks args.flag args.number args.head args.back args.m R M pre.joins counted c.if-long-eq0.false c.beginning_over-s.result c.beginning_over-s.ensures c.if-s-r.false c.ending_over-n.result c.ending_over-n.ensures }
 
 pub overflow_sub-deleted : goal.overflow_sub-deleted
 overflow_sub-deleted c = let args = c.args in

@@ -5,4 +5,4 @@ use Rattle.record_over.proofs.write_on.Goals as goal
 
 pub returns-then-m-end : goal.returns-then-m-end
 returns-then-m-end c = let args = c.args in
-    some_written args.m args.end args.back args.r.now args.out.now c.requires.m_in_bounds.0 c.requires.m_in_bounds_2 c.copy.new.dst c.if-m-end.true c.copy.ensures.after
+    some_written args.m args.end args.back args.r.now args.out.now c.requires.m_in_bounds.0 c.requires.r_in_bounds c.copy.new.dst c.if-m-end.true c.copy.ensures.after

@@ -1,20 +1,18 @@
--- `same_blocks::same_eights` meets its contract. The invariant: what was found and what is left decide.
-use mathlib.Core.Path.{◌≡◌, sym, ◌∙◌}
+-- `same_blocks::same_eights` meets its contract. The invariant: the first i eights are the same where all that was found is.
+use mathlib.Core.Path.{◌≡◌, refl}
 use Prim.Native.Nat.{◌+◌, ◌*◌}
 use native.Mathlib.Omega.{arith}
-use Rattle.same_blocks.proofs.Blocks.{same-and-end}
-use Rattle.same_blocks.proofs.Eights.{same_and_part}
+use Rattle.rules.specs.Bytes.{same}
+use Rattle.same_blocks.proofs.Eights.{same_more}
 use Rattle.same_blocks.proofs.same_eights.Goals as goal
 
+pub loop-i-init : goal.loop-i-init
+unfolding same
+loop-i-init g c = refl
+
 pub loop-i-preserved : goal.loop-i-preserved
-loop-i-preserved c =
+loop-i-preserved g c =
     let args = c.args in
     let i = c.loop-i.i in
     let next : (i + 1) * 8 ≡ i * 8 + 8 = omega arith in
-    let more = same_and_part args.a.now args.b.now (i * 8) 8 c.loop-i.good c.same_eight-good.result (omega arith) (omega arith) c.same_eight-good.ensures in
-    (omega arith, c.loop-i.invariant.1, c.loop-i.invariant.2, rw next (more ∙ c.loop-i.invariant.3))
-
-pub returns : goal.returns
-returns c =
-    let args = c.args in
-    sym (same-and-end args.a.now args.b.now (c.loop-i.i * 8) c.loop-i.good (omega arith) (omega arith)) ∙ c.loop-i.invariant.3
+    rw next (same_more args.a.now args.b.now args.k (i * 8) 8 (omega arith) (omega arith) c.loop-i.invariant c.same_eight-good.ensures)

@@ -1,11 +1,8 @@
 use mathlib.Core.Path.{◌≡◌}
-use Prim.Native.Nat.{◌+◌, ◌-◌, ◌≤◌}
+use Prim.Native.Nat.{◌+◌, ◌-◌, ◌*◌}
 use lib.ListN.{length, take}
 use Rattle.rules.specs.Trims.{common_suffix}
 use Rattle.suffixes.proofs.equal_last_blocks.Given as goal
 
-abbrev pub invariant-loop-i : goal.invariant-loop-i
-invariant-loop-i l = (l.i ≤ l.n) × (l.n ≤ length l.a) × (l.n ≤ length l.b) × (common_suffix l.a l.b ≡ l.i + common_suffix (take (length l.a - l.i) l.a) (take (length l.b - l.i) l.b))
-
-abbrev pub decreases-loop-i : goal.decreases-loop-i
-decreases-loop-i l = l.n - l.i
+abbrev pub invariant-loop-k : goal.invariant-loop-k
+invariant-loop-k l = common_suffix l.a l.b ≡ l.k * 64 + common_suffix (take (length l.a - l.k * 64) l.a) (take (length l.b - l.k * 64) l.b)

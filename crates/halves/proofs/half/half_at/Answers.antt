@@ -9,7 +9,7 @@ returns-then-place-eq0 c =
     let s = c.args.packed.now in
     let k = c.args.place in
     let at : k / 2 * 2 ≡ k = omega (arith, c.if-place-eq0.true) in
-    let small : get_or s (k / 2) 0 < 256 = omega (arith, c.shared_slice_known-1.given (k / 2)) in
+    let small : get_or s (k / 2) 0 < 256 = omega (arith, c.type_inv.packed (k / 2)) in
     let same : get_or s (k / 2) 0 / 16 ≡ get_or s (k / 2) 0 / 16 % 16 = omega arith in
     record { value = same ∙ sym (high_at s (k / 2)) ∙ ap (set_at s) at; small = omega arith }
 

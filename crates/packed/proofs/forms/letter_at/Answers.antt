@@ -12,5 +12,5 @@ half_at-requires c = let fits = packed-fits c.args.form _ c.args.letters.now c.i
 
 pub returns-in-Packed : goal.returns-in-Packed
 returns-in-Packed c = c.letter_of.ensures
-    ∙ ap letter_of (c.wide.ensures.value ∙ c.half_at.ensures.value)
+    ∙ ap letter_of (c.from.ensures ∙ c.half_at.ensures.value)
     ∙ packed-letter c.args.form _ c.args.letters.now c.in-Packed.is (c.args.place + 1) (omega (arith, c.requires.place_in_bounds)) c.requires.letters_value c.args.place (omega arith)

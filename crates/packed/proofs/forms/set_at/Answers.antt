@@ -20,5 +20,5 @@ returns-in-Bytes c = let is = bytes-is c.args.form c.args.letters.now c.in-Bytes
 
 pub returns-in-Packed : goal.returns-in-Packed
 returns-in-Packed c = let half = c.half_at in
-    let set = c.wide.ensures.value ∙ half.ensures.value ∙ packed-set c.args.form _ c.args.letters.now c.in-Packed.is (c.args.place + 1) (omega (arith, c.requires.place_in_bounds)) c.requires.letters_value c.args.place (omega arith) in
-    record { value = set; some = (set_some c.args.form c.args.letters.now c.args.place c.requires.letters_value c.requires.place_in_bounds _ set, omega (arith, c.wide.ensures.value, half.ensures.small)) }
+    let set = c.from.ensures ∙ half.ensures.value ∙ packed-set c.args.form _ c.args.letters.now c.in-Packed.is (c.args.place + 1) (omega (arith, c.requires.place_in_bounds)) c.requires.letters_value c.args.place (omega arith) in
+    record { value = set; some = (set_some c.args.form c.args.letters.now c.args.place c.requires.letters_value c.requires.place_in_bounds _ set, omega (arith, c.from.ensures, half.ensures.small)) }

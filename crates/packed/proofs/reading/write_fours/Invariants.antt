@@ -1,6 +1,6 @@
 use mathlib.Core.Path.{◌≡◌}
 use mathlib.Core.List.{[]}
-use Prim.Native.Nat.{◌+◌, ◌-◌, ◌*◌, ◌/◌, ◌≤◌}
+use Prim.Native.Nat.{◌+◌, ◌*◌}
 use lib.ListN.{length}
 use Rattle.rules.proofs.Over.{over_from}
 use Rattle.places.proofs.Residues.{left_from}
@@ -9,7 +9,4 @@ use Rattle.packed.proofs.reading.write_fours.Given as goal
 
 abbrev pub invariant-loop-k : goal.invariant-loop-k
 invariant-loop-k l =
-    (l.k ≤ l.fours) × (l.fours ≡ (l.codons - l.done) / 4) × (l.start * 2 ≡ l.first + l.done * 3) × (length l.out ≡ length l.initial.out) × (over_from (l.done + l.k * 4) (left_from l.table [] (codons_at l.first l.codons l.packed) (l.done + l.k * 4)) l.out ≡ over_from l.done (left_from l.table [] (codons_at l.first l.codons l.packed) l.done) l.initial.out)
-
-abbrev pub decreases-loop-k : goal.decreases-loop-k
-decreases-loop-k l = l.fours - l.k
+    (length l.out ≡ length l.initial.out) × (over_from (l.done + l.k * 4) (left_from l.table [] (codons_at l.first l.codons l.packed) (l.done + l.k * 4)) l.out ≡ over_from l.done (left_from l.table [] (codons_at l.first l.codons l.packed) l.done) l.initial.out)

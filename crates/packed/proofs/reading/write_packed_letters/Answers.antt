@@ -6,7 +6,7 @@ use Rattle.packed.proofs.reading.write_packed_letters.Goals as goal
 
 pub write_packed_translated-requires : goal.write_packed_translated-requires
 unfolding residue_count
-write_packed_translated-requires c = record { holds_code = c.requires.holds_code; codons_in_bounds = omega (arith, c.requires.first_le_end); codons_in_bounds_2 = omega (arith, c.requires.first_in_bounds) }
+write_packed_translated-requires c = record { holds_code = c.requires.holds_code; codons_in_bounds = omega (arith, c.requires.first_le_end); room = omega (arith, c.requires.first_in_bounds) }
 
 pub bounds-out-whole : goal.bounds-out-whole
 unfolding residue_count

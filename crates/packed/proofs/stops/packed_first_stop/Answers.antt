@@ -1,40 +1,27 @@
--- `packed::stops::packed_first_stop` meets its contract. The invariant: the first stop from codon i on is the first, and no exception stands
--- between codon i and the next that is known. Assumes nothing.
-use mathlib.Core.Path.{◌≡◌, sym, ◌∙◌}
-use Prim.Native.Nat.{◌+◌, ◌-◌, ◌/◌}
+-- `packed::stops::packed_first_stop` meets its contract: what it reads are the codons of the letters. Assumes nothing.
+use mathlib.Core.Path.{◌≡◌, sym, ap, ◌∙◌}
+use mathlib.Core.List.{List, map}
+use Prim.Native.Nat.{ℕ, ◌+◌, ◌-◌, ◌*◌, ◌/◌, ◌≤◌}
 use native.Mathlib.Omega.{arith}
-use lib.ListN.{length}
+use borrow.Author.Rules.{rules}
 use Rattle.rules.specs.Altered.{part}
-use Rattle.rules.specs.Translation.{exception_list}
-use Rattle.rules.specs.Packed.{letters_in}
-use Rattle.excepted.proofs.Putting.{next_clear}
-use Rattle.walks.proofs.Walks.{stops-all, stops-later, stops-here, stops-none}
+use Rattle.rules.specs.Codons.{codon_rule}
+use Rattle.rules.specs.Letters.{folded}
+use Rattle.rules.specs.Packed.{set_at, letters_in}
+use Rattle.places.specs.Places.{codon_at}
 use Rattle.halves.proofs.Halves.{length_of_part}
+use Rattle.packed.proofs.Codons.{codon-in}
 use Rattle.packed.proofs.stops.packed_first_stop.Goals as goal
 
-pub loop-i-init : goal.loop-i-init
-loop-i-init c = let a = c.args in
-    (omega arith, next_clear (exception_list a.e) 0 ((a.end - a.first) / 3 + 1) c.next_exception-next.result (omega arith) c.next_exception-next.ensures, stops-all a.table (exception_list a.e) (part a.first a.end (letters_in a.packed.now)))
+-- the residue of the codon that is read
+read : (t : ℕ) (bs : List ℕ) (first end i r : ℕ) → i * 3 + 3 ≤ end - first → r ≡ codon_rule t (set_at bs (first + i * 3)) (set_at bs (first + i * 3 + 1)) (set_at bs (first + i * 3 + 2))
+    → r ≡ codon_at t (map folded (part first end (letters_in bs))) i
+read t bs first end i r h is = is ∙ codon-in t first end bs i (first + i * 3) (first + i * 3 + 1) (first + i * 3 + 2) h (omega arith) (omega arith) (omega arith)
 
-pub loop-i-preserved : goal.loop-i-preserved
-loop-i-preserved c = let a = c.args in
-    let s = part a.first a.end (letters_in a.packed.now) in
-    let long : length s ≡ a.end - a.first = length_of_part a.first a.end a.packed.now c.requires.first_le_end.1 in
-    let turn = c.packed_turn-turn in
-    let loop = c.loop-i in
-    (omega arith, turn.ensures.clear, sym (stops-later a.table (exception_list a.e) s loop.i turn.result.residue (omega arith) turn.ensures.residue_value c.if-r-eq42.false) ∙ loop.invariant.2)
-
-pub returns-then-whole-i : goal.returns-then-whole-i
-returns-then-whole-i c = let a = c.args in
-    let s = part a.first a.end (letters_in a.packed.now) in
-    let long : length s ≡ a.end - a.first = length_of_part a.first a.end a.packed.now c.requires.first_le_end.1 in
-    let loop = c.loop-i in
-    omega (arith, stops-none a.table (exception_list a.e) s loop.i (omega arith), loop.invariant.2)
-
-pub returns-then-r-eq42 : goal.returns-then-r-eq42
-returns-then-r-eq42 c = let a = c.args in
-    let s = part a.first a.end (letters_in a.packed.now) in
-    let long : length s ≡ a.end - a.first = length_of_part a.first a.end a.packed.now c.requires.first_le_end.1 in
-    let turn = c.packed_turn-turn in
-    let loop = c.loop-i in
-    sym (stops-here a.table (exception_list a.e) s loop.i turn.result.residue (omega arith) turn.ensures.residue_value c.if-r-eq42.true) ∙ loop.invariant.2
+pub returns : goal.returns
+returns c = let a = c.args in
+    c.first_stop_of.ensures a.table (part a.first a.end (letters_in a.packed.now))
+    (record {
+      many = ap (◌/ 3) (sym (length_of_part a.first a.end a.packed.now c.requires.first_le_end.1));
+      each = λ i r h called. read a.table a.packed.now a.first a.end i r (omega arith) (search rules);
+    })

@@ -23,7 +23,7 @@ pub loop-p-init : goal.loop-p-init
 loop-p-init c = (search rules, omega arith, refl, turned_none _ _ _)
 
 pub write_revcomp-requires : goal.write_revcomp-requires
-write_revcomp-requires c = let k = c.block_of-k.result in
+write_revcomp-requires c = let k = c.min-k.result in
     let at = c.loop-p.p - k in
     let s = letters_in c.args.packed.now in
     let fits : c.loop-p.p ≤ length c.args.packed.now * 2 = omega (arith, c.requires.to_in_bounds) in
@@ -33,7 +33,7 @@ write_revcomp-requires c = let k = c.block_of-k.result in
     record { seq_value = ap (all is_letter) back ∙ some-letters c.args.from c.args.to at c.loop-p.p s (omega arith) (omega arith) (omega arith) c.requires.packed_value.0; seq_in_bounds = rw (back, room) (omega (arith, long, c.requires.packed_value.1)) }
 
 pub loop-p-preserved : goal.loop-p-preserved
-loop-p-preserved c = let k = c.block_of-k.result in
+loop-p-preserved c = let k = c.min-k.result in
     let at = c.loop-p.p - k in
     let s = letters_in c.args.packed.now in
     let fits : c.loop-p.p ≤ length c.args.packed.now * 2 = omega (arith, c.requires.to_in_bounds) in

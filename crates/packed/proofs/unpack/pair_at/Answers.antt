@@ -9,4 +9,4 @@ pub returns : goal.returns
 returns c = let s = c.args.packed.now in
     let j = c.args.j in
     let byte : get_or s j 0 < 256 = omega (arith, c.type_inv.packed j) in
-    record { result_value = rw c.wide-i.ensures.value (first-letter c.args.pairs.now s c.requires.holds_pairs j byte); second = rw c.wide-i.ensures.value (second-letter c.args.pairs.now s c.requires.holds_pairs j byte) }
+    record { first = rw c.from.ensures (first-letter c.args.pairs.now s c.requires.holds_pairs j byte); second = rw c.from.ensures (second-letter c.args.pairs.now s c.requires.holds_pairs j byte) }

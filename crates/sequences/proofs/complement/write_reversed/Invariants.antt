@@ -8,10 +8,5 @@ use Rattle.sequences.proofs.complement.write_reversed.Given as goal
 
 abbrev pub invariant-loop-i : goal.invariant-loop-i
 invariant-loop-i l =
-    (l.i ≤ l.n)
-    × (l.n ≡ length l.seq)
-    × (length l.out ≡ length l.initial.out)
+    (length l.out ≡ length l.initial.out)
     × (over_from l.i (reverse_complement (take (length l.seq - l.i) l.seq)) l.out ≡ over (reverse_complement l.seq) l.initial.out)
-
-abbrev pub decreases-loop-i : goal.decreases-loop-i
-decreases-loop-i l = l.n - l.i

@@ -1,11 +1,8 @@
-use Prim.Native.Nat.{◌+◌, ◌-◌, ◌≤◌}
-use lib.ListN.{length}
+-- The blocks before passed.
+use Rattle.std.proofs.Common.{◌≡◌, ◌*◌, true, take}
+use Rattle.rules.specs.Bytes.{all}
 use Rattle.letters.specs.Sets.{folds_to_base}
-use Rattle.letters.proofs.Loops.{Passed}
 use Rattle.translation.proofs.bases.blocks_fold_to_bases.Given as goal
 
-abbrev pub invariant-loop-i : goal.invariant-loop-i
-invariant-loop-i l = Passed folds_to_base l.s l.i × (l.i + 16 ≤ length l.s)
-
-abbrev pub decreases-loop-i : goal.decreases-loop-i
-decreases-loop-i l = length l.s - l.i
+abbrev pub invariant-loop-k : goal.invariant-loop-k
+invariant-loop-k g l = all folds_to_base (take (l.k * g.row.N) l.s) ≡ true

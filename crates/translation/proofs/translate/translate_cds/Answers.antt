@@ -24,34 +24,34 @@ returns-then-full-seq c = let args = c.args in
 
 pub returns-then-out-n : goal.returns-then-out-n
 returns-then-out-n c = let args = c.args in
-    let whole = refuses (translation args.table [] args.full args.seq.now (length args.out.now)) 15 args.out.now (no_room args.table [] args.full args.seq.now (length args.out.now) c.if-table-gt2.false none_taken c.if-full-seq.false (omega (arith, c.if-out-n.true, c.thirds-n.ensures))) in
+    let whole = refuses (translation args.table [] args.full args.seq.now (length args.out.now)) 15 args.out.now (no_room args.table [] args.full args.seq.now (length args.out.now) c.if-table-gt2.false none_taken c.if-full-seq.false (omega (arith, c.if-out-n.true, c.div_ceil-n.ensures))) in
     record { answer = whole.0; written = whole.1 }
 
 pub write_bases-requires : goal.write_bases-requires
 unfolding whole_codons fold_to_bases residue_count
-write_bases-requires c = record { table_bound = search rules; seq_value = sym c.all_fold_to_bases.ensures ∙ c.if-all_fold_to_bases.true; seq_in_bounds = omega (arith, c.if-out-n.false, c.thirds-n.ensures) }
+write_bases-requires c = record { table_bound = search rules; seq_value = sym c.all_fold_to_bases.ensures ∙ c.if-all_fold_to_bases.true; seq_in_bounds = omega (arith, c.if-out-n.false, c.div_ceil-n.ensures) }
 
 pub returns-then-all_fold_to_bases : goal.returns-then-all_fold_to_bases
 unfolding whole_codons fold_to_bases
 returns-then-all_fold_to_bases c = let args = c.args in
     let bases : fold_to_bases args.seq.now ≡ true = sym c.all_fold_to_bases.ensures ∙ c.if-all_fold_to_bases.true in
     let whole = gives (translation args.table [] args.full args.seq.now (length args.out.now)) (folded_translated args.table [] args.seq.now) _ _ args.out.now
-    (all-fold-to-letters args.table [] args.full args.seq.now (length args.out.now) c.if-table-gt2.false none_taken c.if-full-seq.false (omega (arith, c.if-out-n.false, c.thirds-n.ensures)) (bases-letters args.seq.now bases))
-    (c.thirds-n.ensures ∙ sym (length-plain args.table [] args.seq.now))
+    (all-fold-to-letters args.table [] args.full args.seq.now (length args.out.now) c.if-table-gt2.false none_taken c.if-full-seq.false (omega (arith, c.if-out-n.false, c.div_ceil-n.ensures)) (bases-letters args.seq.now bases))
+    (omega (arith, length-plain args.table [] args.seq.now))
     c.write_bases.ensures in
     record { answer = whole.0; written = whole.1 }
 
 pub write_mixed-requires : goal.write_mixed-requires
 unfolding whole_codons fold_to_letters residue_count
-write_mixed-requires c = record { table_bound = search rules; seq_value = sym c.all_fold_to_letters.ensures ∙ c.if-all_fold_to_letters.true; seq_in_bounds = omega (arith, c.if-out-n.false, c.thirds-n.ensures) }
+write_mixed-requires c = record { table_bound = search rules; seq_value = sym c.all_fold_to_letters.ensures ∙ c.if-all_fold_to_letters.true; seq_in_bounds = omega (arith, c.if-out-n.false, c.div_ceil-n.ensures) }
 
 pub returns-then-all_fold_to_letters : goal.returns-then-all_fold_to_letters
 unfolding whole_codons fold_to_letters
 returns-then-all_fold_to_letters c = let args = c.args in
     let letters : fold_to_letters args.seq.now ≡ true = sym c.all_fold_to_letters.ensures ∙ c.if-all_fold_to_letters.true in
     let whole = gives (translation args.table [] args.full args.seq.now (length args.out.now)) (folded_translated args.table [] args.seq.now) _ _ args.out.now
-    (all-fold-to-letters args.table [] args.full args.seq.now (length args.out.now) c.if-table-gt2.false none_taken c.if-full-seq.false (omega (arith, c.if-out-n.false, c.thirds-n.ensures)) letters)
-    (c.thirds-n.ensures ∙ sym (length-plain args.table [] args.seq.now))
+    (all-fold-to-letters args.table [] args.full args.seq.now (length args.out.now) c.if-table-gt2.false none_taken c.if-full-seq.false (omega (arith, c.if-out-n.false, c.div_ceil-n.ensures)) letters)
+    (omega (arith, length-plain args.table [] args.seq.now))
     c.write_mixed.ensures in
     record { answer = whole.0; written = whole.1 }
 
@@ -59,5 +59,5 @@ pub returns : goal.returns
 unfolding whole_codons fold_to_letters
 returns c = let args = c.args in
     let letters = sym c.all_fold_to_letters.ensures ∙ c.if-all_fold_to_letters.false in
-    let whole = refuses (translation args.table [] args.full args.seq.now (length args.out.now)) 2 args.out.now (no-letter args.table [] args.full args.seq.now (length args.out.now) c.if-table-gt2.false none_taken c.if-full-seq.false (omega (arith, c.if-out-n.false, c.thirds-n.ensures)) letters) in
+    let whole = refuses (translation args.table [] args.full args.seq.now (length args.out.now)) 2 args.out.now (no-letter args.table [] args.full args.seq.now (length args.out.now) c.if-table-gt2.false none_taken c.if-full-seq.false (omega (arith, c.if-out-n.false, c.div_ceil-n.ensures)) letters) in
     record { answer = whole.0; written = whole.1 }

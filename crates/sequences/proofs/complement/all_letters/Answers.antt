@@ -1,9 +1,0 @@
--- `sequences::complement::all_letters` meets its contract. The invariant: what was found and what is left decide.
-use Rattle.letters.proofs.Loops.{tested_more, tested_all}
-use Rattle.sequences.proofs.complement.all_letters.Goals as goal
-
-pub loop-i-preserved : goal.loop-i-preserved
-loop-i-preserved c = tested_more c.loop-i.invariant c.loop-i-test.true c.is_letter-good.ensures
-
-pub returns : goal.returns
-returns c = tested_all c.loop-i.invariant c.loop-i-test.false
