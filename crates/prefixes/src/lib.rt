@@ -40,6 +40,7 @@ pub fn common_prefix_len(a: &[u8], b: &[u8]) -> usize
     n
 }
 
+// Kept: std's `a == b` has this contract, and takes a third longer on long strings.
 pub fn equals(a: &[u8], b: &[u8]) -> bool
     ensures { result ≡ same a.now b.now }
 {
