@@ -1,5 +1,6 @@
 -- Laws of exceptions that move: what becomes of one, a turn of the loop over them, and what a caller has of a reference that isn't refused.
 -- Assumes nothing.
+use Rattle.std.specs.Prelude.{Option, Some, None}
 use mathlib.Core.Path.{◌≡◌, refl, sym, ap, ◌∙◌}
 use mathlib.Core.Bool.{true}
 use mathlib.Core.List.{List, [], ◌∷◌, ◌++◌, append_assoc, append-nil}
@@ -27,8 +28,6 @@ use Rattle.rules.proofs.Refusing.{reference-accepted}
 use Rattle.rules.proofs.Moved.{moved_to, suffix_fits, before-cds_shared, cds_fits}
 use Rattle.rules.proofs.Altered.{altered_length_lem, longest_altered, altered-fits}
 use Rattle.exceptions.specs.Moving.{left_of, Moves, Given, Rises, Lengths, Shared}
-use Rattle.exceptions.specs.declared.Moved.{Moved}
-use Rattle.exceptions.specs.declared.Moved.TheVariants.{To, Dropped}
 
 -- what becomes of one
 module _ (prefix suffix first size made : ℕ) (old new : List ℕ) (e : Exception) (shared : Shared prefix suffix size made old new) where
@@ -105,11 +104,11 @@ module _ (prefix first : ℕ) (old new : List ℕ) where
       → moved_all prefix first old new (take (i + 1) es) ≡ moved_all prefix first old new (take i es) ++ moved_one prefix first old new (get_or es i no_exception)
   one_more es i h = rw (add-one, take-suc es i no_exception h) (behind-all (take i es) (get_or es i no_exception))
 
-  module _ (given all : List Exception) (i n : ℕ) (m : Moved) (h : i < length given) (moved : take n all ≡ moved_all prefix first old new (take i given)) (is : left_of m ≡ moved_one prefix first old new (get_or given i no_exception)) where
-    pub turn-keeps : (e : Exception) → n < length all → m ≡ To e → take (n + 1) (set all n e) ≡ moved_all prefix first old new (take (i + 1) given)
+  module _ (given all : List Exception) (i n : ℕ) (m : Option Exception) (h : i < length given) (moved : take n all ≡ moved_all prefix first old new (take i given)) (is : left_of m ≡ moved_one prefix first old new (get_or given i no_exception)) where
+    pub turn-keeps : (e : Exception) → n < length all → m ≡ Some e → take (n + 1) (set all n e) ≡ moved_all prefix first old new (take (i + 1) given)
     turn-keeps e k to = rw (one_more given i h, ← is, to, ← moved, add-one) (take-suc-set all n e k)
 
-    pub turn-drops : m ≡ Dropped → take n all ≡ moved_all prefix first old new (take (i + 1) given)
+    pub turn-drops : m ≡ None → take n all ≡ moved_all prefix first old new (take (i + 1) given)
     turn-drops dropped = rw (one_more given i h, ← is, dropped, append-nil) moved
 
 -- none given

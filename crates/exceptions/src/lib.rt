@@ -13,13 +13,6 @@ ghost use Rattle.exceptions.specs.Moving.{left_of, Moves, Given, Rises, Lengths,
 use packed::{prefix_by, size_of, suffix_by};
 use rules::{Exception, Exceptions, Form};
 
-// What becomes of an exception.
-#[derive(Clone, Copy)]
-enum Moved {
-    To(Exception),
-    Dropped,
-}
-
 // A codon wholly in the prefix stays; one wholly in the suffix moves by the length change if it lands in frame; the others are dropped.
 fn moved_one(
     x: Exception,
@@ -28,23 +21,23 @@ fn moved_one(
     suffix: usize,
     size: usize,
     made: usize,
-) -> Moved
+) -> Option<Exception>
     requires lengths { Lengths first prefix suffix size made }
     requires le_codon { (1 ≤ x.codon) × (first + 3 * x.codon ≤ size) }
     ensures { (old new : List ℕ) → Shared prefix suffix size made old new → left_of result ≡ moved_one prefix first old new x }
 {
     let at = first + 3 * (x.codon as usize - 1);
     if at + 3 <= prefix {
-        return Moved::To(x);
+        return Some(x);
     }
     if at < size - suffix {
-        return Moved::Dropped;
+        return None;
     }
     let to = at + made - size;
     if to % 3 != first % 3 {
-        return Moved::Dropped;
+        return None;
     }
-    Moved::To(Exception {
+    Some(Exception {
         codon: ((to - first) / 3 + 1) as u32,
         residue: x.residue,
     })
@@ -71,12 +64,9 @@ pub fn moved_all(
     let mut i = 0;
     while i < count {
         let x = given[i];
-        match moved_one(x, first, prefix, suffix, size, made) {
-            Moved::To(y) => {
-                all[n] = y;
-                n += 1;
-            }
-            Moved::Dropped => {}
+        if let Some(y) = moved_one(x, first, prefix, suffix, size, made) {
+            all[n] = y;
+            n += 1;
         }
         i += 1;
     }

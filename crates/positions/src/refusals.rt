@@ -4,11 +4,12 @@ ghost use Rattle.rules.specs.Bytes.{first_number};
 ghost use Rattle.rules.specs.Position.{is_outside};
 ghost use Rattle.rules.specs.Edit.{kind_number, is, ends_past, is_misplaced, is_disordered, is_out_of_cds, are_new_bases, fit_bases, edit_tests};
 ghost use Rattle.rules.specs.declared.Kind.TheVariants.{Substitution, Insertion, Duplication};
+ghost use Rattle.rules.specs.Refusals.{refusal_of};
 ghost use Rattle.rules.specs.Views.{bare, asked};
 ghost use Rattle.reference.specs.Bounds.{Bounded};
 
 use indexes::{is_before, is_behind, is_outside, place_of};
-use rules::{Cds, Edit, Kind};
+use rules::{Cds, Edit, Kind, Refusal};
 use sequences::all_letters;
 
 // The number that a host gives a kind.
@@ -136,23 +137,23 @@ fn is_out_of_cds(edit: Edit) -> bool
     before | behind | (is_insertion(kind) & is_before(start))
 }
 
-// The lowest of 7 to 10 that applies, or 0.
-pub fn edit_refusal(size: usize, c: Cds, most: usize, edit: Edit, new: &[u8]) -> usize
+// The lowest of 7 to 10 that applies.
+pub fn edit_refusal(size: usize, c: Cds, most: usize, edit: Edit, new: &[u8]) -> Result<(), Refusal>
     requires { Bounded c }
-    ensures { (s : List ℕ) → length s ≡ size → result ≡ first_number (edit_tests most (bare s c) (asked edit new.now)) }
+    ensures { (s : List ℕ) → length s ≡ size → refusal_of result ≡ first_number (edit_tests most (bare s c) (asked edit new.now)) }
 {
     if is_misplaced(size, c, edit) {
-        return 7;
+        return Err(Refusal::Position);
     }
     if is_disordered(c, edit) {
-        return 8;
+        return Err(Refusal::Order);
     }
     if is_out_of_cds(edit) {
-        return 9;
+        return Err(Refusal::OutOfCds);
     }
     let kind = edit.kind;
     if fit_bases(most, kind, new) {
-        return 0;
+        return Ok(());
     }
-    10
+    Err(Refusal::Bases)
 }

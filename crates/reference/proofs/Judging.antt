@@ -10,7 +10,7 @@ use lib.ListN.{length, take, drop, take-append-drop}
 use borrow.Author.Tests.{leb-true, not-false}
 use Rattle.rules.specs.declared.Cds.{Cds}
 use Rattle.rules.specs.declared.Exceptions.{Exceptions}
-use Rattle.rules.specs.Bytes.{all, first_number}
+use Rattle.rules.specs.Bytes.{all, first_number, given, refused, unless}
 use Rattle.rules.specs.Letters.{is_letter}
 use Rattle.rules.specs.Codons.{is_table}
 use Rattle.rules.specs.Translation.{residue_count}
@@ -20,32 +20,24 @@ use Rattle.rules.specs.Views.{bare, reference_of}
 use Rattle.rules.proofs.Tests.{and_right, first_clear, first_behind, first_before}
 use Rattle.rules.proofs.Reference.{bounds_of}
 use Rattle.letters.specs.Sets.{is_base}
-use Rattle.reference.specs.declared.Judged.{Judged}
-use Rattle.reference.specs.declared.Judged.TheVariants.{Refused, Clear}
-use Rattle.reference.specs.Known.{early_refusal, end_refusal, judged_by, judged_of, HasRoom, Readable}
+use Rattle.reference.specs.Known.{early_refusal, end_refusal, judged_of, HasRoom, Readable}
 
--- what the enum tells
-module _ (n : ℕ) (plain : Bool) (x : Judged) (is : x ≡ judged_by n plain) where
-  pub was-refused : (m : ℕ) → x ≡ Refused m → (n ≡ m) × (m ≡ 0 → ⊥)
-  unfolding judged_by
-  was-refused m h = by n (sym is ∙ h)
-    where
-      by : (n : ℕ) → judged_by n plain ≡ Refused m → (n ≡ m) × (m ≡ 0 → ⊥)
-      by zero q = let z : ◌≡◌ {A = ℕ} 0 1 = cc in absurd (omega arith)
-      by (suc n) q = let same : suc n ≡ m = cc in (same, λ z. omega arith)
+-- a value, unless a number refuses it
+module _ {A : Type 0} where
+  pub was-refused : (n m : ℕ) (a : A) → refused m ≡ unless n a → (n ≡ m) × (m ≡ 0 → ⊥)
+  unfolding unless
+  was-refused zero m a h = let z : ◌≡◌ {A = ℕ} 0 1 = cc in absurd (omega arith)
+  was-refused (suc n) m a h = let same : suc n ≡ m = cc in (same, λ z. omega arith)
 
-  pub was-clear : (p : Bool) → x ≡ Clear p → (n ≡ 0) × (p ≡ plain)
-  unfolding judged_by
-  was-clear p h = by n (sym is ∙ h)
-    where
-      by : (n : ℕ) → judged_by n plain ≡ Clear p → (n ≡ 0) × (p ≡ plain)
-      by zero q = (refl, cc)
-      by (suc n) q = let z : ◌≡◌ {A = ℕ} 0 1 = cc in absurd (omega arith)
+  pub was-given : (n : ℕ) (a x : A) → given x ≡ unless n a → (n ≡ 0) × (x ≡ a)
+  unfolding unless
+  was-given zero a x h = (refl, cc)
+  was-given (suc n) a x h = let z : ◌≡◌ {A = ℕ} 0 1 = cc in absurd (omega arith)
 
-judged_some : (n : ℕ) (plain : Bool) → (n ≡ 0 → ⊥) → Refused n ≡ judged_by n plain
-unfolding judged_by
-judged_some zero plain h = absurd (h refl)
-judged_some (suc n) plain h = refl
+  pub refused_some : (n : ℕ) (a : A) → (n ≡ 0 → ⊥) → refused n ≡ unless n a
+  unfolding unless
+  refused_some zero a h = absurd (h refl)
+  refused_some (suc n) a h = refl
 
 module _ (longest : ℕ) (s : List ℕ) (c : Cds) (e : Exceptions) where
   -- what 1 to 5 leave
@@ -93,23 +85,23 @@ module _ (longest : ℕ) (s : List ℕ) (c : Cds) (e : Exceptions) where
       ap first_number (sym (take-append-drop 5 tests)) ∙ first_behind (take 5 tests) (drop 5 tests) refl h
 
   -- one of 1 to 5 applies
-  pub judged-early : (n : ℕ) → early_refusal longest (reference_of s c e) ≡ n → (n ≡ 0 → ⊥) → Refused n ≡ judged_of longest s c e
+  pub judged-early : (n : ℕ) → early_refusal longest (reference_of s c e) ≡ n → (n ≡ 0 → ⊥) → refused n ≡ judged_of longest s c e
   unfolding judged_of
   judged-early n is some = by n is some
     where
-      by : (n : ℕ) → early_refusal longest (reference_of s c e) ≡ n → (n ≡ 0 → ⊥) → Refused n ≡ judged_by (reference_refusal longest (reference_of s c e)) (all is_base s)
+      by : (n : ℕ) → early_refusal longest (reference_of s c e) ≡ n → (n ≡ 0 → ⊥) → refused n ≡ unless (reference_refusal longest (reference_of s c e)) (all is_base s)
       by zero is some = absurd (some refl)
-      by (suc n) is some = rw (early-refused n is) (judged_some (suc n) (all is_base s) some)
+      by (suc n) is some = rw (early-refused n is) (refused_some (suc n) (all is_base s) some)
 
   -- none does
   module _ (none : early_refusal longest (reference_of s c e) ≡ 0) (n : ℕ) (is : n ≡ end_refusal (reference_of s c e)) where
-    pub judged-clear : (plain : Bool) → plain ≡ all is_base s → n ≡ 0 → Clear plain ≡ judged_of longest s c e
-    unfolding judged_of judged_by
+    pub judged-clear : (plain : Bool) → plain ≡ all is_base s → n ≡ 0 → given plain ≡ judged_of longest s c e
+    unfolding judged_of unless
     judged-clear plain p h = rw (early-passed none, sym is ∙ h, p)
 
-    pub judged-late : (n ≡ 0 → ⊥) → Refused n ≡ judged_of longest s c e
+    pub judged-late : (n ≡ 0 → ⊥) → refused n ≡ judged_of longest s c e
     unfolding judged_of
-    judged-late some = rw (early-passed none, ← is) (judged_some n (all is_base s) some)
+    judged-late some = rw (early-passed none, ← is) (refused_some n (all is_base s) some)
 
   -- a reference that isn't refused passes 1 to 5
   pub accepted-early : reference_refusal longest (reference_of s c e) ≡ 0 → early_refusal longest (reference_of s c e) ≡ 0
