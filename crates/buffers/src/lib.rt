@@ -25,14 +25,8 @@ pub fn room_refusal(
     requires cs_in_bounds { c.cs - 1 ≤ length }
     ensures { refusal_of result ≡ first_number (room_tests (c.ce + 1 - c.cs) c.cs length (record { transcript = transcript; reference = reference; altered = altered })) }
 {
-    let front = c.cs - 1;
-    if transcript < length {
-        return Err(Refusal::TranscriptRoom);
-    }
-    if reference < thirds(c.ce - front) {
-        return Err(Refusal::ProteinRoom);
-    }
-    if altered < thirds(length - front) {
+    pair_room_refusal(c, length, transcript, altered)?;
+    if reference < thirds(c.ce - (c.cs - 1)) {
         return Err(Refusal::ProteinRoom);
     }
     Ok(())

@@ -9,6 +9,7 @@ use numbers::thirds;
 use rules::{Cds, Refusal};
 
 // 11 or 12 for a pair's length and the room of the two buffers.
+#[tactic(auto, unfolding(rules::specs::Pair::pair_room_tests, rules::specs::Bytes::first_number, rules::specs::Translation::residue_count))]
 pub fn pair_room_refusal(
     c: Cds,
     length: usize,

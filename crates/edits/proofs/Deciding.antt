@@ -7,8 +7,10 @@ use Prim.Native.Nat.{ℕ, ◌≤◌}
 use native.Mathlib.Omega.{arith}
 use Rattle.rules.specs.Bytes.{first_number, given, refused, unless}
 use Rattle.rules.specs.Reference.{Reference}
+use Rattle.rules.specs.Refusals.{refusal_number}
+use Rattle.rules.specs.declared.Refusal.{Refusal}
 use Rattle.rules.specs.Edit.{Asked, ends_past, edit_tests}
-use Rattle.reference.proofs.Judging.{was-refused, was-given, refused_some}
+use Rattle.reference.proofs.Judging.{was-refused, was-given, told-refused}
 use Rattle.edits.specs.Plans.{plan_of}
 use Rattle.edits.specs.declared.plans.Plan.{Plan}
 use Rattle.edits.specs.Decisions.{decision_of}
@@ -26,9 +28,9 @@ module _ (most : ℕ) (several : Bool) (r : Reference) (a : Asked) where
   abbrev all : Option Plan
   all = if several || ends_past r a then None else Some (plan_of r a)
 
-  pub decides-refusal : (n : ℕ) → n ≡ first_number (edit_tests most r a) → (n ≡ 0 → ⊥) → refused n ≡ decision_of most several r a
+  pub decides-refusal : (x : Refusal) → refusal_number x ≡ first_number (edit_tests most r a) → refused (refusal_number x) ≡ decision_of most several r a
   unfolding decision_of
-  decides-refusal n is some = rw (← is) (refused_some n all some)
+  decides-refusal x is = told-refused x (first_number (edit_tests most r a)) all is
 
   module _ (none : first_number (edit_tests most r a) ≡ 0) (past : Bool) (is : past ≡ ends_past r a) where
     pub decides-unknown : (several || past) ≡ true → given None ≡ decision_of most several r a

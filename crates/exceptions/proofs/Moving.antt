@@ -117,14 +117,11 @@ unfolding exception_list
 none-given prefix first old new e h = rw h (none-moved prefix first old new)
 
 -- any of those given
-pub given_at : (first size : ℕ) (e : Exceptions) (i : ℕ) → length e.all ≡ 16 → first ≤ size → Rises first size e → i < e.count
-    → (1 ≤ (get_or e.all i no_exception).codon) × (first + 3 * (get_or e.all i no_exception).codon ≤ size)
+pub given_at : (first size : ℕ) (e : Exceptions) (i : ℕ) → length e.all ≡ 16 → first ≤ size → Rises first size e → i < length (take e.count e.all)
+    → (1 ≤ (get_or (take e.count e.all) i no_exception).codon) × (first + 3 * (get_or (take e.count e.all) i no_exception).codon ≤ size)
 given_at first size e i long within g h =
-    let list = first_exceptions e long g.few in
-    let counted : length (take e.count e.all) ≡ e.count = length-take-le e.count e.all (omega (arith, g.few)) in
-    let x = rising_at 0 ((size - first) / 3) (take e.count e.all) i (rw list at g.rising) (omega arith) in
-    let y : Excepts 0 ((size - first) / 3) (get_or e.all i no_exception) = rw (get_or-take e.count e.all i no_exception h) at x in
-    (y.above, omega (arith, y.inside))
+    let x = rising_at 0 ((size - first) / 3) (take e.count e.all) i (rw (first_exceptions e long g.few) at g.rising) h in
+    (x.above, omega (arith, x.inside))
 
 -- room for more codons
 rising_within : (last most more : ℕ) (es : List Exception) → most ≤ more → are_rising last most es ≡ true → are_rising last more es ≡ true

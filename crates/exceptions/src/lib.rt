@@ -57,20 +57,16 @@ pub fn moved_all(
     ensures by_index { (old new : List ℕ) → Shared prefix suffix size made old new → exception_list result ≡ moved_all prefix first old new (exception_list e) }
     ensures few { result.count ≤ 16 }
 {
-    let given = e.all;
-    let count = e.count;
+    let given = &e.all[..e.count];
     let mut all = e.all;
-    let mut n = 0;
-    let mut i = 0;
-    while i < count {
-        let x = given[i];
-        if let Some(y) = moved_one(x, first, prefix, suffix, size, made) {
-            all[n] = y;
-            n += 1;
+    let mut count = 0;
+    for x in given {
+        if let Some(y) = moved_one(*x, first, prefix, suffix, size, made) {
+            all[count] = y;
+            count += 1;
         }
-        i += 1;
     }
-    Exceptions { all, count: n }
+    Exceptions { all, count }
 }
 
 // The exceptions of the transcript `new` that an edit makes of `old`, whose CDS begins at index `first`.

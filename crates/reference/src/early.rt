@@ -17,10 +17,7 @@ fn are_letters(letters: &[u8], form: Form, plain: bool) -> bool
     requires plain_value { plain ≡ all is_base (letters_by form letters.now) }
     ensures { result ≡ all is_letter (letters_by form letters.now) }
 {
-    if plain {
-        return true;
-    }
-    all_letters_by(letters, form)
+    plain || all_letters_by(letters, form)
 }
 
 // The lowest of 1 to 5 that applies, or whether the letters are plain.

@@ -29,6 +29,7 @@ fn ends_in_stop(letters: &[u8], form: Form, c: Cds, e: Exceptions) -> bool
 }
 
 // Whether an end is known, and not at a stop.
+#[tactic(auto, unfolding(rules::specs::Reference::is_short_end))]
 pub fn is_short_end(end: usize) -> bool
     ensures { result ≡ is_short_end end }
 {

@@ -1,21 +1,20 @@
--- `buffers::room_refusal` meets its contract.
-use Rattle.buffers.proofs.Rooms.{no-transcript, no-reference, no-altered, room-enough}
+-- `buffers::room_refusal` meets its contract. Assumes nothing.
+use mathlib.Core.Path.{◌∙◌}
+use Rattle.reference.proofs.Judging.{number_some, exit_refusal}
+use Rattle.buffers.proofs.Rooms.{no-pair, no-reference, room-enough}
 use Rattle.buffers.proofs.room_refusal.Goals as goal
 
-pub returns-then-transcript-length : goal.returns-then-transcript-length
-returns-then-transcript-length c = let args = c.args in no-transcript args.c args.length (record { transcript = args.transcript; reference = args.reference; altered = args.altered }) c.if-transcript-length.true
+pub returns-in_err-pair_room_refusal : goal.returns-in_err-pair_room_refusal
+returns-in_err-pair_room_refusal c =
+    let a = c.args in
+    exit_refusal _ _ c.from_residual.ensures.1 ∙ no-pair a.c a.length (record { transcript = a.transcript; reference = a.reference; altered = a.altered }) _ c.in_err-pair_room_refusal.ensures (number_some _)
 
 pub returns-then-reference-thirds : goal.returns-then-reference-thirds
 returns-then-reference-thirds c =
-    let args = c.args in
-    no-reference args.c args.length (record { transcript = args.transcript; reference = args.reference; altered = args.altered }) c.requires.bounded.first c.if-transcript-length.false c.thirds.result c.thirds.ensures c.if-reference-thirds.true
-
-pub returns-then-altered-thirds : goal.returns-then-altered-thirds
-returns-then-altered-thirds c =
-    let args = c.args in
-    no-altered args.c args.length (record { transcript = args.transcript; reference = args.reference; altered = args.altered }) c.requires.bounded.first c.if-transcript-length.false c.thirds.result c.thirds.ensures c.if-reference-thirds.false c.thirds-2.result c.thirds-2.ensures c.if-altered-thirds.true
+    let a = c.args in
+    no-reference a.c a.length (record { transcript = a.transcript; reference = a.reference; altered = a.altered }) c.requires.bounded.first c.in_ok-pair_room_refusal.ensures c.thirds.result c.thirds.ensures c.if-reference-thirds.true
 
 pub returns : goal.returns
 returns c =
-    let args = c.args in
-    room-enough args.c args.length (record { transcript = args.transcript; reference = args.reference; altered = args.altered }) c.requires.bounded.first c.if-transcript-length.false c.thirds.result c.thirds.ensures c.if-reference-thirds.false c.thirds-2.result c.thirds-2.ensures c.if-altered-thirds.false
+    let a = c.args in
+    room-enough a.c a.length (record { transcript = a.transcript; reference = a.reference; altered = a.altered }) c.requires.bounded.first c.in_ok-pair_room_refusal.ensures c.thirds.result c.thirds.ensures c.if-reference-thirds.false

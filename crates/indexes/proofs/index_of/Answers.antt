@@ -23,4 +23,4 @@ overflow_add-c c = omega (arith, in-star _ _ _ _ c.in-Star.is c.requires.p_value
 
 pub returns-in-Star : goal.returns-in-Star
 unfolding index
-returns-in-Star c = rw c.in-Star.is c.least.ensures
+returns-in-Star c = rw c.in-Star.is

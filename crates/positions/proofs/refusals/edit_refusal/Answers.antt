@@ -42,15 +42,15 @@ returns-then-is_out_of_cds c =
       sym (c.is_out_of_cds.ensures a.new.now) ∙ c.if-is_out_of_cds.true,
     )
 
-pub returns-then-fit_bases : goal.returns-then-fit_bases
+pub returns-then-not-fit_bases : goal.returns-then-not-fit_bases
 unfolding first_number edit_tests
-returns-then-fit_bases c =
+returns-then-not-fit_bases c =
     let a = c.args in
     λ s h. rw (
       sym (c.is_misplaced.ensures s a.new.now h) ∙ c.if-is_misplaced.false,
       sym (c.is_disordered.ensures s a.new.now) ∙ c.if-is_disordered.false,
       sym (c.is_out_of_cds.ensures a.new.now) ∙ c.if-is_out_of_cds.false,
-      sym c.fit_bases.ensures ∙ c.if-fit_bases.true,
+      sym c.fit_bases.ensures ∙ c.if-not-fit_bases.true,
     )
 
 pub returns : goal.returns
@@ -61,5 +61,5 @@ returns c =
       sym (c.is_misplaced.ensures s a.new.now h) ∙ c.if-is_misplaced.false,
       sym (c.is_disordered.ensures s a.new.now) ∙ c.if-is_disordered.false,
       sym (c.is_out_of_cds.ensures a.new.now) ∙ c.if-is_out_of_cds.false,
-      sym c.fit_bases.ensures ∙ c.if-fit_bases.false,
+      sym c.fit_bases.ensures ∙ c.if-not-fit_bases.false,
     )
