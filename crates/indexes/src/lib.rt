@@ -21,6 +21,7 @@ pub fn is_outside(p: Position, c: Cds) -> bool
 }
 
 // The place, counted from 0.
+#[tactic(auto, unfolding(rules::specs::Position::place, rules::specs::Position::is_outside))]
 pub fn place_of(p: Position, c: Cds) -> usize
     requires bounded { Bounded c }
     requires p_value { is_outside c.cs c.ce p ≡ false }
@@ -35,6 +36,7 @@ pub fn place_of(p: Position, c: Cds) -> usize
 }
 
 // The index used in editing.
+#[tactic(auto, unfolding(rules::specs::Position::index, rules::specs::Position::is_outside))]
 pub fn index_of(p: Position, c: Cds, len: usize) -> usize
     requires bounded { Bounded c }
     requires p_value { is_outside c.cs c.ce p ≡ false }

@@ -42,6 +42,7 @@ fn are_new_bases(most: usize, s: &[u8]) -> bool
 }
 
 // Whether the new bases are those that the kind takes.
+#[tactic(auto, unfolding(rules::specs::Edit::fit_bases))]
 fn fit_bases(most: usize, kind: Kind, new: &[u8]) -> bool
     ensures { result ≡ fit_bases most kind new.now }
 {
@@ -101,6 +102,7 @@ fn is_out_of_cds(edit: Edit) -> bool
 }
 
 // The lowest of 7 to 10 that applies.
+#[tactic(auto, unfolding(rules::specs::Edit::edit_tests, rules::specs::Bytes::first_number))]
 pub fn edit_refusal(size: usize, c: Cds, most: usize, edit: Edit, new: &[u8]) -> Result<(), Refusal>
     requires { Bounded c }
     ensures { (s : List ℕ) → length s ≡ size → refusal_of result ≡ first_number (edit_tests most (bare s c) (asked edit new.now)) }
