@@ -14,6 +14,7 @@ pub use pair::pair_room_refusal;
 use rules::{Cds, Refusal};
 
 // 11 or 12 for an altered length and the room of the three buffers.
+#[tactic(auto, using(reference::proofs::Judging::number_some), unfolding(rules::specs::Refusal::room_tests, rules::specs::Pair::pair_room_tests, rules::specs::Bytes::first_number, rules::specs::Translation::residue_count))]
 pub fn room_refusal(
     c: Cds,
     length: usize,
