@@ -38,6 +38,7 @@ pub fn silent_number(len: usize, edit: Edit) -> usize
 }
 
 // The start index, and the end index plus one, at most L.
+#[tactic(auto, using(indexes::proofs::Inside::index_near))]
 pub fn setup_incorporate(len: usize, c: Cds, edit: Edit) -> Range
     requires bounded { Bounded c }
     requires start_value { is_outside c.cs c.ce edit.start ≡ false }
