@@ -8,8 +8,8 @@ use native.Mathlib.Numerals.{add-one}
 use native.Mathlib.Omega.{arith}
 use lib.Dec.{leb, ltb}
 use lib.ListN.{length, take, drop, get_or, drop_of_length-le}
-use lib.Seq.{length-take-le, get_or-take, drop-cons}
-use borrow.Author.Tests.{ltb-true, ltb-false, not-true, not-false, le-leb, lt-leb}
+use lib.Seq.{drop-cons}
+use borrow.Author.Tests.{ltb-true, ltb-false, le-leb, lt-leb}
 use Rattle.rules.specs.declared.Cds.{Cds}
 use Rattle.rules.specs.declared.Exception.{Exception}
 use Rattle.rules.specs.declared.Exceptions.{Exceptions}
@@ -68,25 +68,22 @@ bounds_left cs ce L h =
       ltb-false L ce (or_right (ltb cs 1 || ltb ce cs) (ltb L ce) h),
     )
 
--- the exceptions behind the first i, of those that are counted
-module _ (last most count : ℕ) (all : List Exception) (i : ℕ) where
-  rising-turn : i < count → count ≤ length all → are_rising last most (drop i (take count all))
-      ≡ (is_exception last most (get_or all i no_exception) && are_rising (get_or all i no_exception).codon most (drop (i + 1) (take count all)))
+-- the exceptions behind the first i
+module _ (last most : ℕ) (es : List Exception) (i : ℕ) where
+  module _ (h : i < length es) where
+    rising-turn : are_rising last most (drop i es) ≡ (is_exception last most (get_or es i no_exception) && are_rising (get_or es i no_exception).codon most (drop (i + 1) es))
+    unfolding are_rising
+    rising-turn = rw (drop-cons es i no_exception h, add-one)
+
+    pub rising-on : is_exception last most (get_or es i no_exception) ≡ true → are_rising (get_or es i no_exception).codon most (drop (i + 1) es) ≡ are_rising last most (drop i es)
+    rising-on q = sym (rising-turn ∙ rw q)
+
+    pub rising-off : is_exception last most (get_or es i no_exception) ≡ false → are_rising last most (drop i es) ≡ false
+    rising-off q = rising-turn ∙ rw q
+
+  pub rising-end : length es ≤ i → are_rising last most (drop i es) ≡ true
   unfolding are_rising
-  rising-turn h k =
-      let fits : i < length (take count all) = rw (length-take-le count all k) h in
-      rw (drop-cons (take count all) i no_exception fits, get_or-take count all i no_exception h, add-one)
-
-  module _ (h : i < count) (k : count ≤ length all) (t : Bool) (is : t ≡ is_exception last most (get_or all i no_exception)) where
-    pub rising-on : not t ≡ false → are_rising (get_or all i no_exception).codon most (drop (i + 1) (take count all)) ≡ are_rising last most (drop i (take count all))
-    rising-on q = sym (rising-turn h k ∙ rw (← is, not-false t q))
-
-    pub rising-off : not t ≡ true → are_rising last most (drop i (take count all)) ≡ false
-    rising-off q = rising-turn h k ∙ rw (← is, not-true t q)
-
-  pub rising-end : count ≤ i → count ≤ length all → are_rising last most (drop i (take count all)) ≡ true
-  unfolding are_rising
-  rising-end h k = rw (drop_of_length-le (take count all) {i = i} (rw (length-take-le count all k) h))
+  rising-end h = rw (drop_of_length-le es {i = i} h)
 
 module _ (e : Exceptions) (most : ℕ) where
   pub too_many : 16 < e.count → false ≡ (leb (length (exception_list e)) 16 && are_rising 0 most (exception_list e))

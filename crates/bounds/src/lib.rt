@@ -11,6 +11,7 @@ use letters::is_residue;
 use rules::{Cds, Exception, Exceptions};
 
 // Divisible by 3; for a cut codon not.
+#[tactic(auto, unfolding(rules::specs::Reference::fits_end))]
 fn fits_end(end: usize, n: usize) -> bool
     ensures { result ≡ fits_end end n }
 {
@@ -40,20 +41,16 @@ fn is_exception(x: Exception, last: usize, most: usize) -> bool
 pub fn fit_exceptions(e: Exceptions, most: usize) -> bool
     ensures { result ≡ (leb (length (exception_list e)) 16 && are_rising 0 most (exception_list e)) }
 {
-    let count = e.count;
-    if 16 < count {
+    if 16 < e.count {
         return false;
     }
-    let all = e.all;
+    let given = &e.all[..e.count];
     let mut last = 0;
-    let mut i = 0;
-    while i < count {
-        let x = all[i];
-        if !is_exception(x, last, most) {
+    for x in given {
+        if !is_exception(*x, last, most) {
             return false;
         }
         last = x.codon as usize;
-        i += 1;
     }
     true
 }

@@ -9,7 +9,7 @@ ghost use Rattle.cuts.specs.Cuts.{cut_of, Cuts};
 
 use codon_reader::read_codon;
 use packed::{first_stop_by, set_at};
-use rules::{Exception, Exceptions, Form};
+use rules::{Exceptions, Form};
 
 // Whether a `*` appears, and how many of the bases stay.
 #[derive(Clone, Copy)]
@@ -44,19 +44,14 @@ fn framed_codon(
     read_codon(table, ANY, a, b)
 }
 
-// Exceptions play no part in the cut.
+// Kept: docs/PROMISES.md names it; `Exceptions::none` says more.
 pub fn no_exceptions() -> Exceptions
     ensures { result.count ≡ 0 }
 {
-    let none = Exception {
-        codon: 0,
-        residue: 0,
-    };
-    let all = [none; 16];
-    Exceptions { all, count: 0 }
+    Exceptions::none()
 }
 
-// The cut of bases that begin with a codon.
+// The cut of bases that begin with a codon. Exceptions play no part in it.
 fn cut_in_frame(
     letters: &[u8],
     form: Form,
@@ -70,7 +65,7 @@ fn cut_in_frame(
     ensures { result ≡ cut_of table 0 (part start end (letters_by form letters.now)) }
 {
     let size = end - start;
-    let stop = first_stop_by(letters, form, start, end, table, plain, no_exceptions());
+    let stop = first_stop_by(letters, form, start, end, table, plain, Exceptions::none());
     if stop < size / 3 {
         return Cut {
             found: true,

@@ -53,10 +53,7 @@ fn is_shift(letters: &[u8], form: Form, c: Cds, range: Range, new: &[u8]) -> boo
     let end = range.end;
     let uneven = new.len() % 3 != (end - start) % 3;
     let leaves = (start < c.ce) & (c.ce < end);
-    if uneven | leaves {
-        return !same_by(letters, form, start, end, new);
-    }
-    false
+    (uneven | leaves) && !same_by(letters, form, start, end, new)
 }
 
 // Deletion, delins and substitution. `number` is a silent record's, here and below.
@@ -65,11 +62,10 @@ fn replace(letters: &[u8], form: Form, c: Cds, range: Range, new: &[u8], number:
     requires letters_len_bound { (length (letters_by form letters.now) < 4294967296) × (length new.now < 4294967296) }
     ensures { (e : Asked) → Replaces (bare (letters_by form letters.now) c) e range new.now → number ≡ silent_number (bare (letters_by form letters.now) c) e → result ≡ plan_of (bare (letters_by form letters.now) c) e }
 {
-    let source = Source::New;
     let start = range.start;
     let end = range.end;
     Plan {
-        source,
+        source: Source::New,
         start,
         end,
         from: start,
@@ -175,15 +171,13 @@ pub fn plan_of(letters: &[u8], known: Known, edit: Edit, new: &[u8]) -> Plan
     let size = size_of(letters, form);
     let number = silent_number(known.residues, edit);
     let range = setup_incorporate(size, c, edit);
-    let kind = edit.kind;
-    match kind {
-        Kind::Substitution => replace(letters, form, c, range, new, number),
-        Kind::Deletion => replace(letters, form, c, range, new, number),
-        Kind::Delins => replace(letters, form, c, range, new, number),
+    match edit.kind {
+        Kind::Substitution | Kind::Deletion | Kind::Delins => {
+            replace(letters, form, c, range, new, number)
+        }
         Kind::Insertion => insert_new(size, c, range, new, number),
         Kind::Duplication => insert_copy(letters, known, range, number),
         Kind::Inversion => keep_length(size, range, Source::Turned, number),
-        Kind::Identity => keep_length(size, range, Source::Copy, number),
-        Kind::Other => keep_length(size, range, Source::Copy, number),
+        Kind::Identity | Kind::Other => keep_length(size, range, Source::Copy, number),
     }
 }

@@ -1,5 +1,6 @@
 -- Laws of exceptions that move: what becomes of one, a turn of the loop over them, and what a caller has of a reference that isn't refused.
 -- Assumes nothing.
+use Rattle.std.specs.Prelude.{Option, Some, None}
 use mathlib.Core.Path.{◌≡◌, refl, sym, ap, ◌∙◌}
 use mathlib.Core.Bool.{true}
 use mathlib.Core.List.{List, [], ◌∷◌, ◌++◌, append_assoc, append-nil}
@@ -27,8 +28,6 @@ use Rattle.rules.proofs.Refusing.{reference-accepted}
 use Rattle.rules.proofs.Moved.{moved_to, suffix_fits, before-cds_shared, cds_fits}
 use Rattle.rules.proofs.Altered.{altered_length_lem, longest_altered, altered-fits}
 use Rattle.exceptions.specs.Moving.{left_of, Moves, Given, Rises, Lengths, Shared}
-use Rattle.exceptions.specs.declared.Moved.{Moved}
-use Rattle.exceptions.specs.declared.Moved.TheVariants.{To, Dropped}
 
 -- what becomes of one
 module _ (prefix suffix first size made : ℕ) (old new : List ℕ) (e : Exception) (shared : Shared prefix suffix size made old new) where
@@ -105,11 +104,11 @@ module _ (prefix first : ℕ) (old new : List ℕ) where
       → moved_all prefix first old new (take (i + 1) es) ≡ moved_all prefix first old new (take i es) ++ moved_one prefix first old new (get_or es i no_exception)
   one_more es i h = rw (add-one, take-suc es i no_exception h) (behind-all (take i es) (get_or es i no_exception))
 
-  module _ (given all : List Exception) (i n : ℕ) (m : Moved) (h : i < length given) (moved : take n all ≡ moved_all prefix first old new (take i given)) (is : left_of m ≡ moved_one prefix first old new (get_or given i no_exception)) where
-    pub turn-keeps : (e : Exception) → n < length all → m ≡ To e → take (n + 1) (set all n e) ≡ moved_all prefix first old new (take (i + 1) given)
+  module _ (given all : List Exception) (i n : ℕ) (m : Option Exception) (h : i < length given) (moved : take n all ≡ moved_all prefix first old new (take i given)) (is : left_of m ≡ moved_one prefix first old new (get_or given i no_exception)) where
+    pub turn-keeps : (e : Exception) → n < length all → m ≡ Some e → take (n + 1) (set all n e) ≡ moved_all prefix first old new (take (i + 1) given)
     turn-keeps e k to = rw (one_more given i h, ← is, to, ← moved, add-one) (take-suc-set all n e k)
 
-    pub turn-drops : m ≡ Dropped → take n all ≡ moved_all prefix first old new (take (i + 1) given)
+    pub turn-drops : m ≡ None → take n all ≡ moved_all prefix first old new (take (i + 1) given)
     turn-drops dropped = rw (one_more given i h, ← is, dropped, append-nil) moved
 
 -- none given
@@ -118,14 +117,11 @@ unfolding exception_list
 none-given prefix first old new e h = rw h (none-moved prefix first old new)
 
 -- any of those given
-pub given_at : (first size : ℕ) (e : Exceptions) (i : ℕ) → length e.all ≡ 16 → first ≤ size → Rises first size e → i < e.count
-    → (1 ≤ (get_or e.all i no_exception).codon) × (first + 3 * (get_or e.all i no_exception).codon ≤ size)
+pub given_at : (first size : ℕ) (e : Exceptions) (i : ℕ) → length e.all ≡ 16 → first ≤ size → Rises first size e → i < length (take e.count e.all)
+    → (1 ≤ (get_or (take e.count e.all) i no_exception).codon) × (first + 3 * (get_or (take e.count e.all) i no_exception).codon ≤ size)
 given_at first size e i long within g h =
-    let list = first_exceptions e long g.few in
-    let counted : length (take e.count e.all) ≡ e.count = length-take-le e.count e.all (omega (arith, g.few)) in
-    let x = rising_at 0 ((size - first) / 3) (take e.count e.all) i (rw list at g.rising) (omega arith) in
-    let y : Excepts 0 ((size - first) / 3) (get_or e.all i no_exception) = rw (get_or-take e.count e.all i no_exception h) at x in
-    (y.above, omega (arith, y.inside))
+    let x = rising_at 0 ((size - first) / 3) (take e.count e.all) i (rw (first_exceptions e long g.few) at g.rising) h in
+    (x.above, omega (arith, x.inside))
 
 -- room for more codons
 rising_within : (last most more : ℕ) (es : List Exception) → most ≤ more → are_rising last most es ≡ true → are_rising last more es ≡ true

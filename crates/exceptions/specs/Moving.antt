@@ -1,18 +1,16 @@
 -- What becomes of an exception, and what is known where exceptions move.
-use Rattle.std.specs.Prelude.{ℕ, ◌+◌, ◌-◌, ◌*◌, ◌/◌, ◌≤◌, ◌<◌, ◌≡◌, true, List, [], ◌∷◌, length}
+use Rattle.std.specs.Prelude.{ℕ, ◌+◌, ◌-◌, ◌*◌, ◌/◌, ◌≤◌, ◌<◌, ◌≡◌, true, List, [], ◌∷◌, length, Option, Some, None}
 use Rattle.rules.specs.declared.Exception.{Exception}
 use Rattle.rules.specs.declared.Exceptions.{Exceptions}
 use Rattle.rules.specs.Translation.{exception_list}
 use Rattle.rules.specs.Trims.{common_prefix}
 use Rattle.rules.specs.Reference.{are_rising}
 use Rattle.rules.specs.Exceptions.{suffix_behind}
-use Rattle.exceptions.specs.declared.Moved.{Moved}
-use Rattle.exceptions.specs.declared.Moved.TheVariants.{To, Dropped}
 
 -- what is left of one: itself, moved or not, or nothing
-abbrev pub left_of : Moved → List Exception
-left_of (To e) = e ∷ []
-left_of Dropped = []
+abbrev pub left_of : Option Exception → List Exception
+left_of (Some e) = e ∷ []
+left_of None = []
 
 -- the edit leaves the letters before the CDS, and sums of lengths fit
 pub record Moves (first : ℕ) (old new : List ℕ) : Type 0 where

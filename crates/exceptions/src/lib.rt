@@ -13,13 +13,6 @@ ghost use Rattle.exceptions.specs.Moving.{left_of, Moves, Given, Rises, Lengths,
 use packed::{prefix_by, size_of, suffix_by};
 use rules::{Exception, Exceptions, Form};
 
-// What becomes of an exception.
-#[derive(Clone, Copy)]
-enum Moved {
-    To(Exception),
-    Dropped,
-}
-
 // A codon wholly in the prefix stays; one wholly in the suffix moves by the length change if it lands in frame; the others are dropped.
 fn moved_one(
     x: Exception,
@@ -28,23 +21,23 @@ fn moved_one(
     suffix: usize,
     size: usize,
     made: usize,
-) -> Moved
+) -> Option<Exception>
     requires lengths { Lengths first prefix suffix size made }
     requires le_codon { (1 ≤ x.codon) × (first + 3 * x.codon ≤ size) }
     ensures { (old new : List ℕ) → Shared prefix suffix size made old new → left_of result ≡ moved_one prefix first old new x }
 {
     let at = first + 3 * (x.codon as usize - 1);
     if at + 3 <= prefix {
-        return Moved::To(x);
+        return Some(x);
     }
     if at < size - suffix {
-        return Moved::Dropped;
+        return None;
     }
     let to = at + made - size;
     if to % 3 != first % 3 {
-        return Moved::Dropped;
+        return None;
     }
-    Moved::To(Exception {
+    Some(Exception {
         codon: ((to - first) / 3 + 1) as u32,
         residue: x.residue,
     })
@@ -64,23 +57,16 @@ pub fn moved_all(
     ensures by_index { (old new : List ℕ) → Shared prefix suffix size made old new → exception_list result ≡ moved_all prefix first old new (exception_list e) }
     ensures few { result.count ≤ 16 }
 {
-    let given = e.all;
-    let count = e.count;
+    let given = &e.all[..e.count];
     let mut all = e.all;
-    let mut n = 0;
-    let mut i = 0;
-    while i < count {
-        let x = given[i];
-        match moved_one(x, first, prefix, suffix, size, made) {
-            Moved::To(y) => {
-                all[n] = y;
-                n += 1;
-            }
-            Moved::Dropped => {}
+    let mut count = 0;
+    for x in given {
+        if let Some(y) = moved_one(*x, first, prefix, suffix, size, made) {
+            all[count] = y;
+            count += 1;
         }
-        i += 1;
     }
-    Exceptions { all, count: n }
+    Exceptions { all, count }
 }
 
 // The exceptions of the transcript `new` that an edit makes of `old`, whose CDS begins at index `first`.

@@ -5,10 +5,10 @@ ghost use Rattle.std.specs.Prelude.{◌≡◌, false, ◌+◌, ◌<◌};
 ghost use Rattle.rules.specs.Position.{place, is_outside, index, is_before, is_behind, counted};
 ghost use Rattle.reference.specs.Bounds.{Bounded};
 
-use numbers::least;
 use rules::{Cds, Position};
 
 // 0; past the CDS; before base 1 of the transcript; star 0 or above 65,535.
+#[tactic(auto, unfolding(rules::specs::Position::is_outside))]
 pub fn is_outside(p: Position, c: Cds) -> bool
     requires { Bounded c }
     ensures { result ≡ is_outside c.cs c.ce p }
@@ -21,6 +21,7 @@ pub fn is_outside(p: Position, c: Cds) -> bool
 }
 
 // The place, counted from 0.
+#[tactic(auto, unfolding(rules::specs::Position::place, rules::specs::Position::is_outside))]
 pub fn place_of(p: Position, c: Cds) -> usize
     requires bounded { Bounded c }
     requires p_value { is_outside c.cs c.ce p ≡ false }
@@ -35,6 +36,7 @@ pub fn place_of(p: Position, c: Cds) -> usize
 }
 
 // The index used in editing.
+#[tactic(auto, unfolding(rules::specs::Position::index, rules::specs::Position::is_outside))]
 pub fn index_of(p: Position, c: Cds, len: usize) -> usize
     requires bounded { Bounded c }
     requires p_value { is_outside c.cs c.ce p ≡ false }
@@ -43,31 +45,26 @@ pub fn index_of(p: Position, c: Cds, len: usize) -> usize
     match p {
         Position::Plus(n) => c.cs + n - 2,
         Position::Minus(_) => c.cs - 1,
-        Position::Star(q) => least(c.ce + q - 1, len),
+        Position::Star(q) => (c.ce + q - 1).min(len),
     }
 }
 
+#[tactic(auto, unfolding(rules::specs::Position::is_before))]
 pub fn is_before(p: Position) -> bool
     ensures { result ≡ is_before p }
 {
-    match p {
-        Position::Plus(_) => false,
-        Position::Minus(_) => true,
-        Position::Star(_) => false,
-    }
+    matches!(p, Position::Minus(_))
 }
 
+#[tactic(auto, unfolding(rules::specs::Position::is_behind))]
 pub fn is_behind(p: Position) -> bool
     ensures { result ≡ is_behind p }
 {
-    match p {
-        Position::Plus(_) => false,
-        Position::Minus(_) => false,
-        Position::Star(_) => true,
-    }
+    matches!(p, Position::Star(_))
 }
 
 // The number that a silent record counts from.
+#[tactic(auto, unfolding(rules::specs::Position::counted))]
 pub fn counted_of(p: Position) -> usize
     ensures { result ≡ counted p }
 {

@@ -5,6 +5,7 @@ ghost use Rattle.std.specs.Prelude.{◌≡◌, ◌<◌, ltb};
 ghost use Rattle.rules.specs.Bytes.{byte, all, count};
 ghost use Rattle.rules.specs.Reference.{reference_protein};
 ghost use Rattle.rules.specs.Packed.{letters_by};
+ghost use Rattle.rules.specs.Refusals.{told};
 ghost use Rattle.rules.specs.Views.{reference_of};
 ghost use Rattle.rules.proofs.Reference.{ReferenceProtein};
 ghost use Rattle.letters.specs.Sets.{is_base};
@@ -12,8 +13,8 @@ ghost use Rattle.reference.specs.Known.{checked_of, Readable};
 
 use numbers::thirds;
 use packed::first_stop_by;
-use reference::{Checked, Judged, Known, judge_reference};
-use rules::{Cds, Exceptions, Form};
+use reference::{Known, judge_reference};
+use rules::{Cds, Exceptions, Form, Refusal};
 
 // Whether R has more than one `*`, of a reference that isn't refused: the first isn't the last codon.
 fn stops_early(letters: &[u8], form: Form, c: Cds, e: Exceptions, plain: bool) -> bool
@@ -38,21 +39,16 @@ pub fn know_reference(
     cds: Cds,
     e: Exceptions,
     longest: usize,
-) -> Checked
+) -> Result<Known, Refusal>
     requires { longest < 4294967296 }
-    ensures { result ≡ checked_of longest form (letters_by form letters.now) cds e }
+    ensures { told result ≡ checked_of longest form (letters_by form letters.now) cds e }
 {
-    match judge_reference(letters, form, cds, e, longest) {
-        Judged::Refused(n) => Checked::Refused(n),
-        Judged::Clear { plain } => {
-            let several = stops_early(letters, form, cds, e, plain);
-            Checked::Known(Known {
-                form,
-                cds,
-                residues: thirds(cds.ce - (cds.cs - 1)),
-                plain,
-                several,
-            })
-        }
-    }
+    let plain = judge_reference(letters, form, cds, e, longest)?;
+    Ok(Known {
+        form,
+        cds,
+        residues: thirds(cds.ce - (cds.cs - 1)),
+        plain,
+        several: stops_early(letters, form, cds, e, plain),
+    })
 }

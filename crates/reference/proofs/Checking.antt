@@ -10,7 +10,7 @@ use Rattle.rules.specs.declared.Form.TheVariants.{Bytes}
 use Rattle.rules.specs.declared.Cds.{Cds}
 use Rattle.rules.specs.declared.Exceptions.{Exceptions}
 use Rattle.rules.specs.declared.Limits.{Limits}
-use Rattle.rules.specs.Bytes.{over}
+use Rattle.rules.specs.Bytes.{given, refused, unless, over}
 use Rattle.rules.specs.Reference.{size, cds_size, reference_protein}
 use Rattle.rules.specs.Refusal.{reference_refusal}
 use Rattle.rules.specs.Views.{bare, reference_of}
@@ -18,21 +18,16 @@ use Rattle.rules.proofs.Over.{fits_over, read_back}
 use Rattle.rules.proofs.Reference.{accepted, protein_read}
 use Rattle.rules.proofs.Altered.{longest_altered}
 use Rattle.reference.specs.declared.Known.{Known}
-use Rattle.reference.specs.declared.Checked.{Checked}
-use Rattle.reference.specs.declared.Checked.TheVariants as checked
 use Rattle.reference.specs.Bounds.{Bounded, Sound}
-use Rattle.reference.specs.Known.{protein_unless, known_of, checked_by, checked_of, Checks, Knows}
+use Rattle.reference.proofs.Judging.{was-refused, was-given, refused_some}
+use Rattle.reference.specs.Known.{protein_unless, known_of, checked_of, Checks, Knows}
 
 -- what the check answers and writes, by its refusal
 module _ (longest : ℕ) (f : Form) (s : List ℕ) (c : Cds) (e : Exceptions) where
   module _ (n : ℕ) (is : reference_refusal longest (reference_of s c e) ≡ n) (some : n ≡ 0 → ⊥) where
-    pub check-refused : checked.Refused n ≡ checked_of longest f s c e
-    unfolding checked_of checked_by
-    check-refused = rw is (by n some)
-      where
-        by : (n : ℕ) → (n ≡ 0 → ⊥) → checked.Refused n ≡ checked_by n (known_of f s c e)
-        by zero h = absurd (h refl)
-        by (suc n) h = refl
+    pub check-refused : refused n ≡ checked_of longest f s c e
+    unfolding checked_of
+    check-refused = rw is (refused_some n (known_of f s c e) some)
 
     pub nothing_read : (old : List ℕ) → old ≡ over (protein_unless (reference_refusal longest (reference_of s c e)) (reference_of s c e)) old
     unfolding protein_unless over
@@ -43,8 +38,8 @@ module _ (longest : ℕ) (f : Form) (s : List ℕ) (c : Cds) (e : Exceptions) wh
         by (suc n) h = refl
 
   module _ (none : reference_refusal longest (reference_of s c e) ≡ 0) where
-    pub check-known : (k : Known) → k ≡ known_of f s c e → checked.Known k ≡ checked_of longest f s c e
-    unfolding checked_of checked_by
+    pub check-known : (k : Known) → k ≡ known_of f s c e → given k ≡ checked_of longest f s c e
+    unfolding checked_of unless
     check-known k h = rw (none, h)
 
     pub all_read : (old : List ℕ) → over (reference_protein (reference_of s c e)) old ≡ over (protein_unless (reference_refusal longest (reference_of s c e)) (reference_of s c e)) old
@@ -52,22 +47,14 @@ module _ (longest : ℕ) (f : Form) (s : List ℕ) (c : Cds) (e : Exceptions) wh
     all_read old = rw none
 
 -- what the whole check answers
-module _ (longest : ℕ) (f : Form) (s : List ℕ) (c : Cds) (e : Exceptions) (x : Checked) (is : x ≡ checked_of longest f s c e) where
-  pub checked_refused : (n : ℕ) → x ≡ checked.Refused n → (reference_refusal longest (reference_of s c e) ≡ n) × (n ≡ 0 → ⊥)
-  unfolding checked_of checked_by
-  checked_refused n h = by (reference_refusal longest (reference_of s c e)) (sym is ∙ h)
-    where
-      by : (m : ℕ) → checked_by m (known_of f s c e) ≡ checked.Refused n → (m ≡ n) × (n ≡ 0 → ⊥)
-      by zero h = let z : ◌≡◌ {A = ℕ} 0 1 = cc in absurd (omega arith)
-      by (suc m) h = let some : suc m ≡ n = cc in (some, λ z. omega arith)
+module _ (longest : ℕ) (f : Form) (s : List ℕ) (c : Cds) (e : Exceptions) where
+  pub checked_refused : (n : ℕ) → refused n ≡ checked_of longest f s c e → (reference_refusal longest (reference_of s c e) ≡ n) × (n ≡ 0 → ⊥)
+  unfolding checked_of
+  checked_refused n h = was-refused (reference_refusal longest (reference_of s c e)) n (known_of f s c e) h
 
-  pub checked-accepted : (k : Known) → x ≡ checked.Known k → (reference_refusal longest (reference_of s c e) ≡ 0) × (k ≡ known_of f s c e)
-  unfolding checked_of checked_by
-  checked-accepted k h = by (reference_refusal longest (reference_of s c e)) (sym is ∙ h)
-    where
-      by : (m : ℕ) → checked_by m (known_of f s c e) ≡ checked.Known k → (m ≡ 0) × (k ≡ known_of f s c e)
-      by zero h = (refl, cc)
-      by (suc m) h = let z : ◌≡◌ {A = ℕ} 0 1 = cc in absurd (omega arith)
+  pub checked-accepted : (k : Known) → given k ≡ checked_of longest f s c e → (reference_refusal longest (reference_of s c e) ≡ 0) × (k ≡ known_of f s c e)
+  unfolding checked_of
+  checked-accepted k h = was-given (reference_refusal longest (reference_of s c e)) (known_of f s c e) k h
 
 -- R is in the buffer where the check accepts
 pub protein_held : (longest : ℕ) (s : List ℕ) (c : Cds) (e : Exceptions) (old out : List ℕ) → reference_refusal longest (reference_of s c e) ≡ 0

@@ -1,51 +1,104 @@
 -- Laws of what the tests leave: a refusal, or a reference that can be read; and 6 or 28, where none of 1 to 5 applies.
 -- Assumes nothing.
+use Rattle.std.specs.Prelude.{Result as Returned}
+use Rattle.std.specs.Result.{IsErrAnd}
+use Rattle.std.proofs.lemmas.Result.{err_from_is_err_and}
 use mathlib.Core.Path.{◌≡◌, refl, sym, ap, ◌∙◌}
-use mathlib.Core.Bool.{Bool, not}
+use mathlib.Core.Bool.{Bool, true, not}
 use mathlib.Core.List.{List}
 use Prim.Native.Nat.{ℕ, zero, suc, ◌≤◌, ◌<◌}
 use native.Mathlib.Omega.{arith}
-use lib.Dec.{leb}
+use lib.Dec.{leb, ltb}
 use lib.ListN.{length, take, drop, take-append-drop}
-use borrow.Author.Tests.{leb-true, not-false}
+use borrow.Author.Tests.{leb-true, ltb-true, not-false}
 use Rattle.rules.specs.declared.Cds.{Cds}
 use Rattle.rules.specs.declared.Exceptions.{Exceptions}
-use Rattle.rules.specs.Bytes.{all, first_number}
+use Rattle.rules.specs.Bytes.{all, first_number, given, refused, unless}
 use Rattle.rules.specs.Letters.{is_letter}
 use Rattle.rules.specs.Codons.{is_table}
 use Rattle.rules.specs.Translation.{residue_count}
 use Rattle.rules.specs.Reference.{size, is_size, cds_size, are_bounds, fit_exceptions, reference_tests}
 use Rattle.rules.specs.Refusal.{reference_refusal}
+use Rattle.rules.specs.Refusals.{refusal_number, refusal_of, told}
+use Rattle.rules.specs.declared.Refusal.{Refusal}
+use Rattle.rules.specs.declared.Refusal.TheVariants as refusal
 use Rattle.rules.specs.Views.{bare, reference_of}
 use Rattle.rules.proofs.Tests.{and_right, first_clear, first_behind, first_before}
 use Rattle.rules.proofs.Reference.{bounds_of}
 use Rattle.letters.specs.Sets.{is_base}
-use Rattle.reference.specs.declared.Judged.{Judged}
-use Rattle.reference.specs.declared.Judged.TheVariants.{Refused, Clear}
-use Rattle.reference.specs.Known.{early_refusal, end_refusal, judged_by, judged_of, HasRoom, Readable}
+use Rattle.reference.specs.Known.{early_refusal, end_refusal, judged_of, HasRoom, Readable}
 
--- what the enum tells
-module _ (n : ℕ) (plain : Bool) (x : Judged) (is : x ≡ judged_by n plain) where
-  pub was-refused : (m : ℕ) → x ≡ Refused m → (n ≡ m) × (m ≡ 0 → ⊥)
-  unfolding judged_by
-  was-refused m h = by n (sym is ∙ h)
-    where
-      by : (n : ℕ) → judged_by n plain ≡ Refused m → (n ≡ m) × (m ≡ 0 → ⊥)
-      by zero q = let z : ◌≡◌ {A = ℕ} 0 1 = cc in absurd (omega arith)
-      by (suc n) q = let same : suc n ≡ m = cc in (same, λ z. omega arith)
+-- no refusal has the number 0
+numbered : (r : Refusal) → ltb 0 (refusal_number r) ≡ true
+numbered refusal.Length = refl
+numbered refusal.Letter = refl
+numbered refusal.Bounds = refl
+numbered refusal.Table = refl
+numbered refusal.Exceptions = refl
+numbered refusal.LastCodon = refl
+numbered refusal.Position = refl
+numbered refusal.Order = refl
+numbered refusal.OutOfCds = refl
+numbered refusal.Bases = refl
+numbered refusal.TranscriptRoom = refl
+numbered refusal.ProteinRoom = refl
+numbered refusal.Codon = refl
+numbered refusal.Output = refl
+numbered refusal.Cut = refl
+numbered refusal.Tag = refl
+numbered refusal.Missing = refl
+numbered refusal.Field = refl
+numbered refusal.StoredRoom = refl
+numbered refusal.Parts = refl
+numbered refusal.NotChanged = refl
+numbered refusal.Proposal = refl
+numbered refusal.End = refl
+numbered refusal.JoinedRoom = refl
+numbered refusal.Line = refl
+numbered refusal.ProfileLetter = refl
+numbered refusal.ProfileEdit = refl
+numbered refusal.ProfileFrame = refl
+numbered refusal.NamedBase = refl
+numbered refusal.List = refl
+numbered refusal.Touching = refl
+numbered refusal.PairUnknown = refl
+numbered refusal.PairStop = refl
+numbered refusal.Version = refl
+numbered refusal.SettingsField = refl
+numbered refusal.Setting = refl
+numbered refusal.SettingsRoom = refl
 
-  pub was-clear : (p : Bool) → x ≡ Clear p → (n ≡ 0) × (p ≡ plain)
-  unfolding judged_by
-  was-clear p h = by n (sym is ∙ h)
-    where
-      by : (n : ℕ) → judged_by n plain ≡ Clear p → (n ≡ 0) × (p ≡ plain)
-      by zero q = (refl, cc)
-      by (suc n) q = let z : ◌≡◌ {A = ℕ} 0 1 = cc in absurd (omega arith)
+pub number_some : (r : Refusal) → refusal_number r ≡ 0 → ⊥
+number_some r h = omega (arith, ltb-true 0 (refusal_number r) (numbered r))
 
-judged_some : (n : ℕ) (plain : Bool) → (n ≡ 0 → ⊥) → Refused n ≡ judged_by n plain
-unfolding judged_by
-judged_some zero plain h = absurd (h refl)
-judged_some (suc n) plain h = refl
+-- the exit of a `?`
+module _ {A : Type 0} (x : Returned A Refusal) (r : Refusal) (h : IsErrAnd x (λ y. y ≡ r)) where
+  pub exit-told : told x ≡ refused (refusal_number r)
+  exit-told = let p = err_from_is_err_and x h in rw (p.1, p.2)
+
+  pub exit_refusal : refusal_of x ≡ refusal_number r
+  exit_refusal = let p = err_from_is_err_and x h in rw (p.1, p.2)
+
+-- a value, unless a number refuses it
+module _ {A : Type 0} where
+  pub was-refused : (n m : ℕ) (a : A) → refused m ≡ unless n a → (n ≡ m) × (m ≡ 0 → ⊥)
+  unfolding unless
+  was-refused zero m a h = let z : ◌≡◌ {A = ℕ} 0 1 = cc in absurd (omega arith)
+  was-refused (suc n) m a h = let same : suc n ≡ m = cc in (same, λ z. omega arith)
+
+  pub was-given : (n : ℕ) (a x : A) → given x ≡ unless n a → (n ≡ 0) × (x ≡ a)
+  unfolding unless
+  was-given zero a x h = (refl, cc)
+  was-given (suc n) a x h = let z : ◌≡◌ {A = ℕ} 0 1 = cc in absurd (omega arith)
+
+  pub refused_some : (n : ℕ) (a : A) → (n ≡ 0 → ⊥) → refused n ≡ unless n a
+  unfolding unless
+  refused_some zero a h = absurd (h refl)
+  refused_some (suc n) a h = refl
+
+  -- the number of a call's refusal
+  pub told-refused : (r : Refusal) (n : ℕ) (a : A) → refusal_number r ≡ n → refused (refusal_number r) ≡ unless n a
+  told-refused r n a is = rw is (refused_some n a (λ z. number_some r (is ∙ z)))
 
 module _ (longest : ℕ) (s : List ℕ) (c : Cds) (e : Exceptions) where
   -- what 1 to 5 leave
@@ -93,23 +146,23 @@ module _ (longest : ℕ) (s : List ℕ) (c : Cds) (e : Exceptions) where
       ap first_number (sym (take-append-drop 5 tests)) ∙ first_behind (take 5 tests) (drop 5 tests) refl h
 
   -- one of 1 to 5 applies
-  pub judged-early : (n : ℕ) → early_refusal longest (reference_of s c e) ≡ n → (n ≡ 0 → ⊥) → Refused n ≡ judged_of longest s c e
-  unfolding judged_of
-  judged-early n is some = by n is some
+  pub judged-early : (r : Refusal) → early_refusal longest (reference_of s c e) ≡ refusal_number r → refused (refusal_number r) ≡ judged_of longest s c e
+  unfolding judged_of unless
+  judged-early r is = by (refusal_number r) is (told-refused r (refusal_number r) (all is_base s) refl)
     where
-      by : (n : ℕ) → early_refusal longest (reference_of s c e) ≡ n → (n ≡ 0 → ⊥) → Refused n ≡ judged_by (reference_refusal longest (reference_of s c e)) (all is_base s)
-      by zero is some = absurd (some refl)
-      by (suc n) is some = rw (early-refused n is) (judged_some (suc n) (all is_base s) some)
+      by : (n : ℕ) → early_refusal longest (reference_of s c e) ≡ n → refused n ≡ unless n (all is_base s) → refused n ≡ unless (reference_refusal longest (reference_of s c e)) (all is_base s)
+      by zero is some = let z : ◌≡◌ {A = ℕ} 0 1 = cc in absurd (omega arith)
+      by (suc n) is some = rw (early-refused n is)
 
   -- none does
-  module _ (none : early_refusal longest (reference_of s c e) ≡ 0) (n : ℕ) (is : n ≡ end_refusal (reference_of s c e)) where
-    pub judged-clear : (plain : Bool) → plain ≡ all is_base s → n ≡ 0 → Clear plain ≡ judged_of longest s c e
-    unfolding judged_of judged_by
-    judged-clear plain p h = rw (early-passed none, sym is ∙ h, p)
+  module _ (none : early_refusal longest (reference_of s c e) ≡ 0) where
+    pub judged-clear : (plain : Bool) → plain ≡ all is_base s → 0 ≡ end_refusal (reference_of s c e) → given plain ≡ judged_of longest s c e
+    unfolding judged_of unless
+    judged-clear plain p is = rw (early-passed none, ← is, p)
 
-    pub judged-late : (n ≡ 0 → ⊥) → Refused n ≡ judged_of longest s c e
+    pub judged-late : (r : Refusal) → refusal_number r ≡ end_refusal (reference_of s c e) → refused (refusal_number r) ≡ judged_of longest s c e
     unfolding judged_of
-    judged-late some = rw (early-passed none, ← is) (judged_some n (all is_base s) some)
+    judged-late r is = rw (early-passed none) (told-refused r (end_refusal (reference_of s c e)) (all is_base s) is)
 
   -- a reference that isn't refused passes 1 to 5
   pub accepted-early : reference_refusal longest (reference_of s c e) ≡ 0 → early_refusal longest (reference_of s c e) ≡ 0

@@ -1,15 +1,17 @@
 -- Laws of counting a byte in a list, over a loop and over blocks.
 -- Assumes nothing.
 use Rattle.std.specs.Prelude.{if◌then◌else◌}
-use mathlib.Core.Path.{◌≡◌, sym, ap, ◌∙◌}
+use Rattle.std.specs.Int.{from_bool}
+use mathlib.Core.Path.{◌≡◌, refl, sym}
 use mathlib.Core.Bool.{Bool, true, false}
 use mathlib.Core.List.{List, [], ◌∷◌, ◌++◌}
-use Prim.Native.Nat.{ℕ, suc, ◌+◌, ◌-◌, ◌≤◌, ◌<◌, zero-le}
+use Prim.Native.Nat.{ℕ, suc, ◌+◌, ◌≤◌, ◌<◌, zero-le}
 use native.Mathlib.Numerals.{add-one}
 use native.Mathlib.Omega.{arith}
+use borrow.Author.Tests.{eqb-true, eqb-false, eq-eqb, ne_eqb}
 use lib.Dec.{eqb}
-use lib.ListN.{length, take, drop, get_or, take-append-drop, drop_of_length-le}
-use lib.Seq.{drop-cons, drop-drop}
+use lib.ListN.{length, drop, get_or, drop_of_length-le}
+use lib.Seq.{drop-cons}
 use Rattle.rules.specs.Bytes.{count}
 
 pub count-append : (x : ℕ) (s t : List ℕ) → count x (s ++ t) ≡ count x s + count x t
@@ -31,16 +33,19 @@ count_le x (y ∷ s) = at (eqb x y) (count_le x s)
     at true h = omega arith
     at false h = omega arith
 
+-- one byte, by the code's test
+pub counted : (x y : ℕ) → from_bool (eqb y x) ≡ count x (y ∷ [])
+unfolding count
+counted x y = by (eqb y x) refl
+  where
+    by : (t : Bool) → eqb y x ≡ t → from_bool t ≡ (if eqb x y then 1 else 0)
+    by true h = rw (eq-eqb x y (sym (eqb-true y x h)))
+    by false h = rw (ne_eqb x y (λ z. eqb-false y x h (sym z)))
+
 -- what is passed and what is left make the whole
 module _ (x : ℕ) (s : List ℕ) (i : ℕ) where
   pub count_turn : i < length s → count x (get_or s i 0 ∷ []) + count x (drop (i + 1) s) ≡ count x (drop i s)
   count_turn h = rw (add-one, drop-cons s i 0 h) (sym (count-append x (get_or s i 0 ∷ []) (drop (suc i) s)))
-
-  pub count-block : (end : ℕ) → i ≤ end → count x (take (end - i) (drop i s)) + count x (drop end s) ≡ count x (drop i s)
-  count-block end h =
-      let sum : i + (end - i) ≡ end = omega arith in
-      let past : drop (end - i) (drop i s) ≡ drop end s = drop-drop (end - i) i s ∙ ap (λ (n : ℕ). drop n s) sum in
-      rw (← past) (sym (count-append x (take (end - i) (drop i s)) (drop (end - i) (drop i s))) ∙ ap (count x) (take-append-drop (end - i) (drop i s)))
 
   pub count-done : length s ≤ i → count x (drop i s) ≡ 0
   unfolding count

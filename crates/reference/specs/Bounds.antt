@@ -1,5 +1,5 @@
 -- What the bounds of a reference leave, and all of 1 to 4.
-use Rattle.std.specs.Prelude.{ℕ, ◌<◌, ◌≤◌, ◌≡◌, true}
+use Rattle.std.specs.Prelude.{◌<◌, ◌≤◌, ◌≡◌, true}
 use Rattle.rules.specs.declared.Cds.{Cds}
 use Rattle.rules.specs.Bytes.{all}
 use Rattle.rules.specs.Letters.{is_letter}

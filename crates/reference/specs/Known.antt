@@ -4,17 +4,13 @@ use Rattle.rules.specs.declared.Form.{Form}
 use Rattle.rules.specs.declared.Cds.{Cds}
 use Rattle.rules.specs.declared.Exceptions.{Exceptions}
 use Rattle.rules.specs.declared.Limits.{Limits}
-use Rattle.rules.specs.Bytes.{byte, all, count, first_number}
+use Rattle.rules.specs.Bytes.{byte, all, count, first_number, Result, unless}
 use Rattle.rules.specs.Translation.{residue_count}
 use Rattle.rules.specs.Reference.{Reference, cds_size, fit_exceptions, reference_protein, reference_tests}
 use Rattle.rules.specs.Refusal.{reference_refusal}
 use Rattle.rules.specs.Views.{bare, reference_of}
 use Rattle.letters.specs.Sets.{is_base}
 use Rattle.reference.specs.declared.Known.{Known}
-use Rattle.reference.specs.declared.Judged.{Judged}
-use Rattle.reference.specs.declared.Judged.TheVariants as judged
-use Rattle.reference.specs.declared.Checked.{Checked}
-use Rattle.reference.specs.declared.Checked.TheVariants as checked
 use Rattle.reference.specs.Bounds.{Sound}
 
 -- 1 to 5, for which no codon is read, and 0 where none applies
@@ -25,18 +21,13 @@ early_refusal longest r = first_number (take 5 (reference_tests longest r))
 unfoldable pub end_refusal : Reference → ℕ
 end_refusal r = first_number (drop 5 (reference_tests 0 r))
 
--- a refusal, or whether each letter is one base
-unfoldable pub judged_by : ℕ → Bool → Judged
-judged_by zero plain = judged.Clear plain
-judged_by (suc n) plain = judged.Refused (suc n)
+-- 1 to 5, else whether each letter is one base
+unfoldable pub early_of : ℕ → List ℕ → Cds → Exceptions → Result Bool
+early_of longest s c e = unless (early_refusal longest (reference_of s c e)) (all is_base s)
 
--- by 1 to 5
-unfoldable pub early_of : ℕ → List ℕ → Cds → Exceptions → Judged
-early_of longest s c e = judged_by (early_refusal longest (reference_of s c e)) (all is_base s)
-
--- by 1 to 5, 6 or 28
-unfoldable pub judged_of : ℕ → List ℕ → Cds → Exceptions → Judged
-judged_of longest s c e = judged_by (reference_refusal longest (reference_of s c e)) (all is_base s)
+-- 1 to 5, 6 or 28, else the same
+unfoldable pub judged_of : ℕ → List ℕ → Cds → Exceptions → Result Bool
+judged_of longest s c e = unless (reference_refusal longest (reference_of s c e)) (all is_base s)
 
 -- what the check writes: R, unless the reference is refused
 unfoldable pub protein_unless : ℕ → Reference → List ℕ
@@ -55,13 +46,9 @@ known_of f s c e =
       several = ltb 1 (count (byte "*") (reference_protein (reference_of s c e)));
     }
 
-unfoldable pub checked_by : ℕ → Known → Checked
-checked_by zero k = checked.Known k
-checked_by (suc n) k = checked.Refused (suc n)
-
 -- 1 to 5, 6 or 28, else what is known from then on
-unfoldable pub checked_of : ℕ → Form → List ℕ → Cds → Exceptions → Checked
-checked_of longest f s c e = checked_by (reference_refusal longest (reference_of s c e)) (known_of f s c e)
+unfoldable pub checked_of : ℕ → Form → List ℕ → Cds → Exceptions → Result Known
+checked_of longest f s c e = unless (reference_refusal longest (reference_of s c e)) (known_of f s c e)
 
 -- room for R of letters that 1 takes
 abbrev pub HasRoom : ℕ → List ℕ → ℕ → Type 0

@@ -9,12 +9,13 @@ ghost use Rattle.std.specs.Prelude.{◌≡◌, ◌<◌, length};
 ghost use Rattle.rules.specs.Bytes.{over};
 ghost use Rattle.rules.specs.Refusal.{reference_refusal};
 ghost use Rattle.rules.specs.Packed.{letters_by};
+ghost use Rattle.rules.specs.Refusals.{told};
 ghost use Rattle.rules.specs.Views.{reference_of};
 ghost use Rattle.reference.specs.Known.{HasRoom, protein_unless, checked_of};
 
 pub use bounds::{are_bounds, fit_exceptions};
 use protein::read_reference;
-use rules::{Cds, Exceptions, Form};
+use rules::{Cds, Exceptions, Form, Refusal};
 pub use stop::{is_short_end, judge_reference};
 
 // What is known of a reference that isn't refused; its letters, in their form, its exceptions and R are lent beside it. `residues` is R's length. The letters
@@ -28,19 +29,6 @@ pub struct Known {
     pub several: bool,
 }
 
-// What the tests leave: a refusal, or whether the letters are plain.
-#[derive(Clone, Copy)]
-pub enum Judged {
-    Refused(usize),
-    Clear { plain: bool },
-}
-
-#[derive(Clone, Copy)]
-pub enum Checked {
-    Refused(usize),
-    Known(Known),
-}
-
 // 1 to 5, 6 or 28, or what is known of the reference from then on. R is in the buffer unless the reference is refused.
 pub fn check_reference(
     letters: &[u8],
@@ -49,16 +37,12 @@ pub fn check_reference(
     e: Exceptions,
     longest: usize,
     protein: &mut [u8],
-) -> Checked
+) -> Result<Known, Refusal>
     requires longest_bound { longest < 4294967296 }
     requires has_room { HasRoom longest (letters_by form letters.now) (length protein.old) }
-    ensures value { result ≡ checked_of longest form (letters_by form letters.now) cds e }
+    ensures value { told result ≡ checked_of longest form (letters_by form letters.now) cds e }
     ensures protein_after { protein.new ≡ over (protein_unless (reference_refusal longest (reference_of (letters_by form letters.now) cds e)) (reference_of (letters_by form letters.now) cds e)) protein.old }
 {
-    match judge_reference(letters, form, cds, e, longest) {
-        Judged::Refused(n) => Checked::Refused(n),
-        Judged::Clear { plain } => {
-            Checked::Known(read_reference(letters, form, cds, e, plain, protein))
-        }
-    }
+    let plain = judge_reference(letters, form, cds, e, longest)?;
+    Ok(read_reference(letters, form, cds, e, plain, protein))
 }

@@ -1,5 +1,5 @@
 // The reference protein R, and how many stops it has.
-ghost use Rattle.std.specs.Prelude.{◌≡◌, [], ◌∷◌, ◌≤◌, ltb, length};
+ghost use Rattle.std.specs.Prelude.{◌≡◌, ◌≤◌, ltb, length};
 ghost use Rattle.rules.specs.Bytes.{byte, all, count, over};
 ghost use Rattle.rules.specs.Translation.{residue_count};
 ghost use Rattle.rules.specs.Reference.{cds_size, reference_protein};
@@ -9,17 +9,9 @@ ghost use Rattle.letters.specs.Sets.{is_base};
 ghost use Rattle.reference.specs.Known.{known_of, Readable};
 
 use crate::Known;
-use numbers::{least, thirds, wide};
+use numbers::thirds;
 use packed::write_residues;
 use rules::{Cds, Exceptions, Form};
-
-// 1 for a stop, else 0.
-fn stop_count(residue: u8) -> u8
-    ensures value { result ≡ count (byte "*") (residue ∷ []) }
-    ensures small { result ≤ 1 }
-{
-    if residue == b'*' { 1 } else { 0 }
-}
 
 // The stops of a block, in bytes, so that the loop goes many residues at a time.
 fn block_stops(s: &[u8]) -> u8
@@ -27,10 +19,8 @@ fn block_stops(s: &[u8]) -> u8
     ensures { result ≡ count (byte "*") s.now }
 {
     let mut stops = 0;
-    let mut i = 0;
-    while i < s.len() {
-        stops = stops + stop_count(s[i]);
-        i += 1;
+    for residue in s {
+        stops += u8::from(*residue == b'*');
     }
     stops
 }
@@ -40,11 +30,8 @@ fn several_stops(protein: &[u8]) -> bool
     ensures { result ≡ ltb 1 (count (byte "*") protein.now) }
 {
     let mut stops = 0;
-    let mut i = 0;
-    while i < protein.len() {
-        let end = i + least(255, protein.len() - i);
-        stops = stops + wide(block_stops(&protein[i..end]));
-        i = end;
+    for block in protein.chunks(255) {
+        stops += usize::from(block_stops(block));
     }
     1 < stops
 }

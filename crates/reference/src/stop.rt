@@ -3,16 +3,16 @@ ghost use Rattle.std.specs.Prelude.{◌≡◌, ◌<◌};
 ghost use Rattle.rules.specs.Bytes.{all};
 ghost use Rattle.rules.specs.Reference.{at_stop, is_short_end, ends_in_stop, is_cut_short};
 ghost use Rattle.rules.specs.Packed.{letters_by};
+ghost use Rattle.rules.specs.Refusals.{refusal_of, told};
 ghost use Rattle.rules.specs.Views.{reference_of};
 ghost use Rattle.letters.specs.Sets.{is_base};
 ghost use Rattle.reference.specs.Known.{end_refusal, judged_of, Readable};
 
-use crate::Judged;
 use crate::early::early_refusal;
 use codon_reader::read_codon;
 use excepted::excepted_at;
 use packed::{first_stop_by, set_at, size_of};
-use rules::{Cds, Exceptions, Form};
+use rules::{Cds, Exceptions, Form, Refusal};
 
 // Whether the last CDS codon, exceptions applied, reads `*`, where none of 1 to 5 applies and the CDS ends at a stop.
 fn ends_in_stop(letters: &[u8], form: Form, c: Cds, e: Exceptions) -> bool
@@ -29,6 +29,7 @@ fn ends_in_stop(letters: &[u8], form: Form, c: Cds, e: Exceptions) -> bool
 }
 
 // Whether an end is known, and not at a stop.
+#[tactic(auto, unfolding(rules::specs::Reference::is_short_end))]
 pub fn is_short_end(end: usize) -> bool
     ensures { result ≡ is_short_end end }
 {
@@ -49,39 +50,42 @@ fn is_cut_short(letters: &[u8], form: Form, c: Cds, e: Exceptions, plain: bool) 
     first_stop_by(letters, form, first, end, c.table, plain, e) == (end - first) / 3
 }
 
-// 6 for an end at a stop, 28 for another, or 0, where none of 1 to 5 applies.
-fn end_refusal(letters: &[u8], form: Form, c: Cds, e: Exceptions, plain: bool) -> usize
+// 6 for an end at a stop, or 28 for another, where none of 1 to 5 applies.
+fn end_refusal(
+    letters: &[u8],
+    form: Form,
+    c: Cds,
+    e: Exceptions,
+    plain: bool,
+) -> Result<(), Refusal>
     requires readable { Readable (letters_by form letters.now) c e }
     requires plain_value { plain ≡ all is_base (letters_by form letters.now) }
-    ensures { result ≡ end_refusal (reference_of (letters_by form letters.now) c e) }
+    ensures { refusal_of result ≡ end_refusal (reference_of (letters_by form letters.now) c e) }
 {
     if c.end == 0 {
-        return if ends_in_stop(letters, form, c, e) {
-            0
-        } else {
-            6
-        };
+        if ends_in_stop(letters, form, c, e) {
+            return Ok(());
+        }
+        return Err(Refusal::LastCodon);
     }
     if is_cut_short(letters, form, c, e, plain) {
-        0
-    } else {
-        28
+        return Ok(());
     }
+    Err(Refusal::End)
 }
 
 // The first of 1 to 5, 6 or 28 that applies, or whether the letters are plain.
-pub fn judge_reference(letters: &[u8], form: Form, c: Cds, e: Exceptions, longest: usize) -> Judged
+pub fn judge_reference(
+    letters: &[u8],
+    form: Form,
+    c: Cds,
+    e: Exceptions,
+    longest: usize,
+) -> Result<bool, Refusal>
     requires { longest < 4294967296 }
-    ensures { result ≡ judged_of longest (letters_by form letters.now) c e }
+    ensures { told result ≡ judged_of longest (letters_by form letters.now) c e }
 {
-    match early_refusal(letters, form, c, e, longest) {
-        Judged::Refused(n) => Judged::Refused(n),
-        Judged::Clear { plain } => {
-            let refused = end_refusal(letters, form, c, e, plain);
-            if refused != 0 {
-                return Judged::Refused(refused);
-            }
-            Judged::Clear { plain }
-        }
-    }
+    let plain = early_refusal(letters, form, c, e, longest)?;
+    end_refusal(letters, form, c, e, plain)?;
+    Ok(plain)
 }

@@ -7,7 +7,7 @@ ghost use Rattle.rules.specs.Record.{within, silent_within};
 ghost use Rattle.reference.specs.Bounds.{Bounded};
 
 use indexes::{counted_of, index_of};
-use numbers::{least, thirds};
+use numbers::thirds;
 use positions::refusals::is_duplication;
 use rules::{Cds, Edit};
 
@@ -19,46 +19,35 @@ pub struct Range {
 }
 
 // Brought into 1..n.
+#[tactic(auto, unfolding(rules::specs::Record::within))]
 fn within(n: usize, k: usize) -> usize
     ensures { result ≡ within n k }
 {
-    let low = least(k, n);
-    if low == 0 {
-        return 1;
-    }
-    low
+    k.min(n).max(1)
 }
 
 // The number of a silent record where R has `len` residues.
+#[tactic(auto, unfolding(rules::specs::Record::silent_within))]
 pub fn silent_number(len: usize, edit: Edit) -> usize
     ensures { result ≡ silent_within len edit }
 {
-    let kind = edit.kind;
-    if is_duplication(kind) {
-        let end = edit.end;
-        return within(len, counted_of(end) / 3 + 1);
+    if is_duplication(edit.kind) {
+        return within(len, counted_of(edit.end) / 3 + 1);
     }
-    let start = edit.start;
-    within(len, thirds(counted_of(start)))
+    within(len, thirds(counted_of(edit.start)))
 }
 
 // The start index, and the end index plus one, at most L.
+#[tactic(auto, using(indexes::proofs::Inside::index_near))]
 pub fn setup_incorporate(len: usize, c: Cds, edit: Edit) -> Range
     requires bounded { Bounded c }
     requires start_value { is_outside c.cs c.ce edit.start ≡ false }
     requires end_value { is_outside c.cs c.ce edit.end ≡ false }
-    ensures start_value_2 { result.start ≡ index c.cs c.ce len edit.start }
-    ensures end_value_2 { result.end ≡ min (index c.cs c.ce len edit.end + 1) len }
+    ensures start_index { result.start ≡ index c.cs c.ce len edit.start }
+    ensures end_index { result.end ≡ min (index c.cs c.ce len edit.end + 1) len }
 {
-    let first = edit.start;
-    let end = edit.end;
-    let start = index_of(first, c, len);
-    let last = index_of(end, c, len);
-    if last < len {
-        return Range {
-            start,
-            end: last + 1,
-        };
+    Range {
+        start: index_of(edit.start, c, len),
+        end: (index_of(edit.end, c, len) + 1).min(len),
     }
-    Range { start, end: len }
 }

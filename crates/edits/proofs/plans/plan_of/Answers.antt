@@ -6,14 +6,30 @@ use Rattle.rules.specs.Reference.{size}
 use Rattle.rules.specs.Position.{index}
 use Rattle.rules.specs.Packed.{letters_by}
 use Rattle.rules.specs.Views.{bare, asked}
+use Rattle.rules.specs.Altered.{is_replacing, is_inserting}
 use Rattle.rules.specs.declared.Edit.{Edit}
+use Rattle.rules.specs.declared.Kind.{Kind}
+use Rattle.rules.specs.declared.Kind.TheVariants.{Substitution, Deletion, Delins, Identity, Other}
 use Rattle.reference.specs.declared.Known.{Known}
 use Rattle.spans.specs.declared.Range.{Range}
+use mathlib.Core.Logic.{◌⊎◌, inl, inr}
+use mathlib.Core.Bool.{true, false, ◌||◌}
 use mathlib.Core.List.{List}
 use lib.ListN.{length}
-use Rattle.edits.specs.Plans.{Planned}
+use Rattle.edits.specs.declared.plans.Source.TheVariants.{Copy}
+use Rattle.edits.specs.Plans.{source_of, Planned}
 use Rattle.edits.proofs.Planning.{Within, ranged, numbered, insertion-swap, duplication-swap}
 use Rattle.edits.proofs.plans.plan_of.Goals as goal
+
+-- the kinds of an arm
+replaces : (k : Kind) → (k ≡ Substitution) ⊎ ((k ≡ Deletion) ⊎ (k ≡ Delins)) → is_replacing k ≡ true
+replaces k (inl e) = rw e
+replaces k (inr (inl e)) = rw e
+replaces k (inr (inr e)) = rw e
+
+copies : (k : Kind) → (k ≡ Identity) ⊎ (k ≡ Other) → ((is_replacing k || is_inserting k) ≡ false) × (source_of k ≡ Copy)
+copies k (inl e) = (rw e, rw e)
+copies k (inr e) = (rw e, rw e)
 
 -- what the calls found, of letters in a form
 module _ (letters : List ℕ) (known : Known) (e : Edit) (new : List ℕ) where
@@ -29,28 +45,14 @@ pub replace-requires : goal.replace-requires
 unfolding size
 replace-requires c =
     let a = c.args in
-    let w = lies a.letters.now a.known a.edit a.new.now _ _ c.requires.planned c.size_of-size.ensures c.setup_incorporate-range.ensures.start_value_2 c.setup_incorporate-range.ensures.end_value_2 in
-    record { in_letters = record { letters = c.requires.checks.sound.letters; rising = omega (arith, w.rising); ends = w.ends }; letters_len_bound = (c.requires.checks.sound.short, c.requires.planned.few) }
-
-pub replace-requires-in-Deletion : goal.replace-requires-in-Deletion
-unfolding size
-replace-requires-in-Deletion c =
-    let a = c.args in
-    let w = lies a.letters.now a.known a.edit a.new.now _ _ c.requires.planned c.size_of-size.ensures c.setup_incorporate-range.ensures.start_value_2 c.setup_incorporate-range.ensures.end_value_2 in
-    record { in_letters = record { letters = c.requires.checks.sound.letters; rising = omega (arith, w.rising); ends = w.ends }; letters_len_bound = (c.requires.checks.sound.short, c.requires.planned.few) }
-
-pub replace-requires-in-Delins : goal.replace-requires-in-Delins
-unfolding size
-replace-requires-in-Delins c =
-    let a = c.args in
-    let w = lies a.letters.now a.known a.edit a.new.now _ _ c.requires.planned c.size_of-size.ensures c.setup_incorporate-range.ensures.start_value_2 c.setup_incorporate-range.ensures.end_value_2 in
+    let w = lies a.letters.now a.known a.edit a.new.now _ _ c.requires.planned c.size_of-size.ensures c.setup_incorporate-range.ensures.start_index c.setup_incorporate-range.ensures.end_index in
     record { in_letters = record { letters = c.requires.checks.sound.letters; rising = omega (arith, w.rising); ends = w.ends }; letters_len_bound = (c.requires.checks.sound.short, c.requires.planned.few) }
 
 pub insert_new-requires : goal.insert_new-requires
 unfolding size
 insert_new-requires c =
     let a = c.args in
-    let w = lies a.letters.now a.known a.edit a.new.now _ _ c.requires.planned c.size_of-size.ensures c.setup_incorporate-range.ensures.start_value_2 c.setup_incorporate-range.ensures.end_value_2 in
+    let w = lies a.letters.now a.known a.edit a.new.now _ _ c.requires.planned c.size_of-size.ensures c.setup_incorporate-range.ensures.start_index c.setup_incorporate-range.ensures.end_index in
     let sized = c.size_of-size.ensures in
     record { le_cs = (c.requires.checks.sound.bounds.first, omega (arith, w.front)); size_bound = (omega (arith, sized, c.requires.checks.sound.short), omega (arith, w.rising, w.ends, c.requires.checks.sound.short), c.requires.planned.few); table_bound = (c.requires.checks.sound.table, c.requires.planned.letters) }
 
@@ -58,52 +60,33 @@ pub insert_copy-requires : goal.insert_copy-requires
 unfolding size
 insert_copy-requires c =
     let a = c.args in
-    let w = lies a.letters.now a.known a.edit a.new.now _ _ c.requires.planned c.size_of-size.ensures c.setup_incorporate-range.ensures.start_value_2 c.setup_incorporate-range.ensures.end_value_2 in
+    let w = lies a.letters.now a.known a.edit a.new.now _ _ c.requires.planned c.size_of-size.ensures c.setup_incorporate-range.ensures.start_index c.setup_incorporate-range.ensures.end_index in
     record { checks = c.requires.checks; in_letters = record { letters = c.requires.checks.sound.letters; rising = omega (arith, w.rising); ends = w.ends }; cs_bound = omega (arith, w.front, w.rising) }
 
 pub keep_length-requires : goal.keep_length-requires
 unfolding size
 keep_length-requires c =
     let a = c.args in
-    let w = lies a.letters.now a.known a.edit a.new.now _ _ c.requires.planned c.size_of-size.ensures c.setup_incorporate-range.ensures.start_value_2 c.setup_incorporate-range.ensures.end_value_2 in
+    let w = lies a.letters.now a.known a.edit a.new.now _ _ c.requires.planned c.size_of-size.ensures c.setup_incorporate-range.ensures.start_index c.setup_incorporate-range.ensures.end_index in
     (omega (arith, w.rising), omega (arith, w.ends, c.size_of-size.ensures))
 
 pub keep_length-requires-in-Identity : goal.keep_length-requires-in-Identity
 unfolding size
 keep_length-requires-in-Identity c =
     let a = c.args in
-    let w = lies a.letters.now a.known a.edit a.new.now _ _ c.requires.planned c.size_of-size.ensures c.setup_incorporate-range.ensures.start_value_2 c.setup_incorporate-range.ensures.end_value_2 in
-    (omega (arith, w.rising), omega (arith, w.ends, c.size_of-size.ensures))
-
-pub keep_length-requires-in-Other : goal.keep_length-requires-in-Other
-unfolding size
-keep_length-requires-in-Other c =
-    let a = c.args in
-    let w = lies a.letters.now a.known a.edit a.new.now _ _ c.requires.planned c.size_of-size.ensures c.setup_incorporate-range.ensures.start_value_2 c.setup_incorporate-range.ensures.end_value_2 in
+    let w = lies a.letters.now a.known a.edit a.new.now _ _ c.requires.planned c.size_of-size.ensures c.setup_incorporate-range.ensures.start_index c.setup_incorporate-range.ensures.end_index in
     (omega (arith, w.rising), omega (arith, w.ends, c.size_of-size.ensures))
 
 pub returns-in-Substitution : goal.returns-in-Substitution
 returns-in-Substitution c =
     let a = c.args in
-    let w = lies a.letters.now a.known a.edit a.new.now _ _ c.requires.planned c.size_of-size.ensures c.setup_incorporate-range.ensures.start_value_2 c.setup_incorporate-range.ensures.end_value_2 in
-    c.replace.ensures (asked a.edit a.new.now) (record { kind = rw c.in-Substitution.is; range = w.range; bases = refl }) (numbered (letters_by a.known.form a.letters.now) a.known a.edit a.new.now c.silent_number-number.result c.requires.checks c.silent_number-number.ensures)
-
-pub returns-in-Deletion : goal.returns-in-Deletion
-returns-in-Deletion c =
-    let a = c.args in
-    let w = lies a.letters.now a.known a.edit a.new.now _ _ c.requires.planned c.size_of-size.ensures c.setup_incorporate-range.ensures.start_value_2 c.setup_incorporate-range.ensures.end_value_2 in
-    c.replace-in-Deletion.ensures (asked a.edit a.new.now) (record { kind = rw c.in-Deletion.is; range = w.range; bases = refl }) (numbered (letters_by a.known.form a.letters.now) a.known a.edit a.new.now c.silent_number-number.result c.requires.checks c.silent_number-number.ensures)
-
-pub returns-in-Delins : goal.returns-in-Delins
-returns-in-Delins c =
-    let a = c.args in
-    let w = lies a.letters.now a.known a.edit a.new.now _ _ c.requires.planned c.size_of-size.ensures c.setup_incorporate-range.ensures.start_value_2 c.setup_incorporate-range.ensures.end_value_2 in
-    c.replace-in-Delins.ensures (asked a.edit a.new.now) (record { kind = rw c.in-Delins.is; range = w.range; bases = refl }) (numbered (letters_by a.known.form a.letters.now) a.known a.edit a.new.now c.silent_number-number.result c.requires.checks c.silent_number-number.ensures)
+    let w = lies a.letters.now a.known a.edit a.new.now _ _ c.requires.planned c.size_of-size.ensures c.setup_incorporate-range.ensures.start_index c.setup_incorporate-range.ensures.end_index in
+    c.replace.ensures (asked a.edit a.new.now) (record { kind = replaces a.edit.kind c.in-Substitution.is; range = w.range; bases = refl }) (numbered (letters_by a.known.form a.letters.now) a.known a.edit a.new.now c.silent_number-number.result c.requires.checks c.silent_number-number.ensures)
 
 pub returns-in-Insertion : goal.returns-in-Insertion
 returns-in-Insertion c =
     let a = c.args in
-    let w = lies a.letters.now a.known a.edit a.new.now _ _ c.requires.planned c.size_of-size.ensures c.setup_incorporate-range.ensures.start_value_2 c.setup_incorporate-range.ensures.end_value_2 in
+    let w = lies a.letters.now a.known a.edit a.new.now _ _ c.requires.planned c.size_of-size.ensures c.setup_incorporate-range.ensures.start_index c.setup_incorporate-range.ensures.end_index in
     let k = c.in-Insertion.is in
     let swaps = insertion-swap (bare (letters_by a.known.form a.letters.now) a.known.cds) (asked a.edit a.new.now) c.setup_incorporate-range.result w.range k in
     c.insert_new.ensures (letters_by a.known.form a.letters.now) (asked a.edit a.new.now) (sym c.size_of-size.ensures) (record { kind = rw k; range = w.range; comes = rw k; swaps = swaps }) (numbered (letters_by a.known.form a.letters.now) a.known a.edit a.new.now c.silent_number-number.result c.requires.checks c.silent_number-number.ensures)
@@ -111,7 +94,7 @@ returns-in-Insertion c =
 pub returns-in-Duplication : goal.returns-in-Duplication
 returns-in-Duplication c =
     let a = c.args in
-    let w = lies a.letters.now a.known a.edit a.new.now _ _ c.requires.planned c.size_of-size.ensures c.setup_incorporate-range.ensures.start_value_2 c.setup_incorporate-range.ensures.end_value_2 in
+    let w = lies a.letters.now a.known a.edit a.new.now _ _ c.requires.planned c.size_of-size.ensures c.setup_incorporate-range.ensures.start_index c.setup_incorporate-range.ensures.end_index in
     let k = c.in-Duplication.is in
     let swaps = duplication-swap (bare (letters_by a.known.form a.letters.now) a.known.cds) (asked a.edit a.new.now) c.setup_incorporate-range.result w.range k in
     c.insert_copy.ensures (asked a.edit a.new.now) (record { kind = rw k; range = w.range; comes = rw k; swaps = swaps }) (numbered (letters_by a.known.form a.letters.now) a.known a.edit a.new.now c.silent_number-number.result c.requires.checks c.silent_number-number.ensures)
@@ -119,20 +102,13 @@ returns-in-Duplication c =
 pub returns-in-Inversion : goal.returns-in-Inversion
 returns-in-Inversion c =
     let a = c.args in
-    let w = lies a.letters.now a.known a.edit a.new.now _ _ c.requires.planned c.size_of-size.ensures c.setup_incorporate-range.ensures.start_value_2 c.setup_incorporate-range.ensures.end_value_2 in
+    let w = lies a.letters.now a.known a.edit a.new.now _ _ c.requires.planned c.size_of-size.ensures c.setup_incorporate-range.ensures.start_index c.setup_incorporate-range.ensures.end_index in
     let k = c.in-Inversion.is in
     c.keep_length.ensures (letters_by a.known.form a.letters.now) a.known.cds (asked a.edit a.new.now) (sym c.size_of-size.ensures) (record { kind = rw k; range = w.range; comes = rw k }) (numbered (letters_by a.known.form a.letters.now) a.known a.edit a.new.now c.silent_number-number.result c.requires.checks c.silent_number-number.ensures)
 
 pub returns-in-Identity : goal.returns-in-Identity
 returns-in-Identity c =
     let a = c.args in
-    let w = lies a.letters.now a.known a.edit a.new.now _ _ c.requires.planned c.size_of-size.ensures c.setup_incorporate-range.ensures.start_value_2 c.setup_incorporate-range.ensures.end_value_2 in
-    let k = c.in-Identity.is in
-    c.keep_length-in-Identity.ensures (letters_by a.known.form a.letters.now) a.known.cds (asked a.edit a.new.now) (sym c.size_of-size.ensures) (record { kind = rw k; range = w.range; comes = rw k }) (numbered (letters_by a.known.form a.letters.now) a.known a.edit a.new.now c.silent_number-number.result c.requires.checks c.silent_number-number.ensures)
-
-pub returns-in-Other : goal.returns-in-Other
-returns-in-Other c =
-    let a = c.args in
-    let w = lies a.letters.now a.known a.edit a.new.now _ _ c.requires.planned c.size_of-size.ensures c.setup_incorporate-range.ensures.start_value_2 c.setup_incorporate-range.ensures.end_value_2 in
-    let k = c.in-Other.is in
-    c.keep_length-in-Other.ensures (letters_by a.known.form a.letters.now) a.known.cds (asked a.edit a.new.now) (sym c.size_of-size.ensures) (record { kind = rw k; range = w.range; comes = rw k }) (numbered (letters_by a.known.form a.letters.now) a.known a.edit a.new.now c.silent_number-number.result c.requires.checks c.silent_number-number.ensures)
+    let w = lies a.letters.now a.known a.edit a.new.now _ _ c.requires.planned c.size_of-size.ensures c.setup_incorporate-range.ensures.start_index c.setup_incorporate-range.ensures.end_index in
+    let k = copies a.edit.kind c.in-Identity.is in
+    c.keep_length-in-Identity.ensures (letters_by a.known.form a.letters.now) a.known.cds (asked a.edit a.new.now) (sym c.size_of-size.ensures) (record { kind = k.0; range = w.range; comes = k.1 }) (numbered (letters_by a.known.form a.letters.now) a.known a.edit a.new.now c.silent_number-number.result c.requires.checks c.silent_number-number.ensures)

@@ -6,4 +6,4 @@ use Rattle.reference.proofs.early.are_letters.Goals as goal
 
 pub returns-then-plain : goal.returns-then-plain
 returns-then-plain c =
-    sym (bases_are_letters (letters_by c.args.form c.args.letters.now) (sym c.requires.plain_value ∙ c.if-plain.true))
+    c.if-plain.true ∙ sym (bases_are_letters (letters_by c.args.form c.args.letters.now) (sym c.requires.plain_value ∙ c.if-plain.true))

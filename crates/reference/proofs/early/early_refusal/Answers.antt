@@ -3,15 +3,16 @@ use mathlib.Core.Path.{sym, ap, ◌∙◌}
 use mathlib.Core.Bool.{not}
 use native.Mathlib.Omega.{arith}
 use borrow.Author.Tests.{not-false, lt-ltb, le-ltb}
+use Rattle.rules.specs.Bytes.{unless}
 use Rattle.rules.specs.Packed.{letters_by}
 use Rattle.rules.specs.Views.{bare}
 use Rattle.rules.proofs.Reference.{bounds_of}
-use Rattle.reference.specs.Known.{judged_by, early_of}
+use Rattle.reference.specs.Known.{early_of}
 use Rattle.reference.proofs.Testing.{early_by, fits_are}
 use Rattle.reference.proofs.early.early_refusal.Goals as goal
 
 pub returns-then-size-longest : goal.returns-then-size-longest
-unfolding judged_by early_of
+unfolding unless early_of
 returns-then-size-longest c =
     let a = c.args in
     let sized = c.size_of-size.ensures in
@@ -22,7 +23,7 @@ returns-then-size-longest c =
     )
 
 pub returns-then-not-are_letters : goal.returns-then-not-are_letters
-unfolding judged_by early_of
+unfolding unless early_of
 returns-then-not-are_letters c =
     let a = c.args in
     let sized = c.size_of-size.ensures in
@@ -35,7 +36,7 @@ returns-then-not-are_letters c =
     )
 
 pub returns-then-not-are_bounds : goal.returns-then-not-are_bounds
-unfolding judged_by early_of
+unfolding unless early_of
 returns-then-not-are_bounds c =
     let a = c.args in
     let sized = c.size_of-size.ensures in
@@ -50,7 +51,7 @@ returns-then-not-are_bounds c =
     )
 
 pub returns-then-c-gt2 : goal.returns-then-c-gt2
-unfolding judged_by early_of
+unfolding unless early_of
 returns-then-c-gt2 c =
     let a = c.args in
     let sized = c.size_of-size.ensures in
@@ -80,7 +81,7 @@ overflow_sub-c-2 c =
     omega (arith, b.first, b.rising)
 
 pub returns-then-not-fit_exceptions : goal.returns-then-not-fit_exceptions
-unfolding judged_by early_of
+unfolding unless early_of
 returns-then-not-fit_exceptions c =
     let a = c.args in
     let sized = c.size_of-size.ensures in
@@ -100,7 +101,7 @@ returns-then-not-fit_exceptions c =
     )
 
 pub returns : goal.returns
-unfolding judged_by early_of
+unfolding unless early_of
 returns c =
     let a = c.args in
     let sized = c.size_of-size.ensures in

@@ -1,11 +1,8 @@
 use mathlib.Core.Path.{◌≡◌}
-use Prim.Native.Nat.{◌+◌, ◌-◌, ◌≤◌}
-use lib.ListN.{length, drop}
+use Prim.Native.Nat.{◌+◌}
+use Rattle.std.specs.Slice.Iter.{chunks_rest, chunks_size}
 use Rattle.rules.specs.Bytes.{byte, count}
 use Rattle.reference.proofs.protein.several_stops.Given as goal
 
-abbrev pub invariant-loop-i : goal.invariant-loop-i
-invariant-loop-i l = (l.i ≤ length l.protein) × (l.stops + count (byte "*") (drop l.i l.protein) ≡ count (byte "*") l.protein)
-
-abbrev pub decreases-loop-i : goal.decreases-loop-i
-decreases-loop-i l = length l.protein - l.i
+abbrev pub invariant-loop-block : goal.invariant-loop-block
+invariant-loop-block l = (l.stops + count (byte "*") (chunks_rest l.block-iterator) ≡ count (byte "*") l.protein) × (chunks_size l.block-iterator ≡ 255)

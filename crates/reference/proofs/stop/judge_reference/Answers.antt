@@ -1,40 +1,33 @@
 -- `reference::stop::judge_reference` meets its contract. Assumes nothing.
+use mathlib.Core.Path.{◌∙◌}
 use Rattle.rules.specs.Packed.{letters_by}
-use Rattle.rules.specs.Bytes.{all}
-use Rattle.rules.specs.Views.{reference_of}
-use Rattle.letters.specs.Sets.{is_base}
-use Rattle.reference.specs.Known.{early_refusal, early_of}
-use Rattle.reference.proofs.Judging.{was-refused, was-clear, readable, judged-early, judged-clear, judged-late}
+use Rattle.reference.specs.Known.{early_of}
+use Rattle.reference.proofs.Judging.{exit-told, was-refused, was-given, readable, judged-early, judged-clear, judged-late}
 use Rattle.reference.proofs.stop.judge_reference.Goals as goal
 
-pub end_refusal-refused-requires : goal.end_refusal-refused-requires
+pub returns-in_err-plain : goal.returns-in_err-plain
 unfolding early_of
-end_refusal-refused-requires c =
+returns-in_err-plain c =
     let a = c.args in
-    let early = c.early_refusal in
-    let clear = was-clear (early_refusal a.longest (reference_of (letters_by a.form a.letters.now) a.c a.e)) (all is_base (letters_by a.form a.letters.now)) early.result early.ensures c.in-Clear.plain c.in-Clear.is in
-    record { readable = readable a.longest (letters_by a.form a.letters.now) a.c a.e clear.0 c.requires; plain_value = clear.1 }
+    exit-told _ _ c.from_residual.ensures.1 ∙ judged-early a.longest (letters_by a.form a.letters.now) a.c a.e _ (was-refused _ _ _ c.in_err-plain.ensures).0
 
-pub returns-then-refused-ne0 : goal.returns-then-refused-ne0
+pub end_refusal-requires : goal.end_refusal-requires
 unfolding early_of
-returns-then-refused-ne0 c =
+end_refusal-requires c =
     let a = c.args in
-    let early = c.early_refusal in
-    let clear = was-clear (early_refusal a.longest (reference_of (letters_by a.form a.letters.now) a.c a.e)) (all is_base (letters_by a.form a.letters.now)) early.result early.ensures c.in-Clear.plain c.in-Clear.is in
-    judged-late a.longest (letters_by a.form a.letters.now) a.c a.e clear.0 c.end_refusal-refused.result c.end_refusal-refused.ensures c.if-refused-ne0.true
+    let early = was-given _ _ _ c.in_ok-plain.ensures in
+    record { readable = readable a.longest (letters_by a.form a.letters.now) a.c a.e early.0 c.requires; plain_value = early.1 }
 
-pub returns-in-Refused : goal.returns-in-Refused
+pub returns-in_err-end_refusal : goal.returns-in_err-end_refusal
 unfolding early_of
-returns-in-Refused c =
+returns-in_err-end_refusal c =
     let a = c.args in
-    let early = c.early_refusal in
-    let refused = was-refused (early_refusal a.longest (reference_of (letters_by a.form a.letters.now) a.c a.e)) (all is_base (letters_by a.form a.letters.now)) early.result early.ensures c.in-Refused.n c.in-Refused.is in
-    judged-early a.longest (letters_by a.form a.letters.now) a.c a.e c.in-Refused.n refused.0 refused.1
+    let early = was-given _ _ _ c.in_ok-plain.ensures in
+    exit-told _ _ c.from_residual-in_err-end_refusal.ensures.1 ∙ judged-late a.longest (letters_by a.form a.letters.now) a.c a.e early.0 _ c.in_err-end_refusal.ensures
 
-pub returns-else-refused-ne0 : goal.returns-else-refused-ne0
+pub returns : goal.returns
 unfolding early_of
-returns-else-refused-ne0 c =
+returns c =
     let a = c.args in
-    let early = c.early_refusal in
-    let clear = was-clear (early_refusal a.longest (reference_of (letters_by a.form a.letters.now) a.c a.e)) (all is_base (letters_by a.form a.letters.now)) early.result early.ensures c.in-Clear.plain c.in-Clear.is in
-    judged-clear a.longest (letters_by a.form a.letters.now) a.c a.e clear.0 c.end_refusal-refused.result c.end_refusal-refused.ensures _ clear.1 c.if-refused-ne0.false
+    let early = was-given _ _ _ c.in_ok-plain.ensures in
+    judged-clear a.longest (letters_by a.form a.letters.now) a.c a.e early.0 _ early.1 c.in_ok-end_refusal.ensures

@@ -1,3 +1,0 @@
--- Laws that this crate's proofs cite.
-mod Rooms
-mod PairRooms
