@@ -1,6 +1,6 @@
 -- Laws of the altered transcript alone: which answer each way out has.
 -- Assumes nothing.
-use Rattle.std.specs.Prelude.{if◌then◌else◌}
+use Rattle.std.specs.Prelude.{Option, None, Some, if◌then◌else◌}
 use mathlib.Core.Path.{◌≡◌, refl, sym, ap, subst, ◌∙◌}
 use mathlib.Core.Bool.{Bool, true, false}
 use mathlib.Core.List.{List}
@@ -12,7 +12,7 @@ use Rattle.rules.specs.declared.Form.{Form}
 use Rattle.rules.specs.declared.Cds.{Cds}
 use Rattle.rules.specs.declared.Exceptions.{Exceptions}
 use Rattle.rules.specs.declared.Limits.{Limits}
-use Rattle.rules.specs.Bytes.{over}
+use Rattle.rules.specs.Bytes.{Result, given, refused, over}
 use Rattle.rules.specs.Reference.{Reference, reference_protein}
 use Rattle.rules.specs.Edit.{Asked}
 use Rattle.rules.specs.Altered.{altered_transcript, altered_length, frameshift}
@@ -21,28 +21,23 @@ use Rattle.rules.specs.Refusal.{limits, reference_refusal, refusal}
 use Rattle.rules.specs.Views.{bare, reference_of}
 use Rattle.rules.proofs.Refusing.{refused-reference}
 use Rattle.reference.specs.declared.Known.{Known}
-use Rattle.reference.specs.declared.Checked.{Checked}
-use Rattle.reference.specs.declared.Checked.TheVariants as checked
 use Rattle.reference.specs.Known.{known_of, checked_of, Knows}
 use Rattle.reference.proofs.Checking.{checked-accepted, cds-known, form-known}
 use Rattle.edits.specs.declared.plans.Plan.{Plan}
-use Rattle.edits.specs.declared.decision.Decision.{Decision}
-use Rattle.edits.specs.declared.decision.Decision.TheVariants as decision
 use Rattle.edits.specs.Plans.{plan_of}
 use Rattle.edits.specs.Decisions.{decision_of}
 use Rattle.edits.proofs.Deciding.{decided-refusal, decided-unknown}
 use Rattle.transcript.specs.Carrying.{carried_by, Fits}
 use Rattle.transcript.proofs.Transcripts.{fits-of, carried_by_is}
 use Rattle.altseq.specs.declared.alone.Transcribed.{Transcribed}
-use Rattle.altseq.specs.declared.alone.Transcribed.TheVariants.{Refused, Unknown}
 use Rattle.altseq.specs.Transcribing.{Edited, unwritten, written, edited_by, edited, made_by}
 use Rattle.altseq.proofs.Answering.{unknown-is, allowed-is, none-refused, not-unknown, plan-is}
 
 -- the answer, and what the buffer holds
-abbrev pub Meets : Edited → Transcribed → List ℕ → List ℕ → Type 0
+abbrev pub Meets : Edited → Result (Option Transcribed) → List ℕ → List ℕ → Type 0
 Meets o x t t' = (x ≡ o.answer) × (t' ≡ over o.transcript t)
 
-pub meets_none : (o : Edited) (x : Transcribed) (t : List ℕ) → o ≡ unwritten x → Meets o x t t
+pub meets_none : (o : Edited) (x : Result (Option Transcribed)) (t : List ℕ) → o ≡ unwritten x → Meets o x t t
 unfolding over
 meets_none o x t h = (sym (ap (λ (o : Edited). o.answer) h), sym (ap (λ (o : Edited). over o.transcript t) h))
 
@@ -51,7 +46,7 @@ pub fits_more : (p : Plan) (letters new : List ℕ) (room more : ℕ) → Fits p
 fits_more p letters new room more f h = record { source = f.source; rising = f.rising; ends = f.ends; written = omega (arith, f.written) }
 
 module _ (p : Plan) (letters new : List ℕ) (room : ℕ) where
-  pub made-short : room < p.length → made_by p letters new room ≡ unwritten (Refused 11)
+  pub made-short : room < p.length → made_by p letters new room ≡ unwritten (refused 11)
   unfolding made_by
   made-short h = rw (lt-ltb room p.length h)
 
@@ -61,12 +56,12 @@ module _ (p : Plan) (letters new : List ℕ) (room : ℕ) where
 
 -- by the tests in their order
 module _ (m : Limits) (r : Reference) (a : Asked) (room : ℕ) where
-  pub edited-refused : (n : ℕ) → refusal m r a ≡ n → (n ≡ 0 → ⊥) → edited m r a room ≡ unwritten (Refused n)
+  pub edited-refused : (n : ℕ) → refusal m r a ≡ n → (n ≡ 0 → ⊥) → edited m r a room ≡ unwritten (refused n)
   unfolding edited edited_by
   edited-refused zero h some = absurd (some refl)
   edited-refused (suc n) h some = rw h
 
-  edited-unknown : refusal m r a ≡ 0 → is_unknown r a ≡ true → edited m r a room ≡ unwritten Unknown
+  edited-unknown : refusal m r a ≡ 0 → is_unknown r a ≡ true → edited m r a room ≡ unwritten (given None)
   unfolding edited edited_by
   edited-unknown h u = rw (h, u)
 
@@ -74,16 +69,16 @@ module _ (m : Limits) (r : Reference) (a : Asked) (room : ℕ) where
   unfolding edited edited_by made_by plan_of
   edited-goes h u p is = rw (h, u, is, carried_by_is r a) (by (ltb room (altered_length r a)) (written (frameshift r a) (altered_transcript r a)))
     where
-      by : (short : Bool) (all : Edited) → edited_by 0 false short all ≡ (if short then unwritten (Refused 11) else all)
+      by : (short : Bool) (all : Edited) → edited_by 0 false short all ≡ (if short then unwritten (refused 11) else all)
       by true all = refl
       by false all = refl
 
-  pub reference-refused : (n : ℕ) → reference_refusal m.longest r ≡ n → (n ≡ 0 → ⊥) → edited m r a room ≡ unwritten (Refused n)
+  pub reference-refused : (n : ℕ) → reference_refusal m.longest r ≡ n → (n ≡ 0 → ⊥) → edited m r a room ≡ unwritten (refused n)
   reference-refused zero h some = absurd (some refl)
   reference-refused (suc n) h some = edited-refused (suc n) (refused-reference m r a n h) some
 
 -- what is known of a reference that the check accepts
-module _ (f : Form) (s : List ℕ) (c : Cds) (e : Exceptions) (x : Checked) (is : x ≡ checked_of limits.longest f s c e) (k : Known) (h : x ≡ checked.Known k) where
+module _ (f : Form) (s : List ℕ) (c : Cds) (e : Exceptions) (x : Result Known) (is : x ≡ checked_of limits.longest f s c e) (k : Known) (h : x ≡ given k) where
   pub form-at : k.form ≡ f
   form-at =
       let ok = checked-accepted limits.longest f s c e x is k h in
@@ -113,19 +108,19 @@ unfolding plan_of
 planned r a = omega arith
 
 -- what is decided of an edit of a checked reference
-module _ (m : Limits) (s : List ℕ) (k : Known) (e : Exceptions) (protein : List ℕ) (known : Knows m s k e protein) (a : Asked) (d : Decision)
+module _ (m : Limits) (s : List ℕ) (k : Known) (e : Exceptions) (protein : List ℕ) (known : Knows m s k e protein) (a : Asked) (d : Result (Option Plan))
     (said : d ≡ decision_of m.most k.several (bare s k.cds) a) where
-  pub decided-refused : (room n : ℕ) → d ≡ decision.Refused n → edited m (reference_of s k.cds e) a room ≡ unwritten (Refused n)
+  pub decided-refused : (room n : ℕ) → d ≡ refused n → edited m (reference_of s k.cds e) a room ≡ unwritten (refused n)
   decided-refused room n h =
       let both = decided-refusal m.most k.several (bare s k.cds) a n (sym said ∙ h) in
       edited-refused m (reference_of s k.cds e) a room n (allowed-is m s k e protein known a ∙ both.0) (λ z. omega (arith, both.1))
 
-  pub decided-open : (room : ℕ) → d ≡ decision.Unknown → edited m (reference_of s k.cds e) a room ≡ unwritten Unknown
+  pub decided-open : (room : ℕ) → d ≡ given None → edited m (reference_of s k.cds e) a room ≡ unwritten (given None)
   decided-open room h =
       let both = decided-unknown m.most k.several (bare s k.cds) a (sym said ∙ h) in
       edited-unknown m (reference_of s k.cds e) a room (allowed-is m s k e protein known a ∙ both.0) (unknown-is m s k e protein known a ∙ both.1)
 
-  module _ (p : Plan) (goes : d ≡ decision.Goes p) where
+  module _ (p : Plan) (goes : d ≡ given (Some p)) where
     pub decided-goes : (room : ℕ) → edited m (reference_of s k.cds e) a room ≡ made_by p s a.new room
     decided-goes room =
         edited-goes m (reference_of s k.cds e) a room (none-refused m s k e protein known a p (sym said ∙ goes)) (not-unknown m s k e protein known a p (sym said ∙ goes)) p
