@@ -8,7 +8,6 @@ ghost use Rattle.brief.specs.Brief.{edge_of, Follows, Spans};
 
 use crate::touched::write_touched;
 use edits::plans::Plan;
-use numbers::least;
 use reference::Known;
 use reuse::{Pieces, ends_in_stop};
 use rules::Exceptions;
@@ -44,7 +43,7 @@ fn edge_of(plan: Plan, start: usize, end: usize) -> usize
     ensures { result ≡ edge_of plan start end }
 {
     let touched = plan.from + plan.kept - start;
-    least(end, start + (touched + 2) / 3 * 3)
+    end.min(start + (touched + 2) / 3 * 3)
 }
 
 // Writes the residues of what an edit has read, of some letters. Those of codons that it touches are written to `coding`.
