@@ -9,13 +9,15 @@ use native.Mathlib.Omega.{arith}
 use Rattle.rules.specs.declared.Cds.{Cds}
 use Rattle.rules.specs.declared.Exceptions.{Exceptions}
 use Rattle.rules.specs.declared.Limits.{Limits}
+use Rattle.rules.specs.declared.Refusal.{Refusal}
 use Rattle.rules.specs.declared.Report.{Report}
-use Rattle.rules.specs.Bytes.{Result, given, refused, first_number, over}
+use Rattle.rules.specs.Bytes.{Result, given, refused, first_number, unless, over}
 use Rattle.rules.specs.Reference.{Reference, size, cds_size}
 use Rattle.rules.specs.Edit.{Asked, start_place, end_place, ends_past, is_misplaced, is_disordered, edit_tests}
 use Rattle.rules.specs.Altered.{altered_transcript, altered_length, frameshift}
 use Rattle.rules.specs.Protein.{altered_protein}
 use Rattle.rules.specs.Record.{is_unknown, silent_number}
+use Rattle.rules.specs.Refusals.{refusal_number}
 use Rattle.rules.specs.Refusal.{reference_refusal, refusal, Room, room_refusal}
 use Rattle.rules.specs.Answer.{Outcome, writes_nothing, full_report, writes_all, outcome, Answers}
 use Rattle.rules.specs.Views.{bare, reference_of}
@@ -25,6 +27,7 @@ use Rattle.rules.proofs.Answers.{refused-by, unknown-by, room_by as room_refused
 use Rattle.rules.proofs.Records.{record-known}
 use Rattle.reference.specs.declared.Known.{Known}
 use Rattle.reference.specs.Known.{known_of, Knows}
+use Rattle.reference.proofs.Judging.{told-refused}
 use Rattle.edits.specs.declared.plans.Plan.{Plan}
 use Rattle.edits.specs.Plans.{plan_of}
 use Rattle.edits.specs.Decisions.{decision_of}
@@ -34,7 +37,7 @@ use Rattle.transcript.proofs.Transcripts.{carried_by_is}
 use Rattle.altseq.specs.Carried.{protein_by, report_by}
 use Rattle.altseq.proofs.Reusing.{protein_of_lem, looked_is}
 use Rattle.transcript.specs.Carrying.{carried_by}
-use Rattle.altseq.specs.Decided.{room_by, goes_by, with_room, decided_outcome, reference_in, AnswersBeside}
+use Rattle.altseq.specs.Decided.{room_by, with_room, decided_outcome, reference_in, AnswersBeside}
 
 pub writes_nothing_lem : (o : Outcome) (x : Result Report) (t p q : List ℕ) → o ≡ writes_nothing x → Answers o x t t p p q q
 unfolding writes_nothing over
@@ -121,11 +124,11 @@ module _ (m : Limits) (s : List ℕ) (k : Known) (e : Exceptions) (protein : Lis
     unfolding room_refusal cds_size
     room-is room = rw length-is
 
-    pub room-goes : (room : Room) → outcome m (reference_of s k.cds e) a room ≡ decided_outcome (reference_of s k.cds e) (goes_by (room_by k.cds p.length room) p) a.new
-    unfolding goes_by decided_outcome
+    pub room-goes : (room : Room) → outcome m (reference_of s k.cds e) a room ≡ decided_outcome (reference_of s k.cds e) (unless (room_by k.cds p.length room) (Some p)) a.new
+    unfolding unless decided_outcome
     room-goes room = by (room_by k.cds p.length room) (room-is room)
       where
-        by : (n : ℕ) → room_refusal (reference_of s k.cds e) a room ≡ n → outcome m (reference_of s k.cds e) a room ≡ decided_outcome (reference_of s k.cds e) (goes_by n p) a.new
+        by : (n : ℕ) → room_refusal (reference_of s k.cds e) a room ≡ n → outcome m (reference_of s k.cds e) a room ≡ decided_outcome (reference_of s k.cds e) (unless n (Some p)) a.new
         by zero h = all-by m (reference_of s k.cds e) a room none-refused not-unknown h ∙ sym (goes-all (reference_of s k.cds e) a p plan-is not-unknown m none-refused)
         by (suc n) h = room_refused m (reference_of s k.cds e) a room n none-refused not-unknown h
 
@@ -159,26 +162,22 @@ module _ (c : Cds) (room : Room) (d : Result (Option Plan)) where
   unfolding with_room
   stays-unknown h = rw h
 
-  module _ (p : Plan) (h : d ≡ given (Some p)) (n : ℕ) (is : n ≡ room_by c p.length room) where
-    pub room-refused : (n ≡ 0 → ⊥) → refused n ≡ with_room c room d
-    unfolding with_room goes_by
-    room-refused some = rw (h, ← is) (by n some)
-      where
-        by : (n : ℕ) → (n ≡ 0 → ⊥) → refused n ≡ goes_by n p
-        by zero some = absurd (some refl)
-        by (suc n) some = refl
+  module _ (p : Plan) (h : d ≡ given (Some p)) where
+    pub room-refused : (x : Refusal) → refusal_number x ≡ room_by c p.length room → refused (refusal_number x) ≡ with_room c room d
+    unfolding with_room
+    room-refused x is = rw h (told-refused x (room_by c p.length room) (Some p) is)
 
-    pub room-enough : n ≡ 0 → given (Some p) ≡ with_room c room d
-    unfolding with_room goes_by
-    room-enough z = rw (h, ← is, z)
+    pub room-enough : 0 ≡ room_by c p.length room → given (Some p) ≡ with_room c room d
+    unfolding with_room unless
+    room-enough is = rw (h, ← is)
 
 -- only a plan with room goes
 pub room_left : (c : Cds) (room : Room) (d : Result (Option Plan)) (p : Plan) → with_room c room d ≡ given (Some p) → (d ≡ given (Some p)) × (room_by c p.length room ≡ 0)
-unfolding with_room goes_by
+unfolding with_room unless
 room_left c room (refused n) p h = let z : ◌≡◌ {A = ℕ} 0 1 = cc in absurd (omega arith)
 room_left c room (given None) p h = let z : ◌≡◌ {A = ℕ} 0 1 = cc in absurd (omega arith)
 room_left c room (given (Some q)) p h = by (room_by c q.length room) refl h
   where
-    by : (n : ℕ) → room_by c q.length room ≡ n → goes_by n q ≡ given (Some p) → (given (Some q) ≡ given (Some p)) × (room_by c p.length room ≡ 0)
+    by : (n : ℕ) → room_by c q.length room ≡ n → unless n (Some q) ≡ given (Some p) → (given (Some q) ≡ given (Some p)) × (room_by c p.length room ≡ 0)
     by zero z g = let same : q ≡ p = cc in (g, ap (λ (p : Plan). room_by c p.length room) (sym same) ∙ z)
     by (suc n) z g = let z : ◌≡◌ {A = ℕ} 0 1 = cc in absurd (omega arith)

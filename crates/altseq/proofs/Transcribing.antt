@@ -18,11 +18,12 @@ use Rattle.rules.specs.Edit.{Asked}
 use Rattle.rules.specs.Altered.{altered_transcript, altered_length, frameshift}
 use Rattle.rules.specs.Record.{is_unknown}
 use Rattle.rules.specs.Refusal.{limits, reference_refusal, refusal}
+use Rattle.rules.specs.Packed.{letters_by}
 use Rattle.rules.specs.Views.{bare, reference_of}
 use Rattle.rules.proofs.Refusing.{refused-reference}
 use Rattle.reference.specs.declared.Known.{Known}
-use Rattle.reference.specs.Known.{known_of, checked_of, Knows}
-use Rattle.reference.proofs.Checking.{checked-accepted, cds-known, form-known}
+use Rattle.reference.specs.Known.{known_of, checked_of, Checks, Knows}
+use Rattle.reference.proofs.Checking.{checked-accepted, cds-known, form-known, checks}
 use Rattle.edits.specs.declared.plans.Plan.{Plan}
 use Rattle.edits.specs.Plans.{plan_of}
 use Rattle.edits.specs.Decisions.{decision_of}
@@ -78,20 +79,20 @@ module _ (m : Limits) (r : Reference) (a : Asked) (room : ℕ) where
   reference-refused (suc n) h some = edited-refused (suc n) (refused-reference m r a n h) some
 
 -- what is known of a reference that the check accepts
-module _ (f : Form) (s : List ℕ) (c : Cds) (e : Exceptions) (x : Result Known) (is : x ≡ checked_of limits.longest f s c e) (k : Known) (h : x ≡ given k) where
+module _ (f : Form) (s : List ℕ) (c : Cds) (e : Exceptions) (k : Known) (is : given k ≡ checked_of limits.longest f s c e) where
   pub form-at : k.form ≡ f
   form-at =
-      let ok = checked-accepted limits.longest f s c e x is k h in
+      let ok = checked-accepted limits.longest f s c e k is in
       form-known limits f s c e k ok.0 ok.1
 
   pub cds-at : k.cds ≡ c
   cds-at =
-      let ok = checked-accepted limits.longest f s c e x is k h in
+      let ok = checked-accepted limits.longest f s c e k is in
       cds-known limits f s c e k ok.0 ok.1
 
   pub known_at : Knows limits s k e (reference_protein (reference_of s k.cds e))
   known_at =
-      let ok = checked-accepted limits.longest f s c e x is k h in
+      let ok = checked-accepted limits.longest f s c e k is in
       record {
         accepted = rw cds-at ok.0;
         is = ok.1 ∙ ap (λ (c : Cds). known_of f s c e) (sym cds-at) ∙ ap (λ (f : Form). known_of f s k.cds e) (sym form-at);
@@ -99,34 +100,60 @@ module _ (f : Form) (s : List ℕ) (c : Cds) (e : Exceptions) (x : Result Known)
         small = omega arith;
       }
 
--- the answer for a CDS that is known as another
-pub edited-cds : (s : List ℕ) (c d : Cds) (e : Exceptions) (a : Asked) (room : ℕ) → c ≡ d → edited limits (reference_of s c e) a room ≡ edited limits (reference_of s d e) a room
-edited-cds s c d e a room is = ap (λ (c : Cds). edited limits (reference_of s c e) a room) is
-
 planned : (r : Reference) (a : Asked) → altered_length r a ≤ (plan_of r a).length
 unfolding plan_of
 planned r a = omega arith
 
 -- what is decided of an edit of a checked reference
-module _ (m : Limits) (s : List ℕ) (k : Known) (e : Exceptions) (protein : List ℕ) (known : Knows m s k e protein) (a : Asked) (d : Result (Option Plan))
-    (said : d ≡ decision_of m.most k.several (bare s k.cds) a) where
-  pub decided-refused : (room n : ℕ) → d ≡ refused n → edited m (reference_of s k.cds e) a room ≡ unwritten (refused n)
-  decided-refused room n h =
-      let both = decided-refusal m.most k.several (bare s k.cds) a n (sym said ∙ h) in
+module _ (m : Limits) (s : List ℕ) (k : Known) (e : Exceptions) (protein : List ℕ) (known : Knows m s k e protein) (a : Asked) where
+  pub decided-refused : (room n : ℕ) → refused n ≡ decision_of m.most k.several (bare s k.cds) a → edited m (reference_of s k.cds e) a room ≡ unwritten (refused n)
+  decided-refused room n said =
+      let both = decided-refusal m.most k.several (bare s k.cds) a n (sym said) in
       edited-refused m (reference_of s k.cds e) a room n (allowed-is m s k e protein known a ∙ both.0) (λ z. omega (arith, both.1))
 
-  pub decided-open : (room : ℕ) → d ≡ given None → edited m (reference_of s k.cds e) a room ≡ unwritten (given None)
-  decided-open room h =
-      let both = decided-unknown m.most k.several (bare s k.cds) a (sym said ∙ h) in
+  pub decided-open : (room : ℕ) → given None ≡ decision_of m.most k.several (bare s k.cds) a → edited m (reference_of s k.cds e) a room ≡ unwritten (given None)
+  decided-open room said =
+      let both = decided-unknown m.most k.several (bare s k.cds) a (sym said) in
       edited-unknown m (reference_of s k.cds e) a room (allowed-is m s k e protein known a ∙ both.0) (unknown-is m s k e protein known a ∙ both.1)
 
-  module _ (p : Plan) (goes : d ≡ given (Some p)) where
+  module _ (p : Plan) (said : given (Some p) ≡ decision_of m.most k.several (bare s k.cds) a) where
     pub decided-goes : (room : ℕ) → edited m (reference_of s k.cds e) a room ≡ made_by p s a.new room
     decided-goes room =
-        edited-goes m (reference_of s k.cds e) a room (none-refused m s k e protein known a p (sym said ∙ goes)) (not-unknown m s k e protein known a p (sym said ∙ goes)) p
-        (plan-is m s k e protein known a p (sym said ∙ goes))
+        edited-goes m (reference_of s k.cds e) a room (none-refused m s k e protein known a p (sym said)) (not-unknown m s k e protein known a p (sym said)) p
+        (plan-is m s k e protein known a p (sym said))
 
     pub decided-fits : Fits p s a.new p.length
     decided-fits =
-        subst (λ (p : Plan). Fits p s a.new p.length) (sym (plan-is m s k e protein known a p (sym said ∙ goes)))
-        (fits-of m (reference_of s k.cds e) a (none-refused m s k e protein known a p (sym said ∙ goes)) _ (planned (reference_of s k.cds e) a))
+        subst (λ (p : Plan). Fits p s a.new p.length) (sym (plan-is m s k e protein known a p (sym said)))
+        (fits-of m (reference_of s k.cds e) a (none-refused m s k e protein known a p (sym said)) _ (planned (reference_of s k.cds e) a))
+
+-- an edit of a reference that the check accepts, by the form and the CDS that are known of it
+module _ (f : Form) (letters : List ℕ) (c : Cds) (e : Exceptions) (k : Known) (is : given k ≡ checked_of limits.longest f (letters_by f letters) c e) where
+  abbrev own : List ℕ
+  own = letters_by f letters
+
+  same-letters : letters_by k.form letters ≡ own
+  same-letters = ap (λ (f : Form). letters_by f letters) (form-at f own c e k is)
+
+  pub asks-known : Checks (letters_by k.form letters) k
+  asks-known = rw same-letters (checks limits own k e _ (known_at f own c e k is))
+
+  module _ (a : Asked) where
+    abbrev Decides : Result (Option Plan) → Type 0
+    Decides d = d ≡ decision_of limits.most k.several (bare (letters_by k.form letters) k.cds) a
+
+    module _ (room : ℕ) where
+      by-cds : edited limits (reference_of own c e) a room ≡ edited limits (reference_of own k.cds e) a room
+      by-cds = ap (λ (c : Cds). edited limits (reference_of own c e) a room) (sym (cds-at f own c e k is))
+
+      pub edit-refused : (n : ℕ) → Decides (refused n) → edited limits (reference_of own c e) a room ≡ unwritten (refused n)
+      edit-refused n said = by-cds ∙ decided-refused limits own k e _ (known_at f own c e k is) a room n (rw same-letters at said)
+
+      pub edit-open : Decides (given None) → edited limits (reference_of own c e) a room ≡ unwritten (given None)
+      edit-open said = by-cds ∙ decided-open limits own k e _ (known_at f own c e k is) a room (rw same-letters at said)
+
+      pub edit-goes : (p : Plan) → Decides (given (Some p)) → edited limits (reference_of own c e) a room ≡ made_by p own a.new room
+      edit-goes p said = by-cds ∙ decided-goes limits own k e _ (known_at f own c e k is) a p (rw same-letters at said) room
+
+    pub edit-fits : (p : Plan) → Decides (given (Some p)) → Fits p own a.new p.length
+    edit-fits p said = decided-fits limits own k e _ (known_at f own c e k is) a p (rw same-letters at said)

@@ -3,7 +3,7 @@ use Rattle.std.specs.Prelude.{ℕ, zero, suc, ◌+◌, ◌-◌, ◌≤◌, ◌�
 use Rattle.rules.specs.declared.Cds.{Cds}
 use Rattle.rules.specs.declared.Exceptions.{Exceptions}
 use Rattle.rules.specs.declared.Report.{Report}
-use Rattle.rules.specs.Bytes.{Result, given, refused, first_number, over}
+use Rattle.rules.specs.Bytes.{Result, given, refused, first_number, unless, over}
 use Rattle.rules.specs.Reference.{Reference, reference_protein}
 use Rattle.rules.specs.Edit.{Asked}
 use Rattle.rules.specs.Refusal.{limits, Room, room_tests}
@@ -20,15 +20,11 @@ use Rattle.altseq.specs.Carried.{protein_by, report_by}
 abbrev pub room_by : Cds → ℕ → Room → ℕ
 room_by c n room = first_number (room_tests (c.ce + 1 - c.cs) c.cs n room)
 
-unfoldable pub goes_by : ℕ → Plan → Result (Option Plan)
-goes_by zero p = given (Some p)
-goes_by (suc n) p = refused (suc n)
-
 -- 11 and 12 behind what was decided
 unfoldable pub with_room : Cds → Room → Result (Option Plan) → Result (Option Plan)
 with_room c room (refused n) = refused n
 with_room c room (given None) = given None
-with_room c room (given (Some p)) = goes_by (room_by c p.length room) p
+with_room c room (given (Some p)) = unless (room_by c p.length room) (Some p)
 
 -- of an edit of a checked reference, at the library's limits
 unfoldable pub decided_in : Bool → Reference → Asked → Room → Result (Option Plan)

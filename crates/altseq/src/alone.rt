@@ -1,5 +1,5 @@
 // The altered transcript alone.
-ghost use Rattle.std.specs.Prelude.{◌≡◌, length};
+ghost use Rattle.std.specs.Prelude.{◌≡◌, ◌<◌, length};
 ghost use Rattle.rules.specs.Bytes.{over};
 ghost use Rattle.rules.specs.Refusals.{told};
 ghost use Rattle.rules.specs.Refusal.{limits};
@@ -56,7 +56,8 @@ fn transcribe_with_room<const ROOM: usize>(
     new: &[u8],
     transcript: &mut [u8],
 ) -> Result<Option<Transcribed>, Refusal>
-    requires { HasRoom limits.longest (letters_by asks.form letters.now) ROOM }
+    requires room { HasRoom limits.longest (letters_by asks.form letters.now) ROOM }
+    requires room_bound { ROOM < 65536 }
     ensures value { told result ≡ (edited limits (reference_of (letters_by asks.form letters.now) asks.cds asks.e) (asked asks.edit new.now) (length transcript.old)).answer }
     ensures transcript_after { transcript.new ≡ over (edited limits (reference_of (letters_by asks.form letters.now) asks.cds asks.e) (asked asks.edit new.now) (length transcript.old)).transcript transcript.old }
 {
@@ -65,6 +66,7 @@ fn transcribe_with_room<const ROOM: usize>(
 }
 
 // The altered transcript of an edit of a reference: refusals 1 to 11, None for Unknown, or what the buffer holds.
+#[tactic(auto, unfolding(rules::specs::Translation::residue_count))]
 pub fn build_transcript(
     letters: &[u8],
     asks: Question,

@@ -1,5 +1,5 @@
 // "Refusal numbers": what an edit of a reference is answered, and what is written to the three buffers.
-ghost use Rattle.std.specs.Prelude.{◌≡◌, length};
+ghost use Rattle.std.specs.Prelude.{◌≡◌, ◌<◌, length};
 ghost use Rattle.rules.specs.Refusals.{told};
 ghost use Rattle.rules.specs.Refusal.{limits};
 ghost use Rattle.rules.specs.Answer.{unknown_report, outcome, Answers};
@@ -19,6 +19,7 @@ use rules::{
 };
 
 // Zero lengths, no flag, and no codon looked up.
+#[tactic(auto, unfolding(rules::specs::Answer::unknown_report))]
 fn unknown_report() -> Report
     ensures { result ≡ unknown_report }
 {
@@ -165,7 +166,8 @@ fn answer_with_room<const ROOM: usize>(
     reference: &mut [u8],
     altered: &mut [u8],
 ) -> Result<Report, Refusal>
-    requires { HasRoom limits.longest (letters_by asks.form letters.now) ROOM }
+    requires room { HasRoom limits.longest (letters_by asks.form letters.now) ROOM }
+    requires room_bound { ROOM < 65536 }
     ensures { Answers
         (outcome limits (reference_of (letters_by asks.form letters.now) asks.cds asks.e) (asked asks.edit new.now) (room_of transcript.old reference.old altered.old))
         (told result) transcript.old transcript.new reference.old reference.new altered.old altered.new }
@@ -185,6 +187,7 @@ fn answer_with_room<const ROOM: usize>(
 }
 
 // The answer to an edit of a reference: refusals 1 to 12, Unknown, or a report of what the three buffers hold.
+#[tactic(auto, unfolding(rules::specs::Translation::residue_count))]
 pub fn build_altseq(
     letters: &[u8],
     asks: Question,

@@ -38,6 +38,7 @@ fn write_both(
 }
 
 // The end of the codons that an edit touches, of those that are read.
+#[tactic(auto, unfolding(crate::specs::Brief::edge_of))]
 fn edge_of(plan: Plan, start: usize, end: usize) -> usize
     requires { (start ≤ plan.from) × (plan.from + plan.kept ≤ end) × (end ≤ 17179869184) }
     ensures { result ≡ edge_of plan start end }
@@ -58,7 +59,7 @@ fn read_some(
     out: &mut [u8],
 ) -> usize
     requires spans { Spans letters.now known none plan new.now pieces coding.old out.old }
-    requires fact { pieces.start ≡ pieces.end → ⊥ }
+    requires some_read { pieces.start ≡ pieces.end → ⊥ }
     ensures value { result ≡ length (through_stop (folded_translated known.cds.table [] (read_by (carried_by plan letters.now new.now) pieces))) }
     ensures out_after { out.new ≡ over (through_stop (folded_translated known.cds.table [] (read_by (carried_by plan letters.now new.now) pieces))) out.old }
 {
