@@ -4,6 +4,7 @@
 mod writing;
 
 ghost use Rattle.std.specs.Prelude.{◌≡◌, ◌+◌, ◌*◌, ◌≤◌, ◌<◌, length, get_or};
+ghost use Rattle.std.specs.Fn.{FnOnceReturnsAt};
 ghost use Rattle.rules.specs.Letters.{letter_set};
 ghost use Rattle.rules.specs.Codons.{codon};
 ghost use Rattle.rules.specs.Translation.{exception_list, excepted};
@@ -23,12 +24,12 @@ use edits::plans::{Plan, Source};
 use excepted::excepted_at;
 use exceptions::moved_all;
 use letters::letter_set;
-use numbers::least;
 use packed::{prefix_by, size_of, suffix_by};
 use rules::{Exceptions, Form};
 pub use writing::write_stretch;
 
 // The complement of a letter, without a table.
+#[tactic(auto, unfolding(rules::specs::Complement::partner_in, rules::specs::Complement::complement))]
 fn complement_of(b: u8) -> u8
     ensures { result ≡ complement b }
 {
@@ -95,6 +96,7 @@ fn set_at(letters: &[u8], form: Form, plan: Plan, new: &[u8], i: usize) -> usize
 }
 
 // The residue of a codon of the altered transcript, counted from 0 behind `first`, exceptions applied.
+#[tactic(auto, unfolding(rules::specs::Codons::codon))]
 pub fn residue_at(
     letters: &[u8],
     form: Form,
@@ -125,41 +127,31 @@ fn stretch_letters(plan: Plan, at: usize, most: usize) -> usize
 {
     let back = plan.from + plan.kept;
     if at < back {
-        return least(back - at, most);
+        return (back - at).min(most);
     }
     most
 }
 
-// How many first of n letters from a place on are the transcript's own. They are written to a block.
-fn alike_in(
+// What a closure tells of n letters of the altered transcript from a place on, which are written to a block.
+fn told_of_block<F: FnOnce(&[u8]) -> usize>(
     letters: &[u8],
     form: Form,
     plan: Plan,
     new: &[u8],
     at: usize,
     n: usize,
-    block: &mut [u8],
+    tell: F,
 ) -> usize
     requires makes { Makes plan (letters_by form letters.now) new.now }
     requires stretch { Stretch plan at n (length (carried_by plan (letters_by form letters.now) new.now)) }
-    requires n_in_bounds { at + n ≤ length (letters_by form letters.now) }
-    requires block_len { length block.old ≡ n }
-    ensures { result ≡ common_prefix (part at (at + n) (letters_by form letters.now)) (part at (at + n) (carried_by plan (letters_by form letters.now) new.now)) }
-{
-    write_stretch(letters, form, plan, new, at, block);
-    prefix_by(letters, form, at, at + n, &block[..n])
-}
-
-// The same, with room for a block.
-fn alike_letters(letters: &[u8], form: Form, plan: Plan, new: &[u8], at: usize, n: usize) -> usize
-    requires makes { Makes plan (letters_by form letters.now) new.now }
-    requires stretch { Stretch plan at n (length (carried_by plan (letters_by form letters.now) new.now)) }
-    requires n_in_bounds { at + n ≤ length (letters_by form letters.now) }
     requires n_bound { n ≤ 512 }
-    ensures { result ≡ common_prefix (part at (at + n) (letters_by form letters.now)) (part at (at + n) (carried_by plan (letters_by form letters.now) new.now)) }
+    requires callable { F.IsAlwaysCallable tell }
+    ensures { FnOnceReturnsAt F.FnOnce tell (part at (at + n) (carried_by plan (letters_by form letters.now) new.now)) result }
 {
-    let mut block = [0u8; 512];
-    alike_in(letters, form, plan, new, at, n, &mut block[..n])
+    let mut room = [0u8; 512];
+    let block = &mut room[..n];
+    write_stretch(letters, form, plan, new, at, block);
+    tell(block)
 }
 
 // How many first letters an edit leaves: those before it, and those equal behind them, in blocks, the first of them short. The altered transcript
@@ -169,13 +161,15 @@ fn shared_front(letters: &[u8], form: Form, plan: Plan, new: &[u8], made: usize)
     requires made_value { made ≡ length (carried_by plan (letters_by form letters.now) new.now) }
     ensures { result ≡ common_prefix (letters_by form letters.now) (carried_by plan (letters_by form letters.now) new.now) }
 {
-    let n = least(size_of(letters, form), made);
+    let n = size_of(letters, form).min(made);
     let from = plan.from;
     let mut i = from;
     while i < n {
-        let most = least(512, (i - from) * 4 + 16);
-        let step = stretch_letters(plan, i, least(most, n - i));
-        let found = alike_letters(letters, form, plan, new, i, step);
+        let most = ((i - from) * 4 + 16).min(512);
+        let step = stretch_letters(plan, i, most.min(n - i));
+        let found = told_of_block(letters, form, plan, new, i, step, |block| {
+            prefix_by(letters, form, i, i + step, block)
+        });
         if found < step {
             return i + found;
         }
@@ -184,47 +178,7 @@ fn shared_front(letters: &[u8], form: Form, plan: Plan, new: &[u8], made: usize)
     n
 }
 
-// How many last of n letters from a place on are the transcript's last from another place on. They are written to a block.
-fn alike_back_in(
-    letters: &[u8],
-    form: Form,
-    plan: Plan,
-    new: &[u8],
-    at: usize,
-    old: usize,
-    n: usize,
-    block: &mut [u8],
-) -> usize
-    requires makes { Makes plan (letters_by form letters.now) new.now }
-    requires stretch { Stretch plan at n (length (carried_by plan (letters_by form letters.now) new.now)) }
-    requires n_in_bounds { old + n ≤ length (letters_by form letters.now) }
-    requires block_len { length block.old ≡ n }
-    ensures { result ≡ common_suffix (part old (old + n) (letters_by form letters.now)) (part at (at + n) (carried_by plan (letters_by form letters.now) new.now)) }
-{
-    write_stretch(letters, form, plan, new, at, block);
-    suffix_by(letters, form, old, old + n, &block[..n])
-}
-
-// The same, with room for a block.
-fn alike_back(
-    letters: &[u8],
-    form: Form,
-    plan: Plan,
-    new: &[u8],
-    at: usize,
-    old: usize,
-    n: usize,
-) -> usize
-    requires makes { Makes plan (letters_by form letters.now) new.now }
-    requires stretch { Stretch plan at n (length (carried_by plan (letters_by form letters.now) new.now)) }
-    requires n_in_bounds { old + n ≤ length (letters_by form letters.now) }
-    requires n_bound { n ≤ 512 }
-    ensures { result ≡ common_suffix (part old (old + n) (letters_by form letters.now)) (part at (at + n) (carried_by plan (letters_by form letters.now) new.now)) }
-{
-    let mut block = [0u8; 512];
-    alike_back_in(letters, form, plan, new, at, old, n, &mut block[..n])
-}
-
+// Kept: a loop beside that of `shared_front`, since its blocks are placed by two ends and need no end of what goes in: one loop over both takes a closure with clauses as long as the loop.
 // How many last letters it leaves behind the prefix: those behind the edit, and those equal before them, in blocks too, all of what goes in.
 fn shared_back(
     letters: &[u8],
@@ -240,14 +194,17 @@ fn shared_back(
     ensures { result ≡ suffix_behind prefix (letters_by form letters.now) (carried_by plan (letters_by form letters.now) new.now) }
 {
     let size = size_of(letters, form);
-    let n = least(size, made) - prefix;
-    let first = least(size - plan.to, n);
+    let n = size.min(made) - prefix;
+    let first = (size - plan.to).min(n);
     let mut i = first;
     while i < n {
-        let most = least(512, (i - first) * 4 + 16);
-        let step = least(most, n - i);
+        let most = ((i - first) * 4 + 16).min(512);
+        let step = most.min(n - i);
         let end = i + step;
-        let found = alike_back(letters, form, plan, new, made - end, size - end, step);
+        let old = size - end;
+        let found = told_of_block(letters, form, plan, new, made - end, step, |block| {
+            suffix_by(letters, form, old, old + step, block)
+        });
         if found < step {
             return i + found;
         }

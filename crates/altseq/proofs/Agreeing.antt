@@ -1,6 +1,6 @@
 -- The altered transcript alone and the whole answer agree: on 1 to 11, Unknown, the transcript and the flag. Only 12 is the whole answer's alone.
 -- Assumes nothing.
-use Rattle.std.specs.Prelude.{if◌then◌else◌}
+use Rattle.std.specs.Prelude.{None, Some, if◌then◌else◌}
 use mathlib.Core.Path.{◌≡◌, refl}
 use mathlib.Core.Bool.{Bool, true, false, ◌||◌}
 use mathlib.Core.List.{List}
@@ -9,8 +9,7 @@ use native.Mathlib.Omega.{arith}
 use lib.Dec.{ltb}
 use Rattle.rules.specs.declared.Limits.{Limits}
 use Rattle.rules.specs.declared.Report.{Report}
-use Rattle.rules.specs.declared.Answer.TheVariants as answer
-use Rattle.rules.specs.Bytes.{first_number}
+use Rattle.rules.specs.Bytes.{given, refused, first_number}
 use Rattle.rules.specs.Translation.{residue_count}
 use Rattle.rules.specs.Reference.{Reference, cds_size}
 use Rattle.rules.specs.Edit.{Asked}
@@ -18,18 +17,18 @@ use Rattle.rules.specs.Altered.{altered_transcript, altered_length, frameshift}
 use Rattle.rules.specs.Record.{is_unknown}
 use Rattle.rules.specs.Refusal.{refusal, Room, room_tests, room_refusal}
 use Rattle.rules.specs.Answer.{Outcome, writes_nothing, unknown_report, full_report, writes_all, outcome_by, outcome}
-use Rattle.altseq.specs.declared.alone.Transcribed.TheVariants.{Refused, Unknown, Written}
+use Rattle.altseq.specs.declared.alone.Transcribed.{Transcribed}
 use Rattle.altseq.specs.Transcribing.{Edited, written, edited_by, edited}
 
 -- what the whole answer is where a transcript t of n bases is written, with the flag
 pub data Beside (o : Outcome) (n : ℕ) (flag : Bool) (t : List ℕ) : Type 0 where
-  no_room : o.answer ≡ answer.Refused 12 → Beside o n flag t
-  reported : (p : Report) → o.answer ≡ answer.Reported p → p.transcript ≡ n → p.frameshift ≡ flag → o.transcript ≡ t → Beside o n flag t
+  no_room : o.answer ≡ refused 12 → Beside o n flag t
+  reported : (p : Report) → o.answer ≡ given p → p.transcript ≡ n → p.frameshift ≡ flag → o.transcript ≡ t → Beside o n flag t
 
 pub record Agree (o : Outcome) (x : Edited) : Type 0 where
-  pub refused : (n : ℕ) → x.answer ≡ Refused n → o.answer ≡ answer.Refused n
-  pub unknown : x.answer ≡ Unknown → o.answer ≡ answer.Reported unknown_report
-  pub transcribed : (n : ℕ) (flag : Bool) → x.answer ≡ Written n flag → Beside o n flag x.transcript
+  pub refused : (n : ℕ) → x.answer ≡ refused n → o.answer ≡ refused n
+  pub unknown : x.answer ≡ given None → o.answer ≡ given unknown_report
+  pub transcribed : (n : ℕ) (flag : Bool) → x.answer ≡ given (Some (record { length = n; frameshift = flag })) → Beside o n flag x.transcript
 
 never : {A : Type 0} → ◌≡◌ {A = ℕ} 0 1 → A
 never h = absurd (omega arith)

@@ -13,9 +13,7 @@ use Rattle.rules.specs.declared.Edit.{Edit}
 use Rattle.rules.specs.declared.Exceptions.{Exceptions}
 use Rattle.rules.specs.declared.Limits.{Limits}
 use Rattle.rules.specs.declared.Report.{Report}
-use Rattle.rules.specs.declared.Answer.{Answer}
-use Rattle.rules.specs.declared.Answer.TheVariants.{Reported}
-use Rattle.rules.specs.Bytes.{over}
+use Rattle.rules.specs.Bytes.{Result, given, over}
 use Rattle.rules.specs.Reference.{Reference, reference_protein}
 use Rattle.rules.specs.Edit.{Asked}
 use Rattle.rules.specs.Altered.{frameshift}
@@ -34,7 +32,7 @@ abbrev pub Replays : Report → Change → List ℕ → List ℕ → Type 0
 Replays p c reference altered = Demand p.frameshift (take p.reference reference) (take p.altered altered) c
 
 -- a change is reported by an answer that writes all
-by_change : (a k : ℕ) (u : Bool) (o : Outcome) (p q : Report) (c : Change) → o.answer ≡ Reported q → (outcome_by a u k o).answer ≡ Reported p → p.found ≡ Changed c
+by_change : (a k : ℕ) (u : Bool) (o : Outcome) (p q : Report) (c : Change) → o.answer ≡ given q → (outcome_by a u k o).answer ≡ given p → p.found ≡ Changed c
     → (outcome_by a u k o ≡ o) × (p ≡ q)
 unfolding outcome_by writes_nothing unknown_report
 by_change (suc a) k u o p q c f h x = let z : ◌≡◌ {A = ℕ} 0 1 = cc in absurd (omega arith)
@@ -43,7 +41,7 @@ by_change zero (suc k) false o p q c f h x = let z : ◌≡◌ {A = ℕ} 0 1 = c
 by_change zero zero false o p q c f h x = (refl, cc)
 
 module _ (m : Limits) (r : Reference) (e : Asked) (room : Room) (p : Report) (c : Change) (t t' q q' s s' : List ℕ) where
-  pub demanded : Answers (outcome m r e room) (Reported p) t t' q q' s s' → p.found ≡ Changed c → Replays p c q' s'
+  pub demanded : Answers (outcome m r e room) (given p) t t' q q' s s' → p.found ≡ Changed c → Replays p c q' s'
   unfolding outcome writes_all full_report
   demanded x h =
       let both = by_change (refusal m r e) (room_refusal r e room) (is_unknown r e) (writes_all r e) p (full_report r e) c refl (sym x.says) h in
@@ -55,7 +53,7 @@ module _ (m : Limits) (r : Reference) (e : Asked) (room : Room) (p : Report) (c 
       rw (in_r, in_a, flag) (demand r e c (sym (ap (λ (p : Report). p.found) both.1) ∙ h))
 
 -- two answers to one call, with the same buffers lent, are the same, and so is every byte that they leave
-pub single_answer : (m : Limits) (letters : List ℕ) (c : Cds) (x : Exceptions) (edit : Edit) (new : List ℕ) (a₁ a₂ : Answer) (t t₁ t₂ p p₁ p₂ q q₁ q₂ : List ℕ)
+pub single_answer : (m : Limits) (letters : List ℕ) (c : Cds) (x : Exceptions) (edit : Edit) (new : List ℕ) (a₁ a₂ : Result Report) (t t₁ t₂ p p₁ p₂ q q₁ q₂ : List ℕ)
     → Answers (outcome m (reference_of letters c x) (asked edit new) (room_of t p q)) a₁ t t₁ p p₁ q q₁
     → Answers (outcome m (reference_of letters c x) (asked edit new) (room_of t p q)) a₂ t t₂ p p₂ q q₂ → Alike a₁ a₂ t₁ t₂ p₁ p₂ q₁ q₂
 single_answer m letters c x edit new a₁ a₂ t t₁ t₂ p p₁ p₂ q q₁ q₂ h k =

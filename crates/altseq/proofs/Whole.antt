@@ -1,5 +1,6 @@
 -- Laws of the whole answer to an edit of a checked reference, from what was decided with the room that there is.
 -- Assumes nothing.
+use Rattle.std.specs.Prelude.{Option, None, Some}
 use mathlib.Core.Path.{◌≡◌, refl, sym, ap, subst, ◌∙◌}
 use mathlib.Core.Bool.{◌||◌}
 use mathlib.Core.List.{List}
@@ -13,9 +14,7 @@ use Rattle.rules.specs.declared.Cds.{Cds}
 use Rattle.rules.specs.declared.Edit.{Edit}
 use Rattle.rules.specs.declared.Exceptions.{Exceptions}
 use Rattle.rules.specs.declared.Report.{Report}
-use Rattle.rules.specs.declared.Answer.{Answer}
-use Rattle.rules.specs.declared.Answer.TheVariants as answer
-use Rattle.rules.specs.Bytes.{over}
+use Rattle.rules.specs.Bytes.{Result, given, refused, over}
 use Rattle.rules.specs.Translation.{residue_count}
 use Rattle.rules.specs.Reference.{Reference, cds_size, reference_protein}
 use Rattle.rules.specs.Edit.{Asked}
@@ -27,8 +26,6 @@ use Rattle.rules.proofs.Reference.{protein_read}
 use Rattle.reference.specs.declared.Known.{Known}
 use Rattle.reference.specs.Known.{Knows}
 use Rattle.edits.specs.declared.plans.Plan.{Plan}
-use Rattle.edits.specs.declared.decision.Decision.{Decision}
-use Rattle.edits.specs.declared.decision.Decision.TheVariants as decision
 use Rattle.edits.specs.Decisions.{decision_of}
 use Rattle.altseq.specs.Carried.{report_by, Carries}
 use Rattle.altseq.specs.Decided.{room_by, decided_in, decided_outcome, reference_in, Copies, AnswersBeside}
@@ -57,16 +54,16 @@ room_for c n room h =
 abbrev pub room_with : List ℕ → ℕ → List ℕ → Room
 room_with t room q = record { transcript = length t; reference = room; altered = length q }
 
-module _ (s : List ℕ) (k : Known) (e : Exceptions) (protein : List ℕ) (known : Knows limits s k e protein) (edit : Edit) (new t : List ℕ) (room : ℕ) (q : List ℕ) (d : Decision)
+module _ (s : List ℕ) (k : Known) (e : Exceptions) (protein : List ℕ) (known : Knows limits s k e protein) (edit : Edit) (new t : List ℕ) (room : ℕ) (q : List ℕ) (d : Result (Option Plan))
     (is : d ≡ decided_in k.several (bare s k.cds) (asked edit new) (room_with t room q)) where
   abbrev r : Reference
   r = reference_of s k.cds e
 
-  pub left : (x : Plan) → d ≡ decision.Goes x → (decision_of limits.most k.several (bare s k.cds) (asked edit new) ≡ decision.Goes x) × (room_by k.cds x.length (room_with t room q) ≡ 0)
+  pub left : (x : Plan) → d ≡ given (Some x) → (decision_of limits.most k.several (bare s k.cds) (asked edit new) ≡ given (Some x)) × (room_by k.cds x.length (room_with t room q) ≡ 0)
   unfolding decided_in
   left x h = room_left k.cds (room_with t room q) (decision_of limits.most k.several (bare s k.cds) (asked edit new)) x (sym is ∙ h)
 
-  pub carries : (x : Plan) → d ≡ decision.Goes x → Carries s k e protein x new t q
+  pub carries : (x : Plan) → d ≡ given (Some x) → Carries s k e protein x new t q
   carries x h =
       let goes = (left x h).0 in
       let fits = room_for k.cds x.length (room_with t room q) (left x h).1 in
@@ -85,38 +82,38 @@ module _ (s : List ℕ) (k : Known) (e : Exceptions) (protein : List ℕ) (known
   pub protein-length : length (reference_protein r) ≡ residue_count (cds_size r)
   protein-length = (protein_read limits.longest r known.accepted).counted
 
-  reference-is : (x : Answer) → x ≡ (decided_outcome r d new).answer → reference_in x protein ≡ (decided_outcome r d new).reference
+  reference-is : (x : Result Report) → x ≡ (decided_outcome r d new).answer → reference_in x protein ≡ (decided_outcome r d new).reference
   unfolding reference_in decided_outcome writes_nothing unknown_report report_by
   reference-is x h = rw h (by d)
     where
-      by : (d : Decision) → reference_in (decided_outcome r d new).answer protein ≡ (decided_outcome r d new).reference
-      by (decision.Refused n) = refl
-      by decision.Unknown = refl
-      by (decision.Goes x) = rw known.read (take-length (reference_protein r))
+      by : (d : Result (Option Plan)) → reference_in (decided_outcome r d new).answer protein ≡ (decided_outcome r d new).reference
+      by (refused n) = refl
+      by (given None) = refl
+      by (given (Some x)) = rw known.read (take-length (reference_protein r))
 
-  pub copies : (x : Answer) → x ≡ (decided_outcome r d new).answer → Copies x protein room
+  pub copies : (x : Result Report) → x ≡ (decided_outcome r d new).answer → Copies x protein room
   unfolding decided_outcome writes_nothing unknown_report report_by cds_size
   copies x h = by d refl
     where
-      by : (f : Decision) → d ≡ f → Copies x protein room
-      by (decision.Refused n) g = record { there = λ y w. absurd (let z : ◌≡◌ {A = ℕ} 0 1 = cc (rw g at h) in omega arith); has_room = λ y w. absurd (let z : ◌≡◌ {A = ℕ} 0 1 = cc (rw g at h) in omega arith) }
-      by decision.Unknown g =
+      by : (f : Result (Option Plan)) → d ≡ f → Copies x protein room
+      by (refused n) g = record { there = λ y w. absurd (let z : ◌≡◌ {A = ℕ} 0 1 = cc (rw g at h) in omega arith); has_room = λ y w. absurd (let z : ◌≡◌ {A = ℕ} 0 1 = cc (rw g at h) in omega arith) }
+      by (given None) g =
           record {
             there = λ y w. let u : y ≡ unknown_report = cc (rw g at h) in omega (arith, ap (λ (y : Report). y.reference) u);
             has_room = λ y w. let u : y ≡ unknown_report = cc (rw g at h) in omega (arith, ap (λ (y : Report). y.reference) u);
           }
-      by (decision.Goes f) g =
+      by (given (Some f)) g =
           let fits = room_for k.cds f.length (room_with t room q) (left f g).1 in
           record {
             there = λ y w. let u : y ≡ report_by r f new = cc (rw g at h) in omega (arith, ap (λ (y : Report). y.reference) u, ap length known.read);
             has_room = λ y w. let u : y ≡ report_by r f new = cc (rw g at h) in omega (arith, ap (λ (y : Report). y.reference) u, protein-length, fits.reference);
           }
 
-  pub answers-beside : (x : Answer) (t' q' : List ℕ) → x ≡ (decided_outcome r d new).answer → t' ≡ over (decided_outcome r d new).transcript t
+  pub answers-beside : (x : Result Report) (t' q' : List ℕ) → x ≡ (decided_outcome r d new).answer → t' ≡ over (decided_outcome r d new).transcript t
       → q' ≡ over (decided_outcome r d new).altered q → AnswersBeside (outcome limits r (asked edit new) (room_with t room q)) x protein room t t' q q'
   unfolding decided_in
   answers-beside x t' q' h ht hq =
-      let all : outcome limits r (asked edit new) (room_with t room q) ≡ decided_outcome r d new = decided-is limits s k e protein known (asked edit new) (room_with t room q) ∙ ap (λ (d : Decision). decided_outcome r d new) (sym is) in
+      let all : outcome limits r (asked edit new) (room_with t room q) ≡ decided_outcome r d new = decided-is limits s k e protein known (asked edit new) (room_with t room q) ∙ ap (λ (d : Result (Option Plan)). decided_outcome r d new) (sym is) in
       subst (λ (o : Outcome). AnswersBeside o x protein room t t' q q') (sym all)
       (record {
         says = h;
@@ -127,8 +124,8 @@ module _ (s : List ℕ) (k : Known) (e : Exceptions) (protein : List ℕ) (known
       })
 
 -- R stands in the whole room that it was read into
-module _ (o : Outcome) (x : Answer) (k : ℕ) (out : List ℕ) (room : ℕ) (t t' q q' : List ℕ) (h : AnswersBeside o x (take k out) room t t' q q') where
-  reads : (p : Report) → x ≡ answer.Reported p → (p.reference ≤ k) × (p.reference ≤ length out)
+module _ (o : Outcome) (x : Result Report) (k : ℕ) (out : List ℕ) (room : ℕ) (t t' q q' : List ℕ) (h : AnswersBeside o x (take k out) room t t' q q') where
+  reads : (p : Report) → x ≡ given p → (p.reference ≤ k) × (p.reference ≤ length out)
   reads p w =
       let there = h.copies.there p w in
       let long = length-take k out in
@@ -138,9 +135,9 @@ module _ (o : Outcome) (x : Answer) (k : ℕ) (out : List ℕ) (room : ℕ) (t t
   unfolding reference_in
   stands = by x refl
     where
-      by : (y : Answer) → x ≡ y → reference_in y out ≡ reference_in y (take k out)
-      by (answer.Refused n) w = refl
-      by (answer.Reported p) w = sym (take-take p.reference k out (reads p w).0)
+      by : (y : Result Report) → x ≡ y → reference_in y out ≡ reference_in y (take k out)
+      by (refused n) w = refl
+      by (given p) w = sym (take-take p.reference k out (reads p w).0)
 
   pub beside-whole : AnswersBeside o x out room t t' q q'
   beside-whole =
@@ -153,7 +150,7 @@ module _ (o : Outcome) (x : Answer) (k : ℕ) (out : List ℕ) (room : ℕ) (t t
       }
 
 -- once R is copied
-pub beside_copied : (o : Outcome) (x : Answer) (protein : List ℕ) (room : ℕ) (t t' p p' q q' : List ℕ) → AnswersBeside o x protein room t t' q q'
+pub beside_copied : (o : Outcome) (x : Result Report) (protein : List ℕ) (room : ℕ) (t t' p p' q q' : List ℕ) → AnswersBeside o x protein room t t' q q'
     → p' ≡ over (reference_in x protein) p → Answers o x t t' p p' q q'
 beside_copied o x protein room t t' p p' q q' h hp =
     record {
@@ -164,6 +161,6 @@ beside_copied o x protein room t t' p p' q q' h hp =
     }
 
 -- the answer for a CDS that is known as another
-pub beside_cds : (s : List ℕ) (c d : Cds) (e : Exceptions) (a : Asked) (lent : Room) (x : Answer) (protein : List ℕ) (room : ℕ) (t t' q q' : List ℕ) → c ≡ d
+pub beside_cds : (s : List ℕ) (c d : Cds) (e : Exceptions) (a : Asked) (lent : Room) (x : Result Report) (protein : List ℕ) (room : ℕ) (t t' q q' : List ℕ) → c ≡ d
     → AnswersBeside (outcome limits (reference_of s c e) a lent) x protein room t t' q q' → AnswersBeside (outcome limits (reference_of s d e) a lent) x protein room t t' q q'
 beside_cds s c d e a lent x protein room t t' q q' is h = subst (λ (c : Cds). AnswersBeside (outcome limits (reference_of s c e) a lent) x protein room t t' q q') is h

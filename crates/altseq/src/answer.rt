@@ -1,26 +1,25 @@
 // "Refusal numbers": what an edit of a reference is answered, and what is written to the three buffers.
-ghost use Rattle.std.specs.Prelude.{◌≡◌, ◌≤◌, length};
-ghost use Rattle.rules.specs.Bytes.{over};
+ghost use Rattle.std.specs.Prelude.{◌≡◌, ◌<◌, length};
+ghost use Rattle.rules.specs.Refusals.{told};
 ghost use Rattle.rules.specs.Refusal.{limits};
 ghost use Rattle.rules.specs.Answer.{unknown_report, outcome, Answers};
 ghost use Rattle.rules.specs.Packed.{letters_by};
 ghost use Rattle.rules.specs.Views.{bare, asked, reference_of, room_of};
 ghost use Rattle.reference.specs.Known.{HasRoom, Knows};
-ghost use Rattle.edits.specs.declared.plans.Plan.{Plan};
-ghost use Rattle.altseq.specs.Carried.{Carries};
-ghost use Rattle.altseq.specs.Decided.{decided_in, decided_outcome, Accepts, reference_in, Copies, AnswersBeside};
+ghost use Rattle.altseq.specs.Decided.{decided_in, Accepts, AnswersBeside};
 
 use crate::carry::carry_out;
-use crate::room::with_room;
-use edits::decision::{Decision, decide};
+use edits::decision::decide;
+use edits::plans::{Plan, room_refusal};
 use packed::size_of;
-use reference::{Checked, Known, check_reference};
+use reference::{Known, check_reference};
 use rules::{
-    Answer, Edit, Exceptions, LONGEST, LONGEST_PROTEIN, MOST, Question, Record, Report, SHORT,
+    Edit, Exceptions, LONGEST, LONGEST_PROTEIN, MOST, Question, Record, Refusal, Report, SHORT,
     SHORT_PROTEIN, SMALL, SMALL_PROTEIN,
 };
 
 // Zero lengths, no flag, and no codon looked up.
+#[tactic(auto, unfolding(rules::specs::Answer::unknown_report))]
 fn unknown_report() -> Report
     ensures { result ≡ unknown_report }
 {
@@ -34,46 +33,8 @@ fn unknown_report() -> Report
     }
 }
 
-// What was decided is answered: the altered transcript and A are written if the edit goes.
-fn answer_decided(
-    letters: &[u8],
-    known: Known,
-    e: Exceptions,
-    protein: &[u8],
-    decision: Decision,
-    new: &[u8],
-    transcript: &mut [u8],
-    altered: &mut [u8],
-) -> Answer
-    requires { (p : Plan) → decision ≡ Decision.Goes p → Carries (letters_by known.form letters.now) known e protein.now p new.now transcript.old altered.old }
-    ensures value { result ≡ (decided_outcome (reference_of (letters_by known.form letters.now) known.cds e) decision new.now).answer }
-    ensures transcript_after { transcript.new ≡ over (decided_outcome (reference_of (letters_by known.form letters.now) known.cds e) decision new.now).transcript transcript.old }
-    ensures altered_after { altered.new ≡ over (decided_outcome (reference_of (letters_by known.form letters.now) known.cds e) decision new.now).altered altered.old }
-{
-    match decision {
-        Decision::Refused(n) => Answer::Refused(n),
-        Decision::Unknown => Answer::Reported(unknown_report()),
-        Decision::Goes(plan) => Answer::Reported(carry_out(
-            letters, known, e, protein, plan, new, transcript, altered,
-        )),
-    }
-}
-
-// Copies as much of R as an answer reports.
-fn copy_reference(answer: Answer, protein: &[u8], reference: &mut [u8])
-    requires { Copies answer protein.now (length reference.old) }
-    ensures { reference.new ≡ over (reference_in answer protein.now) reference.old }
-{
-    match answer {
-        Answer::Refused(_) => {}
-        Answer::Reported(report) => {
-            let n = report.reference;
-            bytewise::copy(&protein[..n], reference);
-        }
-    }
-}
-
-// What is decided of an edit of a checked reference where the three buffers have so much room.
+// What is decided of an edit of a checked reference where the three buffers have so much room: refusals 7 to 12, None for Unknown, or what the
+// edit does.
 pub fn decide_in(
     letters: &[u8],
     known: Known,
@@ -82,12 +43,15 @@ pub fn decide_in(
     transcript: usize,
     reference: usize,
     altered: usize,
-) -> Decision
+) -> Result<Option<Plan>, Refusal>
     requires { Accepts (letters_by known.form letters.now) known }
-    ensures { result ≡ decided_in known.several (bare (letters_by known.form letters.now) known.cds) (asked edit new.now) (record { transcript = transcript; reference = reference; altered = altered }) }
+    ensures { told result ≡ decided_in known.several (bare (letters_by known.form letters.now) known.cds) (asked edit new.now) (record { transcript = transcript; reference = reference; altered = altered }) }
 {
-    let decided = decide(letters, known, MOST, edit, new);
-    with_room(decided, known.cds, transcript, reference, altered)
+    let Some(plan) = decide(letters, known, MOST, edit, new)? else {
+        return Ok(None);
+    };
+    room_refusal(known.cds, plan.length, transcript, reference, altered)?;
+    Ok(Some(plan))
 }
 
 // An edit of a reference that was checked: what is known of it, its exceptions, and the edit. The letters, R and the new bases are lent beside
@@ -109,31 +73,29 @@ fn answer_beside(
     transcript: &mut [u8],
     reference: usize,
     altered: &mut [u8],
-) -> Answer
+) -> Result<Report, Refusal>
     requires { Knows limits (letters_by ready.known.form letters.now) ready.known ready.e protein.now }
     ensures { AnswersBeside
         (outcome limits (reference_of (letters_by ready.known.form letters.now) ready.known.cds ready.e) (asked ready.edit new.now) (record { transcript = length transcript.entry.now; reference = reference; altered = length altered.old }))
-        result protein.now reference transcript.entry.now transcript.exit.now altered.old altered.new }
+        (told result) protein.now reference transcript.entry.now transcript.exit.now altered.old altered.new }
 {
-    let decision = decide_in(
+    let known = ready.known;
+    let room = transcript.len();
+    let Some(plan) = decide_in(
         letters,
-        ready.known,
+        known,
         ready.edit,
         new,
-        transcript.len(),
+        room,
         reference,
         altered.len(),
-    );
-    answer_decided(
-        letters,
-        ready.known,
-        ready.e,
-        protein,
-        decision,
-        new,
-        transcript,
-        altered,
-    )
+    )?
+    else {
+        return Ok(unknown_report());
+    };
+    Ok(carry_out(
+        letters, known, ready.e, protein, plan, new, transcript, altered,
+    ))
 }
 
 // The answer to an edit of a checked reference: refusals 7 to 12, Unknown, or a report of what the three buffers hold.
@@ -145,13 +107,13 @@ pub fn answer_known(
     transcript: &mut [u8],
     reference: &mut [u8],
     altered: &mut [u8],
-) -> Answer
+) -> Result<Report, Refusal>
     requires { Knows limits (letters_by ready.known.form letters.now) ready.known ready.e protein.now }
     ensures { Answers
         (outcome limits (reference_of (letters_by ready.known.form letters.now) ready.known.cds ready.e) (asked ready.edit new.now) (room_of transcript.old reference.old altered.old))
-        result transcript.old transcript.new reference.old reference.new altered.old altered.new }
+        (told result) transcript.old transcript.new reference.old reference.new altered.old altered.new }
 {
-    let answer = answer_beside(
+    let report = answer_beside(
         letters,
         ready,
         protein,
@@ -159,9 +121,9 @@ pub fn answer_known(
         transcript,
         reference.len(),
         altered,
-    );
-    copy_reference(answer, protein, reference);
-    answer
+    )?;
+    bytewise::copy(&protein[..report.reference], reference);
+    Ok(report)
 }
 
 // The answer to an edit of a reference, with room for R, which stays there: so it can be copied from where it is known to lie apart.
@@ -173,48 +135,45 @@ fn answer_in(
     transcript: &mut [u8],
     reference: usize,
     altered: &mut [u8],
-) -> Answer
+) -> Result<Report, Refusal>
     requires { HasRoom limits.longest (letters_by asks.form letters.now) (length protein.old) }
     ensures { AnswersBeside
         (outcome limits (reference_of (letters_by asks.form letters.now) asks.cds asks.e) (asked asks.edit new.now) (record { transcript = length transcript.entry.now; reference = reference; altered = length altered.old }))
-        result protein.new reference transcript.entry.now transcript.exit.now altered.old altered.new }
+        (told result) protein.new reference transcript.entry.now transcript.exit.now altered.old altered.new }
 {
-    let form = asks.form;
-    match check_reference(letters, form, asks.cds, asks.e, LONGEST, protein) {
-        Checked::Refused(n) => Answer::Refused(n),
-        Checked::Known(known) => {
-            let residues = known.residues;
-            let e = asks.e;
-            let edit = asks.edit;
-            let ready = Ready { known, e, edit };
-            answer_beside(
-                letters,
-                ready,
-                &protein[..residues],
-                new,
-                transcript,
-                reference,
-                altered,
-            )
-        }
-    }
+    let e = asks.e;
+    let known = check_reference(letters, asks.form, asks.cds, e, LONGEST, protein)?;
+    let edit = asks.edit;
+    let ready = Ready { known, e, edit };
+    answer_beside(
+        letters,
+        ready,
+        &protein[..known.residues],
+        new,
+        transcript,
+        reference,
+        altered,
+    )
 }
 
-// The answer to an edit of a reference of any length.
-fn answer_long(
+// The answer to an edit of a reference, with as much room for R as it wants: the room lies in a function of its own, so that a short reference
+// doesn't pay for clearing the room of a long one.
+fn answer_with_room<const ROOM: usize>(
     letters: &[u8],
     asks: Question,
     new: &[u8],
     transcript: &mut [u8],
     reference: &mut [u8],
     altered: &mut [u8],
-) -> Answer
+) -> Result<Report, Refusal>
+    requires room { HasRoom limits.longest (letters_by asks.form letters.now) ROOM }
+    requires room_bound { ROOM < 65536 }
     ensures { Answers
         (outcome limits (reference_of (letters_by asks.form letters.now) asks.cds asks.e) (asked asks.edit new.now) (room_of transcript.old reference.old altered.old))
-        result transcript.old transcript.new reference.old reference.new altered.old altered.new }
+        (told result) transcript.old transcript.new reference.old reference.new altered.old altered.new }
 {
-    let mut protein = [0u8; LONGEST_PROTEIN];
-    let answer = answer_in(
+    let mut protein = [0u8; ROOM];
+    let report = answer_in(
         letters,
         asks,
         new,
@@ -222,41 +181,13 @@ fn answer_long(
         transcript,
         reference.len(),
         altered,
-    );
-    copy_reference(answer, &protein, reference);
-    answer
+    )?;
+    bytewise::copy(&protein[..report.reference], reference);
+    Ok(report)
 }
 
-// The answer to an edit of a reference of at most SHORT letters.
-fn answer_short(
-    letters: &[u8],
-    asks: Question,
-    new: &[u8],
-    transcript: &mut [u8],
-    reference: &mut [u8],
-    altered: &mut [u8],
-) -> Answer
-    requires { length (letters_by asks.form letters.now) ≤ 16384 }
-    ensures { Answers
-        (outcome limits (reference_of (letters_by asks.form letters.now) asks.cds asks.e) (asked asks.edit new.now) (room_of transcript.old reference.old altered.old))
-        result transcript.old transcript.new reference.old reference.new altered.old altered.new }
-{
-    let mut protein = [0u8; SHORT_PROTEIN];
-    let answer = answer_in(
-        letters,
-        asks,
-        new,
-        &mut protein,
-        transcript,
-        reference.len(),
-        altered,
-    );
-    copy_reference(answer, &protein, reference);
-    answer
-}
-
-// The answer to an edit of a reference: refusals 1 to 12, Unknown, or a report of what the three buffers hold. A short reference doesn't pay
-// for clearing the room of a long one.
+// The answer to an edit of a reference: refusals 1 to 12, Unknown, or a report of what the three buffers hold.
+#[tactic(auto, unfolding(rules::specs::Translation::residue_count))]
 pub fn build_altseq(
     letters: &[u8],
     asks: Question,
@@ -264,29 +195,21 @@ pub fn build_altseq(
     transcript: &mut [u8],
     reference: &mut [u8],
     altered: &mut [u8],
-) -> Answer
+) -> Result<Report, Refusal>
     ensures { Answers
         (outcome limits (reference_of (letters_by asks.form letters.now) asks.cds asks.e) (asked asks.edit new.now) (room_of transcript.old reference.old altered.old))
-        result transcript.old transcript.new reference.old reference.new altered.old altered.new }
+        (told result) transcript.old transcript.new reference.old reference.new altered.old altered.new }
 {
-    let form = asks.form;
-    let size = size_of(letters, form);
+    let size = size_of(letters, asks.form);
     if SHORT < size {
-        return answer_long(letters, asks, new, transcript, reference, altered);
+        return answer_with_room::<LONGEST_PROTEIN>(
+            letters, asks, new, transcript, reference, altered,
+        );
     }
     if SMALL < size {
-        return answer_short(letters, asks, new, transcript, reference, altered);
+        return answer_with_room::<SHORT_PROTEIN>(
+            letters, asks, new, transcript, reference, altered,
+        );
     }
-    let mut protein = [0u8; SMALL_PROTEIN];
-    let answer = answer_in(
-        letters,
-        asks,
-        new,
-        &mut protein,
-        transcript,
-        reference.len(),
-        altered,
-    );
-    copy_reference(answer, &protein, reference);
-    answer
+    answer_with_room::<SMALL_PROTEIN>(letters, asks, new, transcript, reference, altered)
 }

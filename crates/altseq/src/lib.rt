@@ -5,7 +5,6 @@
 mod alone;
 mod answer;
 mod carry;
-mod room;
 
 pub use alone::{Transcribed, build_transcript};
 pub use answer::{Ready, answer_known, build_altseq, decide_in};

@@ -30,20 +30,6 @@ use Rattle.altered.specs.Over.{Stretch}
 use Rattle.altered.proofs.Stretches.{part_at}
 use Rattle.blocks.specs.Blocks.{ReadsAs, Unexcepted}
 
--- a block once it is written, as long as the codons of some residues
-pub record Written (p : Plan) (s new own e : List ℕ) (at : ℕ) : Type 0 where
-  pub long : length e ≡ length own * 3
-  pub block : take (length e) e ≡ part at (at + length own * 3) (carried_by p s new)
-
-pub written : (p : Plan) (s new own d e : List ℕ) (at : ℕ) → Stretch p at (length own * 3) (length (carried_by p s new)) → length d ≡ length own * 3 → e ≡ part at (at + length d) (carried_by p s new) → Written p s new own e at
-written p s new own d e at x size is =
-    let made = carried_by p s new in
-    let same_size : e ≡ part at (at + length own * 3) made = is ∙ ap (λ (n : ℕ). part at (at + n) made) size in
-    record {
-      long = ap length same_size ∙ length_part at (at + length own * 3) made x.ends ∙ omega arith;
-      block = take-length e ∙ same_size;
-    }
-
 -- the codons of a part, by place
 pub codon-part : (t : ℕ) (s : List ℕ) (at n i : ℕ) → i < n → codon_at t (part at (at + n * 3) s) i ≡ codon_at t (drop at s) i
 unfolding codon_at

@@ -11,10 +11,8 @@ ghost use Rattle.altered.specs.Over.{Makes, Stretch};
 ghost use Rattle.blocks.specs.Blocks.{Sized, ReadsAs, Unexcepted, Held};
 
 use altered::write_stretch;
-use edits::no_exceptions;
 use edits::plans::Plan;
 use excepted::next_exception;
-use numbers::least;
 use packed::same_by;
 use rules::{Exceptions, Form};
 use sequences::common_prefix_len;
@@ -31,38 +29,12 @@ fn alike_read(block: &[u8], table: usize, own: &[u8]) -> usize
     let n = own.len();
     let plain = all_bases(block);
     let mut residues = [0u8; 256];
-    write_translated(block, table, plain, no_exceptions(), &mut residues);
+    write_translated(block, table, plain, Exceptions::none(), &mut residues);
     common_prefix_len(&residues[..n], own)
 }
 
 // How many first residues of R's part `own`, whose codons begin at a place, the codons that a plan makes from there on read as. Where the letters
 // are the reference's they aren't read.
-fn alike_in(
-    letters: &[u8],
-    form: Form,
-    table: usize,
-    plan: Plan,
-    new: &[u8],
-    at: usize,
-    own: &[u8],
-    block: &mut [u8],
-) -> usize
-    requires makes { Makes plan (letters_by form letters.now) new.now }
-    requires stretch { Stretch plan at (length own.now * 3) (length (carried_by plan (letters_by form letters.now) new.now)) }
-    requires held { Held table (letters_by form letters.now) at own.now }
-    requires block_len { length block.old ≡ length own.now * 3 }
-    ensures upper_bound { result ≤ length own.now }
-    ensures each { ReadsAs table (drop at (carried_by plan (letters_by form letters.now) new.now)) own.now result }
-{
-    write_stretch(letters, form, plan, new, at, block);
-    let n = block.len();
-    if same_by(letters, form, at, at + n, &block[..n]) {
-        return own.len();
-    }
-    alike_read(&block[..n], table, own)
-}
-
-// The same, with room for a block.
 pub fn alike_codons(
     letters: &[u8],
     form: Form,
@@ -79,8 +51,13 @@ pub fn alike_codons(
     ensures each { ReadsAs table (drop at (carried_by plan (letters_by form letters.now) new.now)) own.now result }
 {
     let n = own.len() * 3;
-    let mut block = [0u8; 768];
-    alike_in(letters, form, table, plan, new, at, own, &mut block[..n])
+    let mut room = [0u8; 768];
+    let block = &mut room[..n];
+    write_stretch(letters, form, plan, new, at, block);
+    if same_by(letters, form, at, at + n, block) {
+        return own.len();
+    }
+    alike_read(block, table, own)
 }
 
 // How many codons from a place on, and at most `most`, lie in what goes in or behind it. None does before it, or across its end.
@@ -93,7 +70,7 @@ pub fn stretch_codons(plan: Plan, at: usize, most: usize) -> usize
     }
     let back = plan.from + plan.kept;
     if at < back {
-        return least((back - at) / 3, most);
+        return ((back - at) / 3).min(most);
     }
     most
 }
@@ -109,5 +86,5 @@ pub fn clear_codons(e: Exceptions, moved: Exceptions, k: usize, n: usize) -> usi
     let past = k + n + 1;
     let own = next_exception(e, k + 1, past);
     let other = next_exception(moved, k + 1, past);
-    least(n, least(own, other) - (k + 1))
+    n.min(own.min(other) - (k + 1))
 }

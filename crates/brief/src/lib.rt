@@ -20,6 +20,7 @@ use reuse::{ends_in_stop, pieces_of};
 use rules::{Exceptions, Record};
 
 // Where R goes on behind the residues that were read: nowhere, if a stop ended them.
+#[tactic(auto, unfolding(crate::specs::Brief::back_behind))]
 fn back_of(read: &[u8], back: usize, residues: usize) -> usize
     ensures { result ≡ back_behind read.now back residues }
 {

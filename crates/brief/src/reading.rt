@@ -8,7 +8,6 @@ ghost use Rattle.brief.specs.Brief.{edge_of, Follows, Spans};
 
 use crate::touched::write_touched;
 use edits::plans::Plan;
-use numbers::least;
 use reference::Known;
 use reuse::{Pieces, ends_in_stop};
 use rules::Exceptions;
@@ -39,12 +38,13 @@ fn write_both(
 }
 
 // The end of the codons that an edit touches, of those that are read.
+#[tactic(auto, unfolding(crate::specs::Brief::edge_of))]
 fn edge_of(plan: Plan, start: usize, end: usize) -> usize
     requires { (start ≤ plan.from) × (plan.from + plan.kept ≤ end) × (end ≤ 17179869184) }
     ensures { result ≡ edge_of plan start end }
 {
     let touched = plan.from + plan.kept - start;
-    least(end, start + (touched + 2) / 3 * 3)
+    end.min(start + (touched + 2) / 3 * 3)
 }
 
 // Writes the residues of what an edit has read, of some letters. Those of codons that it touches are written to `coding`.
@@ -59,7 +59,7 @@ fn read_some(
     out: &mut [u8],
 ) -> usize
     requires spans { Spans letters.now known none plan new.now pieces coding.old out.old }
-    requires fact { pieces.start ≡ pieces.end → ⊥ }
+    requires some_read { pieces.start ≡ pieces.end → ⊥ }
     ensures value { result ≡ length (through_stop (folded_translated known.cds.table [] (read_by (carried_by plan letters.now new.now) pieces))) }
     ensures out_after { out.new ≡ over (through_stop (folded_translated known.cds.table [] (read_by (carried_by plan letters.now new.now) pieces))) out.old }
 {

@@ -16,18 +16,15 @@ pub struct Pieces {
 }
 
 // Whether a plan puts back the bases of its range.
+#[tactic(auto, unfolding(crate::specs::Reusing::is_identity_by))]
 fn is_identity(plan: Plan) -> bool
     ensures { result ≡ is_identity plan }
 {
-    let source = plan.source;
-    match source {
-        Source::New => false,
-        Source::Copy => plan.from < plan.to,
-        Source::Turned => false,
-    }
+    matches!(plan.source, Source::Copy) & (plan.from < plan.to)
 }
 
 // Whether no codon is read: an identity, or an edit behind the stop.
+#[tactic(auto, unfolding(crate::specs::Reusing::keeps_all_by))]
 fn keeps_all(c: Cds, plan: Plan) -> bool
     ensures { result ≡ keeps_all_by c plan }
 {
@@ -35,6 +32,13 @@ fn keeps_all(c: Cds, plan: Plan) -> bool
 }
 
 // The pieces of a plan, where R has so many residues. Behind a frameshift, or where no CDS codon follows, all is read.
+#[tactic(
+    auto,
+    unfolding(
+        crate::specs::Reusing::pieces_by,
+        crate::specs::Reusing::is_level_by
+    )
+)]
 pub fn pieces_of(c: Cds, plan: Plan, residues: usize) -> Pieces
     requires bounded { Bounded c }
     requires placed { Placed c plan }

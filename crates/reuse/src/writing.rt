@@ -18,13 +18,11 @@ pub struct Reused {
 }
 
 // Whether the last residue is a stop.
+#[tactic(auto, unfolding(crate::specs::Reusing::ends_in_stop))]
 pub fn ends_in_stop(s: &[u8]) -> bool
     ensures { result ≡ ends_in_stop s.now }
 {
-    if s.len() == 0 {
-        return false;
-    }
-    s[s.len() - 1] == b'*'
+    s.last() == Some(&b'*')
 }
 
 // Reads letters to the buffer's start, and unless a stop ends them, the rest of R goes on behind them.

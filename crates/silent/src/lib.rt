@@ -10,7 +10,6 @@ ghost use Rattle.silent.specs.Comparing.{protein_with, Compares, Alike};
 use altered::residue_at;
 use blocks::{alike_codons, clear_codons, stretch_codons};
 use edits::plans::Plan;
-use numbers::least;
 use rules::{Cds, Exceptions, Form};
 use sources::{first_changed, source_of};
 
@@ -57,8 +56,8 @@ fn alike_from(
     let first = c.cs - 1;
     let at = first + k * 3;
     let whole = (plan.length - first) / 3;
-    let left = least(whole, protein.len()) - 1 - k;
-    let size = stretch_codons(plan, at, least(most, left));
+    let left = whole.min(protein.len()) - 1 - k;
+    let size = stretch_codons(plan, at, most.min(left));
     if size == 0 {
         return 0;
     }
@@ -86,7 +85,6 @@ pub fn keeps_protein(
     let first = c.cs - 1;
     let whole = (plan.length - first) / 3;
     let rest = (plan.length - first) % 3;
-    let count = e.count;
     let start = first_changed(plan, first, protein.len());
     let x = Compared { c, e, moved, plan };
     let mut k = start;
@@ -97,11 +95,10 @@ pub fn keeps_protein(
         if protein.len() <= k {
             return false;
         }
-        let source = source_of(plan, first, count, protein.len(), k);
-        if source < protein.len() {
+        if let Some(source) = source_of(plan, first, e.count, protein.len(), k) {
             return source == k;
         }
-        let most = least(256, (k - start) / 4 * 16);
+        let most = ((k - start) / 4 * 16).min(256);
         let j = k + alike_from(letters, form, x, protein, new, k, most);
         let r = residue_at(letters, form, c.table, plan, new, moved, first, j);
         if r != protein[j] {

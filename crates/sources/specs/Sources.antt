@@ -11,6 +11,7 @@ pub record Placed (p : Plan) (first k : ℕ) : Type 0 where
 
 -- codon k lies behind what goes in, where codon r of R came to lie, and there are no exceptions or as many bases go in as give way
 pub record Reused (p : Plan) (first count residues k r : ℕ) : Type 0 where
-  pub none : r < residues → (count ≡ 0 → ⊥) → p.from + p.kept ≡ p.to
-  pub behind : r < residues → p.from + p.kept ≤ first + k * 3
-  pub place : r < residues → first + k * 3 + p.to ≡ first + r * 3 + (p.from + p.kept)
+  pub inside : r < residues
+  pub none : (count ≡ 0 → ⊥) → p.from + p.kept ≡ p.to
+  pub behind : p.from + p.kept ≤ first + k * 3
+  pub place : first + k * 3 + p.to ≡ first + r * 3 + (p.from + p.kept)

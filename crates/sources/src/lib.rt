@@ -1,11 +1,10 @@
 // What an edit leaves of R: the first codon that it may change, and which codon of R one behind it is.
 #![tactic(auto)]
 
-ghost use Rattle.std.specs.Prelude.{◌+◌, ◌*◌, ◌≤◌};
+ghost use Rattle.std.specs.Prelude.{◌+◌, ◌*◌, ◌≤◌, IfSome};
 ghost use Rattle.sources.specs.Sources.{Placed, Reused};
 
 use edits::plans::Plan;
-use numbers::least;
 
 // The first codon that the edit may change: the first that isn't wholly before it, and at most the last of R.
 pub fn first_changed(plan: Plan, first: usize, residues: usize) -> usize
@@ -13,23 +12,23 @@ pub fn first_changed(plan: Plan, first: usize, residues: usize) -> usize
     ensures result_bound { result + 1 ≤ residues }
     ensures before { first + result * 3 ≤ plan.from }
 {
-    least((plan.from - first) / 3, residues - 1)
+    ((plan.from - first) / 3).min(residues - 1)
 }
 
 // Which codon of R codon k is, counted from 0: behind the edit, in the reference's frame, and without exceptions or in an edit that keeps the
-// length, so that each exception behind it stays; else `residues`, R's length.
-pub fn source_of(plan: Plan, first: usize, count: usize, residues: usize, k: usize) -> usize
+// length, so that each exception behind it stays. R has so many residues.
+pub fn source_of(plan: Plan, first: usize, count: usize, residues: usize, k: usize) -> Option<usize>
     requires { Placed plan first k }
-    ensures { Reused plan first count residues k result }
+    ensures { IfSome result (Reused plan first count residues k) }
 {
     let at = first + k * 3;
     let back = plan.from + plan.kept;
     if ((count != 0) & (back != plan.to)) | (at < back) {
-        return residues;
+        return None;
     }
     let old = at - back + (plan.to - first);
-    if old % 3 != 0 {
-        return residues;
+    if (old % 3 != 0) | (residues <= old / 3) {
+        return None;
     }
-    least(old / 3, residues)
+    Some(old / 3)
 }

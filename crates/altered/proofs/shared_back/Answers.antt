@@ -1,7 +1,8 @@
 -- `altered::shared_back` meets its contract. The invariant: what is passed is equal, so the common ending behind the prefix is i and that of the rests. Assumes nothing.
-use mathlib.Core.Path.{◌≡◌, ap, ◌∙◌}
+use mathlib.Core.Path.{◌≡◌, ap, ap₂, ◌∙◌}
 use Prim.Native.Nat.{ℕ, ◌+◌, ◌-◌, ◌≤◌, ◌<◌, min}
 use native.Mathlib.Omega.{arith}
+use borrow.Author.Rules.{rules}
 use lib.ListN.{length}
 use Rattle.rules.specs.Altered.{part}
 use Rattle.rules.specs.Packed.{letters_by}
@@ -42,47 +43,51 @@ pub loop-i-init : goal.loop-i-init
 loop-i-init c =
     let a = c.args in
     let size = c.size_of-size in
-    let first = c.least.ensures in
+    let first = c.min.ensures in
     let m = c.requires.makes in (
       omega (arith, size.ensures, first, m.ends),
       size.ensures,
       omega (arith, size.ensures, first, c.requires.from_le_prefix),
-      back-starts a.plan (letters_by a.form a.letters.now) a.new.now m a.prefix c.least-first.result (omega (arith, size.ensures, first, c.requires.from_le_prefix)) (omega (arith, size.ensures, first, c.requires.from_le_prefix)) (omega (arith, size.ensures, first, c.requires.from_le_prefix)),
+      back-starts a.plan (letters_by a.form a.letters.now) a.new.now m a.prefix c.min-first.result (omega (arith, size.ensures, first, c.requires.from_le_prefix)) (omega (arith, size.ensures, first, c.requires.from_le_prefix)) (omega (arith, size.ensures, first, c.requires.from_le_prefix)),
       omega arith,
-      c.least-first.ensures,
+      c.min-first.ensures,
     )
 
-pub alike_back-found-requires : goal.alike_back-found-requires
-alike_back-found-requires c =
+pub told_of_block-found-requires-clause-stretch : goal.told_of_block-found-requires-clause-stretch
+told_of_block-found-requires-clause-stretch c =
     let a = c.args in
     let turn = c.loop-i in
-    let step = c.least-step in
+    let step = c.min-step in
     let made = length-made a.plan (letters_by a.form a.letters.now) a.new.now c.requires.makes in
     let x = block a.plan (length (letters_by a.form a.letters.now)) _ a.made a.prefix _ _ turn.i step.result _ turn.invariant.1 (c.requires.made_value ∙ made) c.requires.from_le_prefix.0 turn.invariant.2 turn.invariant.5 turn.invariant.4 c.loop-i-test.true step.ensures in
-    record { makes = c.requires.makes; stretch = record { behind = x.behind; inside = λ h. x.inside; ends = omega (arith, x.ends, c.requires.made_value) }; n_in_bounds = rw turn.invariant.1 x.back; n_bound = omega (arith, step.ensures, c.least-most.ensures) }
+    record { behind = x.behind; inside = λ h. x.inside; ends = omega (arith, x.ends, c.requires.made_value) }
 
 pub returns-then-found-step : goal.returns-then-found-step
 returns-then-found-step c =
     let a = c.args in
     let turn = c.loop-i in
-    let step = c.least-step in
+    let step = c.min-step in
     let made = length-made a.plan (letters_by a.form a.letters.now) a.new.now c.requires.makes in
     let x = block a.plan (length (letters_by a.form a.letters.now)) _ a.made a.prefix _ _ turn.i step.result _ turn.invariant.1 (c.requires.made_value ∙ made) c.requires.from_le_prefix.0 turn.invariant.2 turn.invariant.5 turn.invariant.4 c.loop-i-test.true step.ensures in
     let t = carried_by a.plan (letters_by a.form a.letters.now) a.new.now in
-    let found = c.alike_back-found in
-    let is = found.ensures ∙ ap (λ (k : ℕ). common_suffix (part (k - (turn.i + step.result)) (k - (turn.i + step.result) + step.result) (letters_by a.form a.letters.now)) (part (a.made - (turn.i + step.result)) (a.made - (turn.i + step.result) + step.result) t)) turn.invariant.1 ∙ ap (λ (k : ℕ). common_suffix (part (length (letters_by a.form a.letters.now) - (turn.i + step.result)) (length (letters_by a.form a.letters.now) - (turn.i + step.result) + step.result) (letters_by a.form a.letters.now)) (part (k - (turn.i + step.result)) (k - (turn.i + step.result) + step.result) t)) c.requires.made_value in
+    let found = c.told_of_block-found in
+    let s = letters_by a.form a.letters.now in
+    let told : found.result ≡ common_suffix (part (c.size_of-size.result - (turn.i + step.result)) (c.size_of-size.result - (turn.i + step.result) + step.result) s) (part (a.made - (turn.i + step.result)) (a.made - (turn.i + step.result) + step.result) t) = search rules in
+    let is = told ∙ ap₂ (λ (k : ℕ) (m : ℕ). common_suffix (part (k - (turn.i + step.result)) (k - (turn.i + step.result) + step.result) s) (part (m - (turn.i + step.result)) (m - (turn.i + step.result) + step.result) t)) turn.invariant.1 c.requires.made_value in
     omega (arith, turn.invariant.3, back-parts a.prefix (letters_by a.form a.letters.now) t turn.i step.result found.result x.old (omega (arith, x.new, c.requires.made_value)) is c.if-found-step.true)
 
 pub loop-i-preserved : goal.loop-i-preserved
 loop-i-preserved c =
     let a = c.args in
     let turn = c.loop-i in
-    let step = c.least-step in
+    let step = c.min-step in
     let made = length-made a.plan (letters_by a.form a.letters.now) a.new.now c.requires.makes in
     let x = block a.plan (length (letters_by a.form a.letters.now)) _ a.made a.prefix _ _ turn.i step.result _ turn.invariant.1 (c.requires.made_value ∙ made) c.requires.from_le_prefix.0 turn.invariant.2 turn.invariant.5 turn.invariant.4 c.loop-i-test.true step.ensures in
     let t = carried_by a.plan (letters_by a.form a.letters.now) a.new.now in
-    let found = c.alike_back-found in
-    let is = found.ensures ∙ ap (λ (k : ℕ). common_suffix (part (k - (turn.i + step.result)) (k - (turn.i + step.result) + step.result) (letters_by a.form a.letters.now)) (part (a.made - (turn.i + step.result)) (a.made - (turn.i + step.result) + step.result) t)) turn.invariant.1 ∙ ap (λ (k : ℕ). common_suffix (part (length (letters_by a.form a.letters.now) - (turn.i + step.result)) (length (letters_by a.form a.letters.now) - (turn.i + step.result) + step.result) (letters_by a.form a.letters.now)) (part (k - (turn.i + step.result)) (k - (turn.i + step.result) + step.result) t)) c.requires.made_value in (
+    let found = c.told_of_block-found in
+    let s = letters_by a.form a.letters.now in
+    let told : found.result ≡ common_suffix (part (c.size_of-size.result - (turn.i + step.result)) (c.size_of-size.result - (turn.i + step.result) + step.result) s) (part (a.made - (turn.i + step.result)) (a.made - (turn.i + step.result) + step.result) t) = search rules in
+    let is = told ∙ ap₂ (λ (k : ℕ) (m : ℕ). common_suffix (part (k - (turn.i + step.result)) (k - (turn.i + step.result) + step.result) s) (part (m - (turn.i + step.result)) (m - (turn.i + step.result) + step.result) t)) turn.invariant.1 c.requires.made_value in (
       omega (arith, step.ensures, turn.invariant.0),
       turn.invariant.1,
       turn.invariant.2,

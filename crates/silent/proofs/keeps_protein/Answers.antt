@@ -51,21 +51,19 @@ returns-then-protein-k c =
     let turn = c.loop-k in
     sym (past (letters_by a.form a.letters.now) a.c a.e a.moved a.protein.now a.plan a.new.now x turn.k (omega (arith, c.if-whole-k.false)) c.if-protein-k.true) ∙ turn.invariant.0
 
-pub source_of-source-requires : goal.source_of-source-requires
-source_of-source-requires c =
+pub source_of-requires : goal.source_of-requires
+source_of-requires c =
     let a = c.args in
     let x = c.requires in
     placed (letters_by a.form a.letters.now) a.c a.e a.moved a.protein.now a.plan a.new.now x c.loop-k.k (omega (arith, c.if-whole-k.false))
 
-pub returns-then-source-protein : goal.returns-then-source-protein
-returns-then-source-protein c =
+pub returns-in-Some : goal.returns-in-Some
+returns-in-Some c =
     let a = c.args in
     let x = c.requires in
     let turn = c.loop-k in
-    let source = c.source_of-source in
-    let found = source.ensures in
-    let below = c.if-source-protein.true in
-    sym (ends-either (letters_by a.form a.letters.now) a.c a.e a.moved a.protein.now a.plan a.new.now x turn.k source.result (found.none below) (found.behind below) (found.place below) (omega (arith, c.if-protein-k.false)) below) ∙ turn.invariant.0
+    let found = c.in-Some.ensures in
+    sym (ends-either (letters_by a.form a.letters.now) a.c a.e a.moved a.protein.now a.plan a.new.now x turn.k c.in-Some.source found.none found.behind found.place (omega (arith, c.if-protein-k.false)) found.inside) ∙ turn.invariant.0
 
 pub residue_at-r-requires : goal.residue_at-r-requires
 residue_at-r-requires c =

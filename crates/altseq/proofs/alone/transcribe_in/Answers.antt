@@ -1,75 +1,57 @@
 -- `altseq::alone::transcribe_in` meets its contract. Assumes nothing.
-use mathlib.Core.Path.{sym, ap, ◌∙◌}
+use mathlib.Core.Path.{refl, ◌∙◌}
 use native.Mathlib.Omega.{arith}
 use lib.ListN.{length}
-use Rattle.rules.specs.declared.Form.{Form}
+use Rattle.rules.specs.Packed.{letters_by}
 use Rattle.rules.specs.Refusal.{limits}
 use Rattle.rules.specs.Views.{asked, reference_of}
-use Rattle.reference.proofs.Checking.{checked_refused, checks}
-use Rattle.altseq.proofs.Transcribing.{meets_none, reference-refused, known_at, form-at, cds-at, edited-cds, decided-refused, decided-open, decided-goes, decided-fits}
-use Rattle.rules.specs.Packed.{letters_by}
+use Rattle.reference.proofs.Judging.{exit-told}
+use Rattle.reference.proofs.Checking.{checked_refused}
+use Rattle.altseq.proofs.Transcribing.{meets_none, fits_more, made-short, made, reference-refused, asks-known, edit-refused, edit-open, edit-goes, edit-fits}
 use Rattle.altseq.proofs.alone.transcribe_in.Goals as goal
+
+pub returns-in_err-known : goal.returns-in_err-known
+returns-in_err-known c =
+    let a = c.args in
+    let s = letters_by a.asks.form a.letters.now in
+    let no = checked_refused limits.longest a.asks.form s a.asks.cds a.asks.e _ c.in_err-known.ensures.value in
+    let whole = meets_none _ _ a.transcript.now (reference-refused limits (reference_of s a.asks.cds a.asks.e) (asked a.asks.edit a.new.now) (length a.transcript.now) _ no.0 no.1) in
+    record { value = exit-told _ _ c.from_residual.ensures.1 ∙ whole.0; transcript_after = whole.1 }
 
 pub decide-requires : goal.decide-requires
 decide-requires c =
     let a = c.args in
-    let x = c.check_reference in
-    let k = c.in-Known.known in
-    let same = ap (λ (f : Form). letters_by f a.letters.now) (form-at a.asks.form (letters_by a.asks.form a.letters.now) a.asks.cds a.asks.e x.result x.ensures.value k c.in-Known.is) in
-    let known = known_at a.asks.form (letters_by a.asks.form a.letters.now) a.asks.cds a.asks.e x.result x.ensures.value k c.in-Known.is in
-    record { checks = rw same (checks limits (letters_by a.asks.form a.letters.now) k a.asks.e _ known); most_bound = omega arith }
+    record { checks = asks-known a.asks.form a.letters.now a.asks.cds a.asks.e _ c.in_ok-known.ensures.value; most_bound = omega arith }
 
-pub write_alone-requires : goal.write_alone-requires
-write_alone-requires c =
+pub returns-in_err-decide : goal.returns-in_err-decide
+returns-in_err-decide c =
     let a = c.args in
-    let x = c.check_reference in
-    let k = c.in-Known.known in
-    let same = ap (λ (f : Form). letters_by f a.letters.now) (form-at a.asks.form (letters_by a.asks.form a.letters.now) a.asks.cds a.asks.e x.result x.ensures.value k c.in-Known.is) in
-    let known = known_at a.asks.form (letters_by a.asks.form a.letters.now) a.asks.cds a.asks.e x.result x.ensures.value k c.in-Known.is in
-    let said = c.decide in
-    decided-fits limits (letters_by a.asks.form a.letters.now) k a.asks.e _ known (asked a.asks.edit a.new.now) said.result (rw same at said.ensures) _ c.in-Goes.is
+    let whole = meets_none _ _ a.transcript.now (edit-refused a.asks.form a.letters.now a.asks.cds a.asks.e _ c.in_ok-known.ensures.value (asked a.asks.edit a.new.now) (length a.transcript.now) _ c.in_err-decide.ensures) in
+    record { value = exit-told _ _ c.from_residual.ensures.1 ∙ whole.0; transcript_after = whole.1 }
 
-pub returns-in-Refused : goal.returns-in-Refused
-returns-in-Refused c =
+pub returns-in-None : goal.returns-in-None
+returns-in-None c =
     let a = c.args in
-    let x = c.check_reference in
-    let n = c.in-Refused.n in
-    let no = checked_refused limits.longest a.asks.form (letters_by a.asks.form a.letters.now) a.asks.cds a.asks.e x.result x.ensures.value n c.in-Refused.is in
-    let whole = meets_none _ _ a.transcript.now (reference-refused limits (reference_of (letters_by a.asks.form a.letters.now) a.asks.cds a.asks.e) (asked a.asks.edit a.new.now) (length a.transcript.now) n no.0 no.1) in
+    let whole = meets_none _ _ a.transcript.now (edit-open a.asks.form a.letters.now a.asks.cds a.asks.e _ c.in_ok-known.ensures.value (asked a.asks.edit a.new.now) (length a.transcript.now) c.in-None.ensures) in
     record { value = whole.0; transcript_after = whole.1 }
 
-pub returns-in-Refused-decide : goal.returns-in-Refused-decide
-returns-in-Refused-decide c =
+pub returns-then-transcript-plan : goal.returns-then-transcript-plan
+returns-then-transcript-plan c =
     let a = c.args in
-    let x = c.check_reference in
-    let k = c.in-Known.known in
-    let same = ap (λ (f : Form). letters_by f a.letters.now) (form-at a.asks.form (letters_by a.asks.form a.letters.now) a.asks.cds a.asks.e x.result x.ensures.value k c.in-Known.is) in
-    let known = known_at a.asks.form (letters_by a.asks.form a.letters.now) a.asks.cds a.asks.e x.result x.ensures.value k c.in-Known.is in
-    let by-cds = edited-cds (letters_by a.asks.form a.letters.now) k.cds a.asks.cds a.asks.e (asked a.asks.edit a.new.now) (length a.transcript.now) (cds-at a.asks.form (letters_by a.asks.form a.letters.now) a.asks.cds a.asks.e x.result x.ensures.value k c.in-Known.is) in
-    let said = c.decide in
-    let whole = meets_none _ _ a.transcript.now (sym by-cds ∙ decided-refused limits (letters_by a.asks.form a.letters.now) k a.asks.e _ known (asked a.asks.edit a.new.now) said.result (rw same at said.ensures) (length a.transcript.now) _ c.in-Refused-decide.is) in
+    let goes = edit-goes a.asks.form a.letters.now a.asks.cds a.asks.e _ c.in_ok-known.ensures.value (asked a.asks.edit a.new.now) (length a.transcript.now) _ c.in-Some.ensures in
+    let whole = meets_none _ _ a.transcript.now (goes ∙ made-short c.in-Some.plan (letters_by a.asks.form a.letters.now) a.new.now (length a.transcript.now) c.if-transcript-plan.true) in
     record { value = whole.0; transcript_after = whole.1 }
 
-pub returns-in-Unknown : goal.returns-in-Unknown
-returns-in-Unknown c =
+pub write_transcript-length-requires : goal.write_transcript-length-requires
+write_transcript-length-requires c =
     let a = c.args in
-    let x = c.check_reference in
-    let k = c.in-Known.known in
-    let same = ap (λ (f : Form). letters_by f a.letters.now) (form-at a.asks.form (letters_by a.asks.form a.letters.now) a.asks.cds a.asks.e x.result x.ensures.value k c.in-Known.is) in
-    let known = known_at a.asks.form (letters_by a.asks.form a.letters.now) a.asks.cds a.asks.e x.result x.ensures.value k c.in-Known.is in
-    let by-cds = edited-cds (letters_by a.asks.form a.letters.now) k.cds a.asks.cds a.asks.e (asked a.asks.edit a.new.now) (length a.transcript.now) (cds-at a.asks.form (letters_by a.asks.form a.letters.now) a.asks.cds a.asks.e x.result x.ensures.value k c.in-Known.is) in
-    let said = c.decide in
-    let whole = meets_none _ _ a.transcript.now (sym by-cds ∙ decided-open limits (letters_by a.asks.form a.letters.now) k a.asks.e _ known (asked a.asks.edit a.new.now) said.result (rw same at said.ensures) (length a.transcript.now) c.in-Unknown.is) in
-    record { value = whole.0; transcript_after = whole.1 }
+    let fits = edit-fits a.asks.form a.letters.now a.asks.cds a.asks.e _ c.in_ok-known.ensures.value (asked a.asks.edit a.new.now) _ c.in-Some.ensures in
+    fits_more c.in-Some.plan (letters_by a.asks.form a.letters.now) a.new.now _ _ fits c.if-transcript-plan.false
 
-pub returns-in-Goes : goal.returns-in-Goes
-returns-in-Goes c =
+pub returns : goal.returns
+returns c =
     let a = c.args in
-    let x = c.check_reference in
-    let k = c.in-Known.known in
-    let same = ap (λ (f : Form). letters_by f a.letters.now) (form-at a.asks.form (letters_by a.asks.form a.letters.now) a.asks.cds a.asks.e x.result x.ensures.value k c.in-Known.is) in
-    let known = known_at a.asks.form (letters_by a.asks.form a.letters.now) a.asks.cds a.asks.e x.result x.ensures.value k c.in-Known.is in
-    let by-cds = edited-cds (letters_by a.asks.form a.letters.now) k.cds a.asks.cds a.asks.e (asked a.asks.edit a.new.now) (length a.transcript.now) (cds-at a.asks.form (letters_by a.asks.form a.letters.now) a.asks.cds a.asks.e x.result x.ensures.value k c.in-Known.is) in
-    let said = c.decide in
-    let made = decided-goes limits (letters_by a.asks.form a.letters.now) k a.asks.e _ known (asked a.asks.edit a.new.now) said.result (rw same at said.ensures) _ c.in-Goes.is (length a.transcript.now) in
-    rw (← by-cds, made) (record { value = c.write_alone.ensures.value; transcript_after = c.write_alone.ensures.transcript_after })
+    let goes = edit-goes a.asks.form a.letters.now a.asks.cds a.asks.e _ c.in_ok-known.ensures.value (asked a.asks.edit a.new.now) (length a.transcript.now) _ c.in-Some.ensures in
+    let wrote = c.write_transcript-length in
+    let is = made c.in-Some.plan (letters_by a.asks.form a.letters.now) a.new.now (length a.transcript.now) c.if-transcript-plan.false in
+    rw (goes, is, wrote.ensures.value) (record { value = refl; transcript_after = wrote.ensures.transcript_after })

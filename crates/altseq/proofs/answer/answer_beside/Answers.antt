@@ -1,18 +1,40 @@
 -- `altseq::answer::answer_beside` meets its contract. Assumes nothing.
-use Rattle.altseq.proofs.Whole.{carries, answers-beside}
+use mathlib.Core.Path.{refl, ap}
+use Rattle.rules.specs.Bytes.{given, refused, over}
+use Rattle.rules.specs.Answer.{writes_nothing}
 use Rattle.rules.specs.Packed.{letters_by}
+use Rattle.reference.proofs.Judging.{exit-told}
+use Rattle.altseq.specs.Decided.{decided_outcome}
+use Rattle.altseq.proofs.Whole.{carries, answers-beside}
 use Rattle.altseq.proofs.answer.answer_beside.Goals as goal
 
-pub answer_decided-requires : goal.answer_decided-requires
-answer_decided-requires c =
+pub returns-in_err-decide_in : goal.returns-in_err-decide_in
+unfolding decided_outcome writes_nothing over
+returns-in_err-decide_in c =
     let a = c.args in
-    let said = c.decide_in-decision in
-    carries (letters_by a.ready.known.form a.letters.now) a.ready.known a.ready.e a.protein.now c.requires a.ready.edit a.new.now a.transcript.now a.reference a.altered.now said.result said.ensures
+    let k = a.ready.known in
+    answers-beside (letters_by k.form a.letters.now) k a.ready.e a.protein.now c.requires a.ready.edit a.new.now a.transcript.now a.reference a.altered.now _ c.in_err-decide_in.ensures
+    _ _ _ (exit-told _ _ c.from_residual.ensures.1) refl refl
+
+pub returns-in-None : goal.returns-in-None
+unfolding decided_outcome writes_nothing over
+returns-in-None c =
+    let a = c.args in
+    let k = a.ready.known in
+    answers-beside (letters_by k.form a.letters.now) k a.ready.e a.protein.now c.requires a.ready.edit a.new.now a.transcript.now a.reference a.altered.now _ c.in-None.ensures
+    _ _ _ (ap given c.unknown_report.ensures) refl refl
+
+pub carry_out-requires : goal.carry_out-requires
+carry_out-requires c =
+    let a = c.args in
+    let k = a.ready.known in
+    carries (letters_by k.form a.letters.now) k a.ready.e a.protein.now c.requires a.ready.edit a.new.now a.transcript.now a.reference a.altered.now _ c.in-Some.ensures _ refl
 
 pub returns : goal.returns
+unfolding decided_outcome
 returns c =
     let a = c.args in
-    let said = c.decide_in-decision in
-    let told = c.answer_decided in
-    answers-beside (letters_by a.ready.known.form a.letters.now) a.ready.known a.ready.e a.protein.now c.requires a.ready.edit a.new.now a.transcript.now a.reference a.altered.now said.result said.ensures
-    told.result _ _ told.ensures.value told.ensures.transcript_after told.ensures.altered_after
+    let k = a.ready.known in
+    let made = c.carry_out.ensures in
+    answers-beside (letters_by k.form a.letters.now) k a.ready.e a.protein.now c.requires a.ready.edit a.new.now a.transcript.now a.reference a.altered.now _ c.in-Some.ensures
+    _ _ _ (ap given made.value) made.transcript_after made.altered_after

@@ -1,26 +1,40 @@
 -- `altseq::answer::decide_in` meets its contract. Assumes nothing.
-use mathlib.Core.Path.{sym, ◌∙◌, ap}
+use mathlib.Core.Path.{sym, ◌∙◌}
 use native.Mathlib.Omega.{arith}
+use Rattle.rules.specs.Packed.{letters_by}
 use Rattle.rules.specs.Refusal.{limits}
 use Rattle.rules.specs.Views.{asked}
+use Rattle.reference.proofs.Judging.{exit-told}
 use Rattle.reference.proofs.Checking.{bounded, checks}
-use Rattle.altseq.specs.Decided.{decided_in, with_room}
-use Rattle.altseq.proofs.Answering.{plan-front}
-use Rattle.rules.specs.Packed.{letters_by}
+use Rattle.altseq.specs.Decided.{decided_in}
+use Rattle.altseq.proofs.Answering.{plan-front, stays-refused, stays-unknown, room-refused, room-enough}
 use Rattle.altseq.proofs.answer.decide_in.Goals as goal
 
-pub decide-decided-requires : goal.decide-decided-requires
-decide-decided-requires c =
+pub decide-requires : goal.decide-requires
+decide-requires c =
     let a = c.args in
     let x = c.requires in
     record { checks = checks limits (letters_by a.known.form a.letters.now) a.known x.exceptions x.protein x.known; most_bound = omega arith }
 
-pub with_room-requires : goal.with_room-requires
-with_room-requires c =
+pub returns-in_err-decide : goal.returns-in_err-decide
+unfolding decided_in
+returns-in_err-decide c = exit-told _ _ c.from_residual.ensures.1 ∙ stays-refused _ _ _ _ (sym c.in_err-decide.ensures)
+
+pub returns-in-None : goal.returns-in-None
+unfolding decided_in
+returns-in-None c = stays-unknown _ _ _ (sym c.in-None.ensures)
+
+pub room_refusal-requires : goal.room_refusal-requires
+room_refusal-requires c =
     let a = c.args in
     let x = c.requires in
-    record { bounded = bounded (letters_by a.known.form a.letters.now) a.known.cds (checks limits (letters_by a.known.form a.letters.now) a.known x.exceptions x.protein x.known).sound; cs_bound = λ p h. plan-front limits (letters_by a.known.form a.letters.now) a.known x.exceptions x.protein x.known (asked a.edit a.new.now) p (sym c.decide-decided.ensures ∙ h) }
+    let s = letters_by a.known.form a.letters.now in
+    record { bounded = bounded s a.known.cds (checks limits s a.known x.exceptions x.protein x.known).sound; cs_in_bounds = plan-front limits s a.known x.exceptions x.protein x.known (asked a.edit a.new.now) _ (sym c.in-Some.ensures) }
+
+pub returns-in_err-room_refusal : goal.returns-in_err-room_refusal
+unfolding decided_in
+returns-in_err-room_refusal c = exit-told _ _ c.from_residual.ensures.1 ∙ room-refused _ _ _ _ (sym c.in-Some.ensures) _ c.in_err-room_refusal.ensures
 
 pub returns : goal.returns
 unfolding decided_in
-returns c = c.with_room.ensures ∙ ap (with_room _ _) c.decide-decided.ensures
+returns c = room-enough _ _ _ _ (sym c.in-Some.ensures) c.in_ok-room_refusal.ensures
