@@ -17,7 +17,9 @@ use edits::plans::Plan;
 use packed::size_of;
 use proposals::{is_proposal, judge};
 use reference::{Known, check_reference};
-use rules::{Exceptions, LONGEST, LONGEST_PROTEIN, Question, Refusal, SHORT, SHORT_PROTEIN, Verdict};
+use rules::{
+    Exceptions, LONGEST, LONGEST_PROTEIN, Question, Refusal, SHORT, SHORT_PROTEIN, Verdict,
+};
 
 // What is asked of a reference, and a proposal's number. The residues of the proposal are lent beside it.
 #[derive(Clone, Copy)]
@@ -67,14 +69,19 @@ fn judge_going(
         return Err(Refusal::Proposal);
     }
     let report = carry_out(letters, known, e, protein, plan, new, transcript, altered);
-    let n = report.altered;
-    let judged = judge(protein, &altered[..n], number, deleted, inserted);
+    let judged = judge(
+        protein,
+        &altered[..report.altered],
+        number,
+        deleted,
+        inserted,
+    );
     Ok(Verdict {
         replays: judged.replays,
         shortest: judged.shortest,
         transcript: report.transcript,
         reference: report.reference,
-        altered: n,
+        altered: report.altered,
     })
 }
 
@@ -97,11 +104,7 @@ fn check_in(
 {
     let asks = proposing.asks;
     let e = asks.e;
-    let edit = asks.edit;
-    let number = proposing.number;
-    let form = asks.form;
-    let known = check_reference(letters, form, asks.cds, e, LONGEST, protein)?;
-    let residues = known.residues;
+    let known = check_reference(letters, asks.form, asks.cds, e, LONGEST, protein)?;
     let room = Room {
         transcript: transcript.len(),
         reference: proposing.room,
@@ -111,8 +114,8 @@ fn check_in(
         letters,
         known,
         e,
-        &protein[..residues],
-        edit,
+        &protein[..known.residues],
+        asks.edit,
         new,
         room,
     )?;
@@ -120,12 +123,12 @@ fn check_in(
         known,
         e,
         plan,
-        number,
+        number: proposing.number,
     };
     judge_going(
         letters,
         going,
-        &protein[..residues],
+        &protein[..known.residues],
         new,
         deleted,
         inserted,
@@ -134,9 +137,9 @@ fn check_in(
     )
 }
 
-// The answer to a proposed record of an edit of a reference, with room for N residues of R. Each room lies in a function of its own, so that a
+// The answer to a proposed record of an edit of a reference, with room for ROOM residues of R. Each room lies in a function of its own, so that a
 // call has but one of them.
-fn check_with<const N: usize>(
+fn check_with_room<const ROOM: usize>(
     letters: &[u8],
     p: Proposed,
     new: &[u8],
@@ -146,18 +149,17 @@ fn check_with<const N: usize>(
     reference: &mut [u8],
     altered: &mut [u8],
 ) -> Result<Verdict, Refusal>
-    requires { HasRoom limits.longest (letters_by p.asks.form letters.now) N }
+    requires { HasRoom limits.longest (letters_by p.asks.form letters.now) ROOM }
     ensures { CheckAnswers
         (check_outcome limits (reference_of (letters_by p.asks.form letters.now) p.asks.cds p.asks.e) (asked p.asks.edit new.now) (proposed p.number deleted.now inserted.now) (room_of transcript.old reference.old altered.old))
         (told result) transcript.old transcript.new reference.old reference.new altered.old altered.new }
 {
-    let asks = p.asks;
     let proposing = Proposing {
-        asks,
+        asks: p.asks,
         number: p.number,
         room: reference.len(),
     };
-    let mut protein = [0u8; N];
+    let mut protein = [0u8; ROOM];
     let verdict = check_in(
         letters,
         proposing,
@@ -168,8 +170,7 @@ fn check_with<const N: usize>(
         transcript,
         altered,
     )?;
-    let n = verdict.reference;
-    bytewise::copy(&protein[..n], reference);
+    bytewise::copy(&protein[..verdict.reference], reference);
     Ok(verdict)
 }
 
@@ -189,14 +190,12 @@ pub fn check_altseq(
         (check_outcome limits (reference_of (letters_by p.asks.form letters.now) p.asks.cds p.asks.e) (asked p.asks.edit new.now) (proposed p.number deleted.now inserted.now) (room_of transcript.old reference.old altered.old))
         (told result) transcript.old transcript.new reference.old reference.new altered.old altered.new }
 {
-    let asks = p.asks;
-    let form = asks.form;
-    if SHORT < size_of(letters, form) {
-        return check_with::<LONGEST_PROTEIN>(
+    if SHORT < size_of(letters, p.asks.form) {
+        return check_with_room::<LONGEST_PROTEIN>(
             letters, p, new, deleted, inserted, transcript, reference, altered,
         );
     }
-    check_with::<SHORT_PROTEIN>(
+    check_with_room::<SHORT_PROTEIN>(
         letters, p, new, deleted, inserted, transcript, reference, altered,
     )
 }

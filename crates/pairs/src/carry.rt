@@ -93,8 +93,8 @@ fn write_both(
     other: &[u8],
     transcript: &mut [u8],
 ) -> usize
-    requires in_row { first.to < second.from → InRow first second (letters_by form letters.now) new.now other.now (length transcript.old) }
-    requires in_row_2 { second.from ≤ first.to → InRow second first (letters_by form letters.now) other.now new.now (length transcript.old) }
+    requires first_ahead { first.to < second.from → InRow first second (letters_by form letters.now) new.now other.now (length transcript.old) }
+    requires second_ahead { second.from ≤ first.to → InRow second first (letters_by form letters.now) other.now new.now (length transcript.old) }
     ensures value { result ≡ length (both_by first second (letters_by form letters.now) new.now other.now) }
     ensures transcript_after { transcript.new ≡ over (both_by first second (letters_by form letters.now) new.now other.now) transcript.old }
 {

@@ -72,16 +72,11 @@ pub fn pair_altseq(
         (pair_outcome pair_limits (reference_of (letters_by asks.form letters.now) asks.cds asks.e) (asked asks.first new.now) (asked asks.second other.now) (pair_room_of transcript.old altered.old))
         (told result) transcript.old transcript.new altered.old altered.new }
 {
-    let form = asks.form;
-    let cds = asks.cds;
-    let e = asks.e;
-    let first = asks.first;
-    let second = asks.second;
-    let known = know_reference(letters, form, cds, e, LONGEST)?;
+    let known = know_reference(letters, asks.form, asks.cds, asks.e, LONGEST)?;
     let edits = Edits {
-        first,
+        first: asks.first,
         most: MOST,
-        second,
+        second: asks.second,
         other: MOST,
     };
     answer_pair(letters, known, edits, new, other, transcript, altered)

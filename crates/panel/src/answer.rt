@@ -33,8 +33,8 @@ fn answer_profiled(
 {
     let known = ready.known;
     let edit = ready.edit;
-    let form = known.form;
-    edit_refusal(size_of(letters, form), known.cds, MOST, edit, new)?;
+    let size = size_of(letters, known.form);
+    edit_refusal(size, known.cds, MOST, edit, new)?;
     profile_refusal(letters, known, edit, new, named)?;
     answer_known(letters, ready, protein, new, transcript, reference, altered)
 }
@@ -56,16 +56,14 @@ fn answer_in(
         (told result) transcript.old transcript.new reference.old reference.new altered.old altered.new }
 {
     let e = asks.e;
+    let known = check_reference(letters, asks.form, asks.cds, e, LONGEST, protein)?;
     let edit = asks.edit;
-    let form = asks.form;
-    let known = check_reference(letters, form, asks.cds, e, LONGEST, protein)?;
-    let residues = known.residues;
     let ready = Ready { known, e, edit };
     answer_profiled(
         letters,
         ready,
         named,
-        &protein[..residues],
+        &protein[..known.residues],
         new,
         transcript,
         reference,
@@ -73,8 +71,8 @@ fn answer_in(
     )
 }
 
-// The answer to an edit of a reference, with room for N residues of R. Each room lies in a function of its own, so that a call has but one of them.
-fn answer_with<const N: usize>(
+// The answer to an edit of a reference, with room for ROOM residues of R. Each room lies in a function of its own, so that a call has but one of them.
+fn answer_with_room<const ROOM: usize>(
     letters: &[u8],
     asks: Question,
     named: usize,
@@ -83,12 +81,12 @@ fn answer_with<const N: usize>(
     reference: &mut [u8],
     altered: &mut [u8],
 ) -> Result<Report, Refusal>
-    requires { HasRoom limits.longest (letters_by asks.form letters.now) N }
+    requires { HasRoom limits.longest (letters_by asks.form letters.now) ROOM }
     ensures { Answers
         (panel_outcome limits (reference_of (letters_by asks.form letters.now) asks.cds asks.e) (asked asks.edit new.now) named (room_of transcript.old reference.old altered.old))
         (told result) transcript.old transcript.new reference.old reference.new altered.old altered.new }
 {
-    let mut protein = [0u8; N];
+    let mut protein = [0u8; ROOM];
     answer_in(
         letters,
         asks,
@@ -116,11 +114,10 @@ pub fn build_panel(
         (panel_outcome limits (reference_of (letters_by asks.form letters.now) asks.cds asks.e) (asked asks.edit new.now) named (room_of transcript.old reference.old altered.old))
         (told result) transcript.old transcript.new reference.old reference.new altered.old altered.new }
 {
-    let form = asks.form;
-    if SHORT < size_of(letters, form) {
-        return answer_with::<LONGEST_PROTEIN>(
+    if SHORT < size_of(letters, asks.form) {
+        return answer_with_room::<LONGEST_PROTEIN>(
             letters, asks, named, new, transcript, reference, altered,
         );
     }
-    answer_with::<SHORT_PROTEIN>(letters, asks, named, new, transcript, reference, altered)
+    answer_with_room::<SHORT_PROTEIN>(letters, asks, named, new, transcript, reference, altered)
 }
