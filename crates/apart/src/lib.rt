@@ -13,8 +13,8 @@ use spans::{Range, setup_incorporate};
 // The bases that an edit touches: start to end, copied bases included; an insertion is its gap.
 fn touched(len: usize, c: Cds, edit: Edit) -> Range
     requires { Touching c len edit }
-    ensures by_index { (s new : List ℕ) → length s ≡ len → result.start ≡ touched_from (bare s c) (asked edit new) }
-    ensures by_index_2 { (s new : List ℕ) → length s ≡ len → result.end ≡ touched_to (bare s c) (asked edit new) }
+    ensures start_by_index { (s new : List ℕ) → length s ≡ len → result.start ≡ touched_from (bare s c) (asked edit new) }
+    ensures end_by_index { (s new : List ℕ) → length s ≡ len → result.end ≡ touched_to (bare s c) (asked edit new) }
 {
     let range = setup_incorporate(len, c, edit);
     let kind = edit.kind;
@@ -31,7 +31,7 @@ fn touched(len: usize, c: Cds, edit: Edit) -> Range
 // Whether at least one untouched base lies between two edits.
 pub fn are_apart(len: usize, c: Cds, edit: Edit, other: Edit) -> bool
     requires touching { Touching c len edit }
-    requires touching_2 { Touching c len other }
+    requires other_touching { Touching c len other }
     ensures { (s new bases : List ℕ) → length s ≡ len → result ≡ are_apart (bare s c) (asked edit new) (asked other bases) }
 {
     let one = touched(len, c, edit);

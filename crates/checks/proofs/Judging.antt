@@ -8,8 +8,7 @@ use lib.ListN.{length, take}
 use borrow.Author.Tests.{not-true, not-false}
 use Rattle.rules.specs.declared.Exceptions.{Exceptions}
 use Rattle.rules.specs.declared.Report.{Report}
-use Rattle.rules.specs.declared.Check.TheVariants.{Refused, Judged}
-use Rattle.rules.specs.Bytes.{over}
+use Rattle.rules.specs.Bytes.{given, refused, over}
 use Rattle.rules.specs.Reference.{Reference, reference_protein}
 use Rattle.rules.specs.Check.{Proposal, replays, is_shortest, is_proposal, checks_nothing}
 use Rattle.rules.specs.Views.{reference_of}
@@ -26,7 +25,7 @@ module _ (s : List ℕ) (k : Known) (e : Exceptions) (protein : List ℕ) (p : P
 
   -- 27
   module _ (b : Bool) (is : b ≡ is_proposal proposal (reference_protein r)) where
-    pub no-proposal : not b ≡ true → (Refused 27 ≡ (judged_outcome proposal r p new).answer) × (t ≡ over (judged_outcome proposal r p new).transcript t) × (q ≡ over (judged_outcome proposal r p new).altered q)
+    pub no-proposal : not b ≡ true → (refused 27 ≡ (judged_outcome proposal r p new).answer) × (t ≡ over (judged_outcome proposal r p new).transcript t) × (q ≡ over (judged_outcome proposal r p new).altered q)
     unfolding judged_outcome checks_nothing over
     no-proposal h = rw (← is, not-true b h) (refl, refl, refl)
 
@@ -40,7 +39,7 @@ module _ (s : List ℕ) (k : Known) (e : Exceptions) (protein : List ℕ) (p : P
       altered-fits = fits_over (protein_by r p new) q q' report.altered altered-is held
 
       pub judged-answer : (one two : Bool) → one ≡ replays proposal protein (take report.altered q') → two ≡ is_shortest proposal protein (take report.altered q')
-          → Judged (record { replays = one; shortest = two; transcript = report.transcript; reference = report.reference; altered = report.altered }) ≡ (judged_outcome proposal r p new).answer
+          → given (record { replays = one; shortest = two; transcript = report.transcript; reference = report.reference; altered = report.altered }) ≡ (judged_outcome proposal r p new).answer
       unfolding judged_outcome verdict_by report_by
       judged-answer one two f g =
           let back : take report.altered q' ≡ protein_by r p new = read_back (protein_by r p new) q q' report.altered altered-is held in

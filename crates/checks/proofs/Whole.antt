@@ -1,6 +1,6 @@
 -- Laws of the whole answer to a proposed record: what is decided, and what is judged, is the outcome of document 02.
 -- Assumes nothing.
-use Rattle.std.specs.Prelude.{if◌then◌else◌}
+use Rattle.std.specs.Prelude.{Some, if◌then◌else◌}
 use mathlib.Core.Path.{◌≡◌, refl, sym, ap, subst, ◌∙◌}
 use mathlib.Core.Bool.{Bool, true, false, not}
 use mathlib.Core.List.{List, [], ◌∷◌}
@@ -12,9 +12,7 @@ use Rattle.rules.specs.declared.Cds.{Cds}
 use Rattle.rules.specs.declared.Edit.{Edit}
 use Rattle.rules.specs.declared.Exceptions.{Exceptions}
 use Rattle.rules.specs.declared.Verdict.{Verdict}
-use Rattle.rules.specs.declared.Check.{Check}
-use Rattle.rules.specs.declared.Check.TheVariants as check
-use Rattle.rules.specs.Bytes.{over, ◌↯◌, first_number}
+use Rattle.rules.specs.Bytes.{Result, given, refused, over, ◌↯◌, first_number}
 use Rattle.rules.specs.Reference.{Reference, cds_size, reference_protein}
 use Rattle.rules.specs.Edit.{Asked}
 use Rattle.rules.specs.Altered.{altered_transcript}
@@ -28,8 +26,6 @@ use Rattle.reference.specs.declared.Known.{Known}
 use Rattle.reference.specs.Known.{Knows}
 use Rattle.reference.proofs.Checking.{residues-is}
 use Rattle.edits.specs.declared.plans.Plan.{Plan}
-use Rattle.edits.specs.declared.decision.Decision.{Decision}
-use Rattle.edits.specs.declared.decision.Decision.TheVariants.{Refused, Unknown, Goes}
 use Rattle.edits.specs.Plans.{plan_of}
 use Rattle.transcript.specs.Carrying.{carried_by}
 use Rattle.transcript.proofs.Transcripts.{carried_by_is}
@@ -73,7 +69,7 @@ module _ (q : Proposal) (r : Reference) (a : Asked) where
 
 -- a refused reference
 pub reference-refused : (r : Reference) (a : Asked) (prop : Proposal) (t : List ℕ) (room : ℕ) (out q : List ℕ) (n : ℕ) → reference_refusal limits.longest r ≡ n → (n ≡ 0 → ⊥)
-    → Holds (check_outcome limits r a prop (room_with t room q)) (check.Refused n) t t room out q q
+    → Holds (check_outcome limits r a prop (room_with t room q)) (refused n) t t room out q q
 unfolding check_outcome check_by checks_nothing over reference_in
 reference-refused r a prop t room out q zero h some = absurd (some refl)
 reference-refused r a prop t room out q (suc n) h some =
@@ -87,74 +83,72 @@ reference-refused r a prop t room out q (suc n) h some =
       has_room = λ v w. let z : ◌≡◌ {A = ℕ} 0 1 = cc in absurd (omega arith);
     })
 
-module _ (s : List ℕ) (k : Known) (e : Exceptions) (protein : List ℕ) (known : Knows limits s k e protein) (edit : Edit) (new t : List ℕ) (room : ℕ) (q : List ℕ) (prop : Proposal) (d : Decision)
+module _ (s : List ℕ) (k : Known) (e : Exceptions) (protein : List ℕ) (known : Knows limits s k e protein) (edit : Edit) (new t : List ℕ) (room : ℕ) (q : List ℕ) (prop : Proposal) (d : Result Plan)
     (is : d ≡ changing_in (reference_of s k.cds e) (asked edit new) (room_with t room q)) where
   abbrev r : Reference
   r = reference_of s k.cds e
 
-  goes : (x : Plan) → d ≡ Goes x → decided_in k.several (bare s k.cds) (asked edit new) (room_with t room q) ≡ Goes x
+  goes : (x : Plan) → d ≡ given x → decided_in k.several (bare s k.cds) (asked edit new) (room_with t room q) ≡ given (Some x)
   goes x h = changed-goes s k e protein known edit new (room_with t room q) x (sym is ∙ h)
 
-  pub carries-on : (x : Plan) → d ≡ Goes x → Carries s k e protein x new t q
+  pub carries-on : (x : Plan) → d ≡ given x → Carries s k e protein x new t q
   carries-on x h = carries s k e protein known edit new t room q _ refl x (goes x h)
 
   -- R has room where the edit goes
-  room_fits : (x : Plan) → d ≡ Goes x → length (reference_protein r) ≤ room
+  room_fits : (x : Plan) → d ≡ given x → length (reference_protein r) ≤ room
   unfolding cds_size
   room_fits x h =
       let fits = room_for k.cds x.length (room_with t room q) (left s k e protein known edit new t room q _ refl x (goes x h)).1 in
       omega (arith, protein-length s k e protein known edit new t room q _ refl, fits.reference)
 
   some-verdict : (b : Bool) (x : Plan) (v : Verdict)
-      → (if b then record { answer = check.Judged (verdict_by prop r x new); transcript = carried_by x s new; reference = reference_protein r; altered = protein_by r x new } else checks_nothing 27).answer ≡ check.Judged v
+      → (if b then record { answer = given (verdict_by prop r x new); transcript = carried_by x s new; reference = reference_protein r; altered = protein_by r x new } else checks_nothing 27).answer ≡ given v
       → v.reference ≡ length (reference_protein r)
   unfolding checks_nothing verdict_by
   some-verdict true x v h = let same : v ≡ verdict_by prop r x new = cc in ap (λ (v : Verdict). v.reference) same
   some-verdict false x v h = let z : ◌≡◌ {A = ℕ} 0 1 = cc in absurd (omega arith)
 
   -- an answer that tells lengths is a plan's
-  tells-reference : (x : Check) → x ≡ (decided_check prop r d new).answer → (v : Verdict) → x ≡ check.Judged v → (v.reference ≡ length (reference_protein r)) × (length (reference_protein r) ≤ room)
+  tells-reference : (x : Result Verdict) → x ≡ (decided_check prop r d new).answer → (v : Verdict) → x ≡ given v → (v.reference ≡ length (reference_protein r)) × (length (reference_protein r) ≤ room)
   unfolding decided_check judged_outcome checks_nothing
   tells-reference x h v g = by d refl (sym h ∙ g)
     where
-      by : (f : Decision) → d ≡ f → (decided_check prop r f new).answer ≡ check.Judged v → (v.reference ≡ length (reference_protein r)) × (length (reference_protein r) ≤ room)
-      by (Refused n) w z = let z : ◌≡◌ {A = ℕ} 0 1 = cc in absurd (omega arith)
-      by Unknown w z = let z : ◌≡◌ {A = ℕ} 0 1 = cc in absurd (omega arith)
-      by (Goes f) w z =
+      by : (f : Result Plan) → d ≡ f → (decided_check prop r f new).answer ≡ given v → (v.reference ≡ length (reference_protein r)) × (length (reference_protein r) ≤ room)
+      by (refused n) w z = let z : ◌≡◌ {A = ℕ} 0 1 = cc in absurd (omega arith)
+      by (given f) w z =
           (some-verdict (is_proposal prop (reference_protein r)) f v z, room_fits f w)
 
-  reference-is : (x : Check) → x ≡ (decided_check prop r d new).answer → reference_in x protein ≡ (decided_check prop r d new).reference
+  reference-is : (x : Result Verdict) → x ≡ (decided_check prop r d new).answer → reference_in x protein ≡ (decided_check prop r d new).reference
   unfolding reference_in decided_check judged_outcome checks_nothing verdict_by
   reference-is x h = rw h (by d)
     where
       judged : (b : Bool) (f : Plan)
-          → reference_in (if b then record { answer = check.Judged (verdict_by prop r f new); transcript = carried_by f s new; reference = reference_protein r; altered = protein_by r f new } else checks_nothing 27).answer protein
-          ≡ (if b then record { answer = check.Judged (verdict_by prop r f new); transcript = carried_by f s new; reference = reference_protein r; altered = protein_by r f new } else checks_nothing 27).reference
+          → reference_in (if b then record { answer = given (verdict_by prop r f new); transcript = carried_by f s new; reference = reference_protein r; altered = protein_by r f new } else checks_nothing 27).answer protein
+          ≡ (if b then record { answer = given (verdict_by prop r f new); transcript = carried_by f s new; reference = reference_protein r; altered = protein_by r f new } else checks_nothing 27).reference
       judged true f = rw known.read (take-length (reference_protein r))
       judged false f = refl
 
-      by : (d : Decision) → reference_in (decided_check prop r d new).answer protein ≡ (decided_check prop r d new).reference
-      by (Refused n) = refl
-      by Unknown = refl
-      by (Goes f) = judged (is_proposal prop (reference_protein r)) f
+      by : (d : Result Plan) → reference_in (decided_check prop r d new).answer protein ≡ (decided_check prop r d new).reference
+      by (refused n) = refl
+      by (given f) = judged (is_proposal prop (reference_protein r)) f
 
   -- R stands at the beginning of the room that it was read into
-  module _ (out : List ℕ) (reads : protein ≡ take k.residues out) (within : k.residues ≤ length out) (x : Check) (h : x ≡ (decided_check prop r d new).answer) where
-    counted : (v : Verdict) → x ≡ check.Judged v → v.reference ≡ k.residues
+  module _ (out : List ℕ) (reads : protein ≡ take k.residues out) (within : k.residues ≤ length out) (x : Result Verdict) (h : x ≡ (decided_check prop r d new).answer) where
+    counted : (v : Verdict) → x ≡ given v → v.reference ≡ k.residues
     counted v g = (tells-reference x h v g).0 ∙ sym (residues-is limits s k e protein known)
 
     stands-whole : reference_in x out ≡ reference_in x protein
     unfolding reference_in
     stands-whole = by x refl
       where
-        by : (y : Check) → x ≡ y → reference_in y out ≡ reference_in y protein
-        by (check.Refused n) g = refl
-        by (check.Judged v) g = rw (reads, counted v g) (sym (take-take k.residues k.residues out (omega arith)))
+        by : (y : Result Verdict) → x ≡ y → reference_in y out ≡ reference_in y protein
+        by (refused n) g = refl
+        by (given v) g = rw (reads, counted v g) (sym (take-take k.residues k.residues out (omega arith)))
 
     pub holds : (t' q' : List ℕ) → t' ≡ over (decided_check prop r d new).transcript t → q' ≡ over (decided_check prop r d new).altered q
         → Holds (check_outcome limits r (asked edit new) prop (room_with t room q)) x t t' room out q q'
     holds t' q' ht hq =
-        let all : check_outcome limits r (asked edit new) prop (room_with t room q) ≡ decided_check prop r d new = outcome-is prop r (asked edit new) (room_with t room q) ∙ ap (λ (d : Decision). decided_check prop r d new) (sym is) in
+        let all : check_outcome limits r (asked edit new) prop (room_with t room q) ≡ decided_check prop r d new = outcome-is prop r (asked edit new) (room_with t room q) ∙ ap (λ (d : Result Plan). decided_check prop r d new) (sym is) in
         subst (λ (o : CheckOutcome). Holds o x t t' room out q q') (sym all)
         (record {
           says = h;
@@ -165,13 +159,29 @@ module _ (s : List ℕ) (k : Known) (e : Exceptions) (protein : List ℕ) (known
           has_room = λ v g. let told = tells-reference x h v g in omega (arith, told.0, told.1);
         })
 
+-- a refused edit
+pub holds_refused : (s : List ℕ) (k : Known) (e : Exceptions) (edit : Edit) (new t : List ℕ) (room : ℕ) (out q : List ℕ) (prop : Proposal) (n : ℕ)
+    → refused n ≡ changing_in (reference_of s k.cds e) (asked edit new) (room_with t room q)
+    → Holds (check_outcome limits (reference_of s k.cds e) (asked edit new) prop (room_with t room q)) (refused n) t t room out q q
+unfolding decided_check checks_nothing over reference_in
+holds_refused s k e edit new t room out q prop n is =
+    rw (outcome-is prop (reference_of s k.cds e) (asked edit new) (room_with t room q), ← is)
+    (record {
+      says = refl;
+      holds-transcript = refl;
+      holds-altered = refl;
+      stands = refl;
+      there = λ v w. let z : ◌≡◌ {A = ℕ} 0 1 = cc in absurd (omega arith);
+      has_room = λ v w. let z : ◌≡◌ {A = ℕ} 0 1 = cc in absurd (omega arith);
+    })
+
 -- the answer for a CDS that is known as another
-pub holds_cds : (s : List ℕ) (c d : Cds) (e : Exceptions) (a : Asked) (prop : Proposal) (lent : Room) (x : Check) (t t' : List ℕ) (room : ℕ) (out q q' : List ℕ) → c ≡ d
+pub holds_cds : (s : List ℕ) (c d : Cds) (e : Exceptions) (a : Asked) (prop : Proposal) (lent : Room) (x : Result Verdict) (t t' : List ℕ) (room : ℕ) (out q q' : List ℕ) → c ≡ d
     → Holds (check_outcome limits (reference_of s c e) a prop lent) x t t' room out q q' → Holds (check_outcome limits (reference_of s d e) a prop lent) x t t' room out q q'
 holds_cds s c d e a prop lent x t t' room out q q' is h = subst (λ (c : Cds). Holds (check_outcome limits (reference_of s c e) a prop lent) x t t' room out q q') is h
 
 -- once R is copied
-pub copied : (o : CheckOutcome) (x : Check) (t t' : List ℕ) (room : ℕ) (out p p' q q' : List ℕ) → Holds o x t t' room out q q' → p' ≡ over (reference_in x out) p → CheckAnswers o x t t' p p' q q'
+pub copied : (o : CheckOutcome) (x : Result Verdict) (t t' : List ℕ) (room : ℕ) (out p p' q q' : List ℕ) → Holds o x t t' room out q q' → p' ≡ over (reference_in x out) p → CheckAnswers o x t t' p p' q q'
 copied o x t t' room out p p' q q' h hp =
     record {
       says = h.says;

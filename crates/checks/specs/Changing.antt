@@ -2,6 +2,7 @@
 use Rattle.std.specs.Prelude.{ℕ, zero, suc, ◌≡◌, Bool, true, false, List}
 use Rattle.rules.specs.declared.Edit.{Edit}
 use Rattle.rules.specs.declared.Exceptions.{Exceptions}
+use Rattle.rules.specs.Bytes.{Result, given, refused}
 use Rattle.rules.specs.Reference.{Reference, reference_protein}
 use Rattle.rules.specs.Edit.{Asked}
 use Rattle.rules.specs.Protein.{altered_protein}
@@ -12,19 +13,17 @@ use Rattle.rules.specs.Views.{asked, reference_of}
 use Rattle.reference.specs.declared.Known.{Known}
 use Rattle.reference.specs.Known.{Knows}
 use Rattle.edits.specs.declared.plans.Plan.{Plan}
-use Rattle.edits.specs.declared.decision.Decision.{Decision}
-use Rattle.edits.specs.declared.decision.Decision.TheVariants.{Refused, Goes}
 use Rattle.edits.specs.Plans.{plan_of}
 
 -- 7 to 10, 26 for an Unknown, 11 and 12, 26 where the answer isn't Changed, else what the edit does
-unfoldable pub changing_by : ℕ → Bool → ℕ → Bool → Plan → Decision
-changing_by (suc n) unknown room changed p = Refused (suc n)
-changing_by zero true room changed p = Refused 26
-changing_by zero false (suc n) changed p = Refused (suc n)
-changing_by zero false zero false p = Refused 26
-changing_by zero false zero true p = Goes p
+unfoldable pub changing_by : ℕ → Bool → ℕ → Bool → Plan → Result Plan
+changing_by (suc n) unknown room changed p = refused (suc n)
+changing_by zero true room changed p = refused 26
+changing_by zero false (suc n) changed p = refused (suc n)
+changing_by zero false zero false p = refused 26
+changing_by zero false zero true p = given p
 
-unfoldable pub changing_in : Reference → Asked → Room → Decision
+unfoldable pub changing_in : Reference → Asked → Room → Result Plan
 changing_in r a room =
     changing_by (refusal limits r a) (is_unknown r a) (room_refusal r a room) (is_changed (reference_protein r) (altered_protein r a)) (plan_of r a)
 

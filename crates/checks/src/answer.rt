@@ -1,24 +1,25 @@
 // A proposed record held to an edit of a reference.
-ghost use Rattle.std.specs.Prelude.{◌≡◌, ◌≤◌, length};
+ghost use Rattle.std.specs.Prelude.{◌≡◌, length};
 ghost use Rattle.rules.specs.Bytes.{over};
 ghost use Rattle.rules.specs.Refusal.{limits};
+ghost use Rattle.rules.specs.Refusals.{told};
 ghost use Rattle.rules.specs.Check.{check_outcome};
 ghost use Rattle.rules.specs.Packed.{letters_by};
 ghost use Rattle.rules.specs.Views.{asked, reference_of, room_of};
 ghost use Rattle.reference.specs.Known.{HasRoom};
-ghost use Rattle.edits.specs.declared.plans.Plan.{Plan};
 ghost use Rattle.altseq.specs.Carried.{Carries};
 ghost use Rattle.proposals.specs.Proposed.{proposed};
-ghost use Rattle.checks.specs.Checking.{CheckAnswers, Holds, judged_outcome, decided_check, reference_in, Copies};
+ghost use Rattle.checks.specs.Checking.{CheckAnswers, Holds, judged_outcome};
 
 use crate::{Room, decide_changing};
 use altseq::carry_out;
-use edits::decision::Decision;
 use edits::plans::Plan;
 use packed::size_of;
 use proposals::{is_proposal, judge};
-use reference::{Checked, Known, check_reference};
-use rules::{Check, Exceptions, LONGEST, LONGEST_PROTEIN, Question, SHORT, SHORT_PROTEIN, Verdict};
+use reference::{Known, check_reference};
+use rules::{
+    Exceptions, LONGEST, LONGEST_PROTEIN, Question, Refusal, SHORT, SHORT_PROTEIN, Verdict,
+};
 
 // What is asked of a reference, and a proposal's number. The residues of the proposal are lent beside it.
 #[derive(Clone, Copy)]
@@ -44,15 +45,6 @@ struct Going {
     number: usize,
 }
 
-// The same, with what was decided of the edit.
-#[derive(Clone, Copy)]
-struct Decided {
-    known: Known,
-    e: Exceptions,
-    decision: Decision,
-    number: usize,
-}
-
 // 27, or the two answers: the altered transcript and A are written.
 fn judge_going(
     letters: &[u8],
@@ -63,9 +55,9 @@ fn judge_going(
     inserted: &[u8],
     transcript: &mut [u8],
     altered: &mut [u8],
-) -> Check
+) -> Result<Verdict, Refusal>
     requires { Carries (letters_by going.known.form letters.now) going.known going.e protein.now going.plan new.now transcript.old altered.old }
-    ensures value { result ≡ (judged_outcome (proposed going.number deleted.now inserted.now) (reference_of (letters_by going.known.form letters.now) going.known.cds going.e) going.plan new.now).answer }
+    ensures answer { told result ≡ (judged_outcome (proposed going.number deleted.now inserted.now) (reference_of (letters_by going.known.form letters.now) going.known.cds going.e) going.plan new.now).answer }
     ensures transcript_after { transcript.new ≡ over (judged_outcome (proposed going.number deleted.now inserted.now) (reference_of (letters_by going.known.form letters.now) going.known.cds going.e) going.plan new.now).transcript transcript.old }
     ensures altered_after { altered.new ≡ over (judged_outcome (proposed going.number deleted.now inserted.now) (reference_of (letters_by going.known.form letters.now) going.known.cds going.e) going.plan new.now).altered altered.old }
 {
@@ -74,69 +66,23 @@ fn judge_going(
     let plan = going.plan;
     let number = going.number;
     if !is_proposal(protein.len(), number, deleted, inserted) {
-        return Check::Refused(27);
+        return Err(Refusal::Proposal);
     }
     let report = carry_out(letters, known, e, protein, plan, new, transcript, altered);
-    let n = report.altered;
-    let judged = judge(protein, &altered[..n], number, deleted, inserted);
-    Check::Judged(Verdict {
+    let judged = judge(
+        protein,
+        &altered[..report.altered],
+        number,
+        deleted,
+        inserted,
+    );
+    Ok(Verdict {
         replays: judged.replays,
         shortest: judged.shortest,
         transcript: report.transcript,
         reference: report.reference,
-        altered: n,
+        altered: report.altered,
     })
-}
-
-// What was decided is answered: 27 and the two answers where the edit goes.
-fn judge_decided(
-    letters: &[u8],
-    decided: Decided,
-    protein: &[u8],
-    new: &[u8],
-    deleted: &[u8],
-    inserted: &[u8],
-    transcript: &mut [u8],
-    altered: &mut [u8],
-) -> Check
-    requires { (p : Plan) → decided.decision ≡ Decision.Goes p → Carries (letters_by decided.known.form letters.now) decided.known decided.e protein.now p new.now transcript.old altered.old }
-    ensures value { result ≡ (decided_check (proposed decided.number deleted.now inserted.now) (reference_of (letters_by decided.known.form letters.now) decided.known.cds decided.e) decided.decision new.now).answer }
-    ensures transcript_after { transcript.new ≡ over (decided_check (proposed decided.number deleted.now inserted.now) (reference_of (letters_by decided.known.form letters.now) decided.known.cds decided.e) decided.decision new.now).transcript transcript.old }
-    ensures altered_after { altered.new ≡ over (decided_check (proposed decided.number deleted.now inserted.now) (reference_of (letters_by decided.known.form letters.now) decided.known.cds decided.e) decided.decision new.now).altered altered.old }
-{
-    let known = decided.known;
-    let e = decided.e;
-    let decision = decided.decision;
-    let number = decided.number;
-    match decision {
-        Decision::Refused(n) => Check::Refused(n),
-        Decision::Unknown => Check::Refused(26),
-        Decision::Goes(plan) => {
-            let going = Going {
-                known,
-                e,
-                plan,
-                number,
-            };
-            judge_going(
-                letters, going, protein, new, deleted, inserted, transcript, altered,
-            )
-        }
-    }
-}
-
-// Copies as much of R as an answer reports.
-fn copy_reference(answer: Check, protein: &[u8], reference: &mut [u8])
-    requires { Copies answer protein.now reference.old }
-    ensures { reference.new ≡ over (reference_in answer protein.now) reference.old }
-{
-    match answer {
-        Check::Refused(_) => {}
-        Check::Judged(v) => {
-            let n = v.reference;
-            bytewise::copy(&protein[..n], reference);
-        }
-    }
 }
 
 // The answer to a proposed record, with room for R, which is left there where the answer reports it.
@@ -149,58 +95,51 @@ fn check_in(
     protein: &mut [u8],
     transcript: &mut [u8],
     altered: &mut [u8],
-) -> Check
+) -> Result<Verdict, Refusal>
     requires { HasRoom limits.longest (letters_by proposing.asks.form letters.now) (length protein.old) }
     ensures { Holds
         (check_outcome limits (reference_of (letters_by proposing.asks.form letters.now) proposing.asks.cds proposing.asks.e) (asked proposing.asks.edit new.now) (proposed proposing.number deleted.now inserted.now)
         (record { transcript = length transcript.entry.now; reference = proposing.room; altered = length altered.old }))
-        result transcript.entry.now transcript.exit.now proposing.room protein.new altered.old altered.new }
+        (told result) transcript.entry.now transcript.exit.now proposing.room protein.new altered.old altered.new }
 {
     let asks = proposing.asks;
     let e = asks.e;
-    let edit = asks.edit;
-    let number = proposing.number;
-    let form = asks.form;
-    match check_reference(letters, form, asks.cds, e, LONGEST, protein) {
-        Checked::Refused(n) => Check::Refused(n),
-        Checked::Known(known) => {
-            let residues = known.residues;
-            let room = Room {
-                transcript: transcript.len(),
-                reference: proposing.room,
-                altered: altered.len(),
-            };
-            let decision = decide_changing(
-                letters,
-                known,
-                e,
-                &protein[..residues],
-                edit,
-                new,
-                room,
-            );
-            let decided = Decided {
-                known,
-                e,
-                decision,
-                number,
-            };
-            judge_decided(
-                letters,
-                decided,
-                &protein[..residues],
-                new,
-                deleted,
-                inserted,
-                transcript,
-                altered,
-            )
-        }
-    }
+    let known = check_reference(letters, asks.form, asks.cds, e, LONGEST, protein)?;
+    let room = Room {
+        transcript: transcript.len(),
+        reference: proposing.room,
+        altered: altered.len(),
+    };
+    let plan = decide_changing(
+        letters,
+        known,
+        e,
+        &protein[..known.residues],
+        asks.edit,
+        new,
+        room,
+    )?;
+    let going = Going {
+        known,
+        e,
+        plan,
+        number: proposing.number,
+    };
+    judge_going(
+        letters,
+        going,
+        &protein[..known.residues],
+        new,
+        deleted,
+        inserted,
+        transcript,
+        altered,
+    )
 }
 
-// The answer to a proposed record of an edit of a reference of any length.
-fn check_long(
+// The answer to a proposed record of an edit of a reference, with room for ROOM residues of R. Each room lies in a function of its own, so that a
+// call has but one of them.
+fn check_with_room<const ROOM: usize>(
     letters: &[u8],
     p: Proposed,
     new: &[u8],
@@ -209,19 +148,19 @@ fn check_long(
     transcript: &mut [u8],
     reference: &mut [u8],
     altered: &mut [u8],
-) -> Check
+) -> Result<Verdict, Refusal>
+    requires { HasRoom limits.longest (letters_by p.asks.form letters.now) ROOM }
     ensures { CheckAnswers
         (check_outcome limits (reference_of (letters_by p.asks.form letters.now) p.asks.cds p.asks.e) (asked p.asks.edit new.now) (proposed p.number deleted.now inserted.now) (room_of transcript.old reference.old altered.old))
-        result transcript.old transcript.new reference.old reference.new altered.old altered.new }
+        (told result) transcript.old transcript.new reference.old reference.new altered.old altered.new }
 {
-    let asks = p.asks;
     let proposing = Proposing {
-        asks,
+        asks: p.asks,
         number: p.number,
         room: reference.len(),
     };
-    let mut protein = [0u8; LONGEST_PROTEIN];
-    let answer = check_in(
+    let mut protein = [0u8; ROOM];
+    let verdict = check_in(
         letters,
         proposing,
         new,
@@ -230,46 +169,9 @@ fn check_long(
         &mut protein,
         transcript,
         altered,
-    );
-    copy_reference(answer, &protein, reference);
-    answer
-}
-
-// The answer to a proposed record of an edit of a reference of at most 16,384 letters. Its room for R and that of a long one lie in functions of their own, so that a call has but one of them.
-fn check_short(
-    letters: &[u8],
-    p: Proposed,
-    new: &[u8],
-    deleted: &[u8],
-    inserted: &[u8],
-    transcript: &mut [u8],
-    reference: &mut [u8],
-    altered: &mut [u8],
-) -> Check
-    requires { length (letters_by p.asks.form letters.now) ≤ 16384 }
-    ensures { CheckAnswers
-        (check_outcome limits (reference_of (letters_by p.asks.form letters.now) p.asks.cds p.asks.e) (asked p.asks.edit new.now) (proposed p.number deleted.now inserted.now) (room_of transcript.old reference.old altered.old))
-        result transcript.old transcript.new reference.old reference.new altered.old altered.new }
-{
-    let asks = p.asks;
-    let proposing = Proposing {
-        asks,
-        number: p.number,
-        room: reference.len(),
-    };
-    let mut protein = [0u8; SHORT_PROTEIN];
-    let answer = check_in(
-        letters,
-        proposing,
-        new,
-        deleted,
-        inserted,
-        &mut protein,
-        transcript,
-        altered,
-    );
-    copy_reference(answer, &protein, reference);
-    answer
+    )?;
+    bytewise::copy(&protein[..verdict.reference], reference);
+    Ok(verdict)
 }
 
 // The answer to a proposed record of an edit of a reference: 1 to 5, 6 or 28, 7 to 10, 26 for an Unknown, 11, 12, 26 and 27, or whether it
@@ -283,19 +185,17 @@ pub fn check_altseq(
     transcript: &mut [u8],
     reference: &mut [u8],
     altered: &mut [u8],
-) -> Check
+) -> Result<Verdict, Refusal>
     ensures { CheckAnswers
         (check_outcome limits (reference_of (letters_by p.asks.form letters.now) p.asks.cds p.asks.e) (asked p.asks.edit new.now) (proposed p.number deleted.now inserted.now) (room_of transcript.old reference.old altered.old))
-        result transcript.old transcript.new reference.old reference.new altered.old altered.new }
+        (told result) transcript.old transcript.new reference.old reference.new altered.old altered.new }
 {
-    let asks = p.asks;
-    let form = asks.form;
-    if SHORT < size_of(letters, form) {
-        return check_long(
+    if SHORT < size_of(letters, p.asks.form) {
+        return check_with_room::<LONGEST_PROTEIN>(
             letters, p, new, deleted, inserted, transcript, reference, altered,
         );
     }
-    check_short(
+    check_with_room::<SHORT_PROTEIN>(
         letters, p, new, deleted, inserted, transcript, reference, altered,
     )
 }

@@ -6,6 +6,7 @@ mod answer;
 ghost use Rattle.std.specs.Prelude.{◌≡◌};
 ghost use Rattle.rules.specs.Check.{is_changed};
 ghost use Rattle.rules.specs.Refusal.{limits};
+ghost use Rattle.rules.specs.Refusals.{told};
 ghost use Rattle.rules.specs.Packed.{letters_by};
 ghost use Rattle.rules.specs.Views.{asked, reference_of};
 ghost use Rattle.reference.specs.Known.{Knows};
@@ -15,10 +16,9 @@ ghost use Rattle.checks.specs.Changing.{changing_in, Changes};
 use altered::moved_over;
 use altseq::decide_in;
 pub use answer::{Proposed, check_altseq};
-use edits::decision::Decision;
 use edits::plans::Plan;
 use reference::Known;
-use rules::{Edit, Exceptions};
+use rules::{Edit, Exceptions, Refusal};
 use silent::keeps_protein;
 
 // The bytes lent for the altered transcript, R and A.
@@ -60,11 +60,11 @@ pub fn decide_changing(
     edit: Edit,
     new: &[u8],
     room: Room,
-) -> Decision
+) -> Result<Plan, Refusal>
     requires { Knows limits (letters_by known.form letters.now) known e protein.now }
-    ensures { result ≡ changing_in (reference_of (letters_by known.form letters.now) known.cds e) (asked edit new.now) (record { transcript = room.transcript; reference = room.reference; altered = room.altered }) }
+    ensures { told result ≡ changing_in (reference_of (letters_by known.form letters.now) known.cds e) (asked edit new.now) (record { transcript = room.transcript; reference = room.reference; altered = room.altered }) }
 {
-    match decide_in(
+    let decided = decide_in(
         letters,
         known,
         edit,
@@ -72,14 +72,13 @@ pub fn decide_changing(
         room.transcript,
         room.reference,
         room.altered,
-    ) {
-        Decision::Refused(n) => Decision::Refused(n),
-        Decision::Unknown => Decision::Refused(26),
-        Decision::Goes(plan) => {
-            if changes(letters, known, e, protein, plan, new) {
-                return Decision::Goes(plan);
-            }
-            Decision::Refused(26)
-        }
+    )?;
+    let Some(plan) = decided else {
+        return Err(Refusal::NotChanged);
+    };
+    if changes(letters, known, e, protein, plan, new) {
+        Ok(plan)
+    } else {
+        Err(Refusal::NotChanged)
     }
 }

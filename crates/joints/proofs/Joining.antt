@@ -9,25 +9,28 @@ use lib.ListN.{length, take, drop, take-append-drop}
 use Rattle.rules.specs.declared.Cds.{Cds}
 use Rattle.rules.specs.declared.Edit.{Edit}
 use Rattle.rules.specs.declared.Exceptions.{Exceptions}
-use Rattle.rules.specs.Bytes.{all, Test, first_number}
+use Rattle.rules.specs.declared.Refusal.{Refusal}
+use Rattle.rules.specs.Bytes.{all, given, refused, unless, Test, first_number}
 use Rattle.rules.specs.Reference.{Reference, size}
 use Rattle.rules.specs.Edit.{Asked, start_place, end_place, start_index, end_index, ends_past, is_misplaced, is_disordered, edit_tests}
 use Rattle.rules.specs.Altered.{finds_stop}
 use Rattle.rules.specs.Record.{is_unknown}
 use Rattle.rules.specs.Pair.{touched_from, touched_to, is_ahead, are_apart, pair_tests}
+use Rattle.rules.specs.Refusals.{refusal_number}
 use Rattle.rules.specs.Views.{bare, asked, reference_of}
 use Rattle.rules.proofs.Tests.{first_behind, first_before}
 use Rattle.reference.specs.declared.Known.{Known}
 use Rattle.reference.specs.Bounds.{Sound}
 use Rattle.reference.specs.Known.{known_of}
 use Rattle.reference.proofs.Checking.{bounded}
+use Rattle.reference.proofs.Judging.{number_some, told-refused}
 use Rattle.positions.proofs.Tests.{edit-allowed, edit-indexes}
 use Rattle.edits.specs.declared.plans.Plan.{Plan}
 use Rattle.edits.specs.Plans.{plan_of}
 use Rattle.edits.proofs.Planning.{bare_plan}
-use Rattle.joints.specs.declared.Joint.TheVariants.{Refused, Both}
+use Rattle.joints.specs.declared.Joint.{Joint}
 use Rattle.apart.specs.Apart.{Touching}
-use Rattle.joints.specs.Joints.{early_pair, joint_by, joint_of}
+use Rattle.joints.specs.Joints.{early_pair, joint_of}
 
 -- the tests look at no exception
 module _ (s : List ℕ) (c : Cds) (e : Exceptions) where
@@ -52,9 +55,9 @@ before ts us (suc n) h some = first_before ts us n h
 
 -- by the tests of a reference
 module _ (most other : ℕ) (r : Reference) (a b : Asked) where
-  pub early-first : (n : ℕ) → n ≡ first_number (edit_tests most r a) → (n ≡ 0 → ⊥) → n ≡ early_pair most other r a b
+  pub early-first : (x : Refusal) → refusal_number x ≡ first_number (edit_tests most r a) → refusal_number x ≡ early_pair most other r a b
   unfolding early_pair
-  early-first n h some = sym (before (edit_tests most r a) (edit_tests other r b ++ take 2 (pair_tests r a b)) n (sym h) some)
+  early-first x h = sym (before (edit_tests most r a) (edit_tests other r b ++ take 2 (pair_tests r a b)) (refusal_number x) (sym h) (number_some x))
 
   -- the tests behind those of the two edits
   module _ (first : first_number (edit_tests most r a) ≡ 0) (us : List Test) where
@@ -67,9 +70,10 @@ module _ (most other : ℕ) (r : Reference) (a b : Asked) where
     past-second second = past_first ∙ first_behind (edit_tests other r b) us refl second
 
   module _ (first : first_number (edit_tests most r a) ≡ 0) where
-    pub early-second : (n : ℕ) → n ≡ first_number (edit_tests other r b) → (n ≡ 0 → ⊥) → n ≡ early_pair most other r a b
+    pub early-second : (x : Refusal) → refusal_number x ≡ first_number (edit_tests other r b) → refusal_number x ≡ early_pair most other r a b
     unfolding early_pair
-    early-second n h some = sym (past_first first (take 2 (pair_tests r a b)) ∙ before (edit_tests other r b) (take 2 (pair_tests r a b)) n (sym h) some)
+    early-second x h =
+        sym (past_first first (take 2 (pair_tests r a b)) ∙ before (edit_tests other r b) (take 2 (pair_tests r a b)) (refusal_number x) (sym h) (number_some x))
 
     pub early-pair : first_number (edit_tests other r b) ≡ 0 → (n : ℕ) → first_number (take 2 (pair_tests r a b)) ≡ n → n ≡ early_pair most other r a b
     unfolding early_pair
@@ -86,11 +90,6 @@ module _ (most other : ℕ) (r : Reference) (a b : Asked) where
       by zero zero p q = (p, q, sym (past-second p (take 2 (pair_tests r a b)) q) ∙ h)
 
   -- what is decided
-  refused-by : (n : ℕ) (p q : Plan) → (n ≡ 0 → ⊥) → Refused n ≡ joint_by n p q
-  unfolding joint_by
-  refused-by zero p q some = absurd (some refl)
-  refused-by (suc n) p q some = refl
-
   early-all : (n : ℕ) → early_pair most other r a b ≡ n → (n ≡ 0 → ⊥) → first_number (edit_tests most r a ++ (edit_tests other r b ++ pair_tests r a b)) ≡ n
   unfolding early_pair
   early-all n h some =
@@ -99,9 +98,11 @@ module _ (most other : ℕ) (r : Reference) (a b : Asked) where
       ap (λ (l : List Test). edit_tests most r a ++ (edit_tests other r b ++ l)) (sym (take-append-drop 2 (pair_tests r a b))) ∙ simp append_assoc in
       ap first_number split ∙ before early (drop 2 (pair_tests r a b)) n h some
 
-  pub joint-early : (n : ℕ) → n ≡ early_pair most other r a b → (n ≡ 0 → ⊥) → Refused n ≡ joint_of most other r a b
+  pub joint-early : (x : Refusal) → refusal_number x ≡ early_pair most other r a b → refused (refusal_number x) ≡ joint_of most other r a b
   unfolding joint_of
-  joint-early n h some = refused-by n (plan_of r a) (plan_of r b) some ∙ ap (λ (n : ℕ). joint_by n (plan_of r a) (plan_of r b)) (sym (early-all n (sym h) some))
+  joint-early x h =
+      let both : Joint = record { first = plan_of r a; second = plan_of r b } in
+      told-refused x (first_number (edit_tests most r a ++ (edit_tests other r b ++ pair_tests r a b))) both (sym (early-all (refusal_number x) (sym h) (number_some x)))
 
   module _ (none : early_pair most other r a b ≡ 0) (p q : Plan) (first : p ≡ plan_of r a) (second : q ≡ plan_of r b) where
     behind : first_number (edit_tests most r a ++ (edit_tests other r b ++ pair_tests r a b)) ≡ first_number (drop 2 (pair_tests r a b))
@@ -114,12 +115,12 @@ module _ (most other : ℕ) (r : Reference) (a b : Asked) where
     unfolding plan_of
     stopped = let x = ap (λ (p : Plan). p.stopped) first in let y = ap (λ (p : Plan). p.stopped) second in rw (x, y)
 
-    pub joint-stopped : (p.stopped || q.stopped) ≡ true → Refused 53 ≡ joint_of most other r a b
-    unfolding joint_of joint_by pair_tests first_number
+    pub joint-stopped : (p.stopped || q.stopped) ≡ true → refused 53 ≡ joint_of most other r a b
+    unfolding joint_of unless pair_tests first_number
     joint-stopped h = let third : first_number (drop 2 (pair_tests r a b)) ≡ 53 = rw (stopped, h) in rw (behind ∙ third)
 
-    pub joint-both : (p.stopped || q.stopped) ≡ false → Both p q ≡ joint_of most other r a b
-    unfolding joint_of joint_by pair_tests first_number
+    pub joint-both : (p.stopped || q.stopped) ≡ false → given (record { first = p; second = q }) ≡ joint_of most other r a b
+    unfolding joint_of unless pair_tests first_number
     joint-both h = let third : first_number (drop 2 (pair_tests r a b)) ≡ 0 = rw (stopped, h) in rw (behind ∙ third, first, second)
 
 -- 51 and 52 of a checked reference, by what the code tells

@@ -1,7 +1,7 @@
 -- What is decided of two edits of a checked reference before a byte is written.
-use Rattle.std.specs.Prelude.{ℕ, zero, suc, ◌≡◌, List, ◌++◌, take}
+use Rattle.std.specs.Prelude.{ℕ, ◌≡◌, List, ◌++◌, take}
 use Rattle.rules.specs.declared.Exceptions.{Exceptions}
-use Rattle.rules.specs.Bytes.{first_number}
+use Rattle.rules.specs.Bytes.{first_number, Result, unless}
 use Rattle.rules.specs.Reference.{Reference}
 use Rattle.rules.specs.Edit.{Asked, edit_tests}
 use Rattle.rules.specs.Pair.{pair_tests}
@@ -10,7 +10,6 @@ use Rattle.reference.specs.Known.{known_of, Checks}
 use Rattle.edits.specs.declared.plans.Plan.{Plan}
 use Rattle.edits.specs.Plans.{plan_of}
 use Rattle.joints.specs.declared.Joint.{Joint}
-use Rattle.joints.specs.declared.Joint.TheVariants.{Refused, Both}
 
 -- what is known of a checked reference, its exceptions not at hand
 pub record Knowing (s : List ℕ) (k : Known) : Type 0 where
@@ -23,11 +22,8 @@ pub record Knowing (s : List ℕ) (k : Known) : Type 0 where
 unfoldable pub early_pair : ℕ → ℕ → Reference → Asked → Asked → ℕ
 early_pair most other r e f = first_number (edit_tests most r e ++ (edit_tests other r f ++ take 2 (pair_tests r e f)))
 
-unfoldable pub joint_by : ℕ → Plan → Plan → Joint
-joint_by zero p q = Both p q
-joint_by (suc n) p q = Refused (suc n)
-
 -- the same and 53, else what each does
-unfoldable pub joint_of : ℕ → ℕ → Reference → Asked → Asked → Joint
+unfoldable pub joint_of : ℕ → ℕ → Reference → Asked → Asked → Result Joint
 joint_of most other r e f =
-    joint_by (first_number (edit_tests most r e ++ (edit_tests other r f ++ pair_tests r e f))) (plan_of r e) (plan_of r f)
+    unless (first_number (edit_tests most r e ++ (edit_tests other r f ++ pair_tests r e f)))
+    (record { first = plan_of r e; second = plan_of r f })

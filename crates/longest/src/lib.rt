@@ -25,16 +25,7 @@ fn most_of(longest: usize) -> usize
 fn is_counted(kind: Kind) -> bool
     ensures { result ≡ is_counted kind }
 {
-    match kind {
-        Kind::Delins => true,
-        Kind::Insertion => true,
-        Kind::Substitution => false,
-        Kind::Deletion => false,
-        Kind::Duplication => false,
-        Kind::Inversion => false,
-        Kind::Identity => false,
-        Kind::Other => false,
-    }
+    matches!(kind, Kind::Delins | Kind::Insertion)
 }
 
 // The new bases as they are handed on: none, where they are counted and too many. 10 refuses them then, in its place.

@@ -4,16 +4,16 @@ ghost use Rattle.rules.specs.Bytes.{over};
 ghost use Rattle.rules.specs.Altered.{part};
 ghost use Rattle.rules.specs.Packed.{letters_by};
 ghost use Rattle.rules.specs.Pair.{Pairs};
+ghost use Rattle.rules.specs.Refusals.{told};
 ghost use Rattle.rules.proofs.Pairs.{five_parts};
 ghost use Rattle.edits.specs.Plans.{goes_in};
 ghost use Rattle.pairs.specs.Carrying.{swap_of, both_by, protein_in, pair_room_of, carried_outcome, Behind, InRow, Codes, Goes};
 
 use buffers::pair_room_refusal;
-use cuts::no_exceptions;
 use edits::plans::Plan;
 use packed::{copy_letters, size_of};
 use reference::Known;
-use rules::{Form, Paired};
+use rules::{Exceptions, Form, PairReport, Refusal};
 use transcript::{write_put, write_rest};
 use translation::all_bases;
 use walks::write_through_stop;
@@ -93,8 +93,8 @@ fn write_both(
     other: &[u8],
     transcript: &mut [u8],
 ) -> usize
-    requires in_row { first.to < second.from → InRow first second (letters_by form letters.now) new.now other.now (length transcript.old) }
-    requires in_row_2 { second.from ≤ first.to → InRow second first (letters_by form letters.now) other.now new.now (length transcript.old) }
+    requires first_ahead { first.to < second.from → InRow first second (letters_by form letters.now) new.now other.now (length transcript.old) }
+    requires second_ahead { second.from ≤ first.to → InRow second first (letters_by form letters.now) other.now new.now (length transcript.old) }
     ensures value { result ≡ length (both_by first second (letters_by form letters.now) new.now other.now) }
     ensures transcript_after { transcript.new ≡ over (both_by first second (letters_by form letters.now) new.now other.now) transcript.old }
 {
@@ -123,7 +123,7 @@ fn write_protein(
         &transcript[first..],
         c.table,
         plain,
-        no_exceptions(),
+        Exceptions::none(),
         altered,
     );
     walked.residues
@@ -139,22 +139,19 @@ pub(crate) fn carry_pair(
     other: &[u8],
     transcript: &mut [u8],
     altered: &mut [u8],
-) -> Paired
+) -> Result<PairReport, Refusal>
     requires { Goes (letters_by known.form letters.now) known first second new.now other.now }
     ensures { Pairs
         (carried_outcome known.cds first second (letters_by known.form letters.now) new.now other.now (pair_room_of transcript.old altered.old))
-        result transcript.old transcript.new altered.old altered.new }
+        (told result) transcript.old transcript.new altered.old altered.new }
 {
     let form = known.form;
     let length = first.length + second.length - size_of(letters, form);
-    let refused = pair_room_refusal(known.cds, length, transcript.len(), altered.len());
-    if refused != 0 {
-        return Paired::Refused(refused);
-    }
+    pair_room_refusal(known.cds, length, transcript.len(), altered.len())?;
     let n = write_both(letters, form, first, new, second, other, transcript);
     let residues = write_protein(known, new, other, &transcript[..n], altered);
-    Paired::Carried {
+    Ok(PairReport {
         transcript: n,
         altered: residues,
-    }
+    })
 }

@@ -1,6 +1,7 @@
 // The answer to an edit under the profile: 1 to 10, then 40 to 43, then what the full module answers. The reference is checked once.
 ghost use Rattle.std.specs.Prelude.{length};
 ghost use Rattle.rules.specs.Refusal.{limits};
+ghost use Rattle.rules.specs.Refusals.{told};
 ghost use Rattle.rules.specs.Answer.{Answers};
 ghost use Rattle.rules.specs.Packed.{letters_by};
 ghost use Rattle.rules.specs.Panel.{panel_outcome};
@@ -11,8 +12,8 @@ use altseq::{Ready, answer_known};
 use packed::size_of;
 use positions::refusals::edit_refusal;
 use profile::profile_refusal;
-use reference::{Checked, check_reference};
-use rules::{Answer, LONGEST, LONGEST_PROTEIN, MOST, Question, SHORT, SHORT_PROTEIN};
+use reference::check_reference;
+use rules::{LONGEST, LONGEST_PROTEIN, MOST, Question, Refusal, Report, SHORT, SHORT_PROTEIN};
 
 // The answer to an edit of a checked reference, whose substitution names a base.
 fn answer_profiled(
@@ -24,23 +25,17 @@ fn answer_profiled(
     transcript: &mut [u8],
     reference: &mut [u8],
     altered: &mut [u8],
-) -> Answer
+) -> Result<Report, Refusal>
     requires { Knows limits (letters_by ready.known.form letters.now) ready.known ready.e protein.now }
     ensures { Answers
         (panel_outcome limits (reference_of (letters_by ready.known.form letters.now) ready.known.cds ready.e) (asked ready.edit new.now) named (room_of transcript.old reference.old altered.old))
-        result transcript.old transcript.new reference.old reference.new altered.old altered.new }
+        (told result) transcript.old transcript.new reference.old reference.new altered.old altered.new }
 {
     let known = ready.known;
     let edit = ready.edit;
-    let form = known.form;
-    let refused = edit_refusal(size_of(letters, form), known.cds, MOST, edit, new);
-    if refused != 0 {
-        return Answer::Refused(refused);
-    }
-    let outside = profile_refusal(letters, known, edit, new, named);
-    if outside != 0 {
-        return Answer::Refused(outside);
-    }
+    let size = size_of(letters, known.form);
+    edit_refusal(size, known.cds, MOST, edit, new)?;
+    profile_refusal(letters, known, edit, new, named)?;
     answer_known(letters, ready, protein, new, transcript, reference, altered)
 }
 
@@ -54,36 +49,30 @@ fn answer_in(
     transcript: &mut [u8],
     reference: &mut [u8],
     altered: &mut [u8],
-) -> Answer
+) -> Result<Report, Refusal>
     requires { HasRoom limits.longest (letters_by asks.form letters.now) (length protein.old) }
     ensures { Answers
         (panel_outcome limits (reference_of (letters_by asks.form letters.now) asks.cds asks.e) (asked asks.edit new.now) named (room_of transcript.old reference.old altered.old))
-        result transcript.old transcript.new reference.old reference.new altered.old altered.new }
+        (told result) transcript.old transcript.new reference.old reference.new altered.old altered.new }
 {
     let e = asks.e;
+    let known = check_reference(letters, asks.form, asks.cds, e, LONGEST, protein)?;
     let edit = asks.edit;
-    let form = asks.form;
-    match check_reference(letters, form, asks.cds, e, LONGEST, protein) {
-        Checked::Refused(n) => Answer::Refused(n),
-        Checked::Known(known) => {
-            let residues = known.residues;
-            let ready = Ready { known, e, edit };
-            answer_profiled(
-                letters,
-                ready,
-                named,
-                &protein[..residues],
-                new,
-                transcript,
-                reference,
-                altered,
-            )
-        }
-    }
+    let ready = Ready { known, e, edit };
+    answer_profiled(
+        letters,
+        ready,
+        named,
+        &protein[..known.residues],
+        new,
+        transcript,
+        reference,
+        altered,
+    )
 }
 
-// The answer to an edit of a reference of any length.
-fn answer_long(
+// The answer to an edit of a reference, with room for ROOM residues of R. Each room lies in a function of its own, so that a call has but one of them.
+fn answer_with_room<const ROOM: usize>(
     letters: &[u8],
     asks: Question,
     named: usize,
@@ -91,12 +80,13 @@ fn answer_long(
     transcript: &mut [u8],
     reference: &mut [u8],
     altered: &mut [u8],
-) -> Answer
+) -> Result<Report, Refusal>
+    requires { HasRoom limits.longest (letters_by asks.form letters.now) ROOM }
     ensures { Answers
         (panel_outcome limits (reference_of (letters_by asks.form letters.now) asks.cds asks.e) (asked asks.edit new.now) named (room_of transcript.old reference.old altered.old))
-        result transcript.old transcript.new reference.old reference.new altered.old altered.new }
+        (told result) transcript.old transcript.new reference.old reference.new altered.old altered.new }
 {
-    let mut protein = [0u8; LONGEST_PROTEIN];
+    let mut protein = [0u8; ROOM];
     answer_in(
         letters,
         asks,
@@ -119,24 +109,15 @@ pub fn build_panel(
     transcript: &mut [u8],
     reference: &mut [u8],
     altered: &mut [u8],
-) -> Answer
+) -> Result<Report, Refusal>
     ensures { Answers
         (panel_outcome limits (reference_of (letters_by asks.form letters.now) asks.cds asks.e) (asked asks.edit new.now) named (room_of transcript.old reference.old altered.old))
-        result transcript.old transcript.new reference.old reference.new altered.old altered.new }
+        (told result) transcript.old transcript.new reference.old reference.new altered.old altered.new }
 {
-    let form = asks.form;
-    if SHORT < size_of(letters, form) {
-        return answer_long(letters, asks, named, new, transcript, reference, altered);
+    if SHORT < size_of(letters, asks.form) {
+        return answer_with_room::<LONGEST_PROTEIN>(
+            letters, asks, named, new, transcript, reference, altered,
+        );
     }
-    let mut protein = [0u8; SHORT_PROTEIN];
-    answer_in(
-        letters,
-        asks,
-        named,
-        new,
-        &mut protein,
-        transcript,
-        reference,
-        altered,
-    )
+    answer_with_room::<SHORT_PROTEIN>(letters, asks, named, new, transcript, reference, altered)
 }

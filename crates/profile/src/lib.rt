@@ -7,6 +7,7 @@ ghost use Rattle.rules.specs.Bytes.{first_number};
 ghost use Rattle.rules.specs.Edit.{is};
 ghost use Rattle.rules.specs.declared.Kind.TheVariants.{Substitution};
 ghost use Rattle.rules.specs.Packed.{letters_by};
+ghost use Rattle.rules.specs.Refusals.{refusal_of};
 ghost use Rattle.rules.specs.Views.{bare, asked};
 ghost use Rattle.rules.specs.Panel.{is_panel_kind, is_inside, is_of_panel, profile_tests};
 ghost use Rattle.profile.specs.Numbers.{uneven_by, tests_by, Editable};
@@ -15,34 +16,24 @@ use indexes::index_of;
 use numbers::wide;
 use packed::{letter_at, size_of};
 use reference::Known;
-use rules::{Edit, Kind, Position};
+use rules::{Edit, Kind, Position, Refusal};
 use translation::all_bases;
 
 // Substitutions, deletions, duplications and insertions.
 fn is_panel_kind(kind: Kind) -> bool
     ensures { result ≡ is_panel_kind kind }
 {
-    match kind {
-        Kind::Substitution => true,
-        Kind::Deletion => true,
-        Kind::Duplication => true,
-        Kind::Insertion => true,
-        Kind::Delins => false,
-        Kind::Inversion => false,
-        Kind::Identity => false,
-        Kind::Other => false,
-    }
+    matches!(
+        kind,
+        Kind::Substitution | Kind::Deletion | Kind::Duplication | Kind::Insertion
+    )
 }
 
 // In the CDS: no negative and no star position.
 fn is_inside(p: Position) -> bool
     ensures { result ≡ is_inside p }
 {
-    match p {
-        Position::Plus(_) => true,
-        Position::Minus(_) => false,
-        Position::Star(_) => false,
-    }
+    matches!(p, Position::Plus(_))
 }
 
 // 41: whether the kind and both positions are of the profile.
@@ -60,14 +51,9 @@ fn is_uneven(kind: Kind, span: usize, len: usize) -> bool
     ensures { result ≡ uneven_by kind span len }
 {
     match kind {
-        Kind::Substitution => false,
-        Kind::Deletion => span % 3 != 0,
-        Kind::Duplication => span % 3 != 0,
+        Kind::Deletion | Kind::Duplication => span % 3 != 0,
         Kind::Insertion => len % 3 != 0,
-        Kind::Delins => false,
-        Kind::Inversion => false,
-        Kind::Identity => false,
-        Kind::Other => false,
+        _ => false,
     }
 }
 
@@ -75,41 +61,38 @@ fn is_uneven(kind: Kind, span: usize, len: usize) -> bool
 fn is_naming(kind: Kind) -> bool
     ensures { result ≡ is Substitution kind }
 {
-    match kind {
-        Kind::Substitution => true,
-        Kind::Deletion => false,
-        Kind::Delins => false,
-        Kind::Insertion => false,
-        Kind::Duplication => false,
-        Kind::Inversion => false,
-        Kind::Identity => false,
-        Kind::Other => false,
-    }
+    matches!(kind, Kind::Substitution)
 }
 
-// The lowest of 40 to 43, by what the four tests say, or 0.
-fn first_refusal(bases: bool, of_panel: bool, uneven: bool, names: bool) -> usize
-    ensures { result ≡ first_number (tests_by bases of_panel uneven names) }
+// The lowest of 40 to 43, by what the four tests say.
+fn first_refusal(bases: bool, of_panel: bool, uneven: bool, names: bool) -> Result<(), Refusal>
+    ensures { refusal_of result ≡ first_number (tests_by bases of_panel uneven names) }
 {
     if !bases {
-        return 40;
+        return Err(Refusal::ProfileLetter);
     }
     if !of_panel {
-        return 41;
+        return Err(Refusal::ProfileEdit);
     }
     if uneven {
-        return 42;
+        return Err(Refusal::ProfileFrame);
     }
     if !names {
-        return 43;
+        return Err(Refusal::NamedBase);
     }
-    0
+    Ok(())
 }
 
-// The lowest of 40 to 43 that applies, or 0.
-pub fn profile_refusal(letters: &[u8], known: Known, edit: Edit, new: &[u8], named: usize) -> usize
+// The lowest of 40 to 43 that applies.
+pub fn profile_refusal(
+    letters: &[u8],
+    known: Known,
+    edit: Edit,
+    new: &[u8],
+    named: usize,
+) -> Result<(), Refusal>
     requires { Editable (letters_by known.form letters.now) known (asked edit new.now) }
-    ensures { result ≡ first_number (profile_tests (bare (letters_by known.form letters.now) known.cds) (asked edit new.now) named) }
+    ensures { refusal_of result ≡ first_number (profile_tests (bare (letters_by known.form letters.now) known.cds) (asked edit new.now) named) }
 {
     let form = known.form;
     let c = known.cds;

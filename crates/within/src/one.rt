@@ -5,13 +5,14 @@ ghost use Rattle.rules.specs.Answer.{Answers};
 ghost use Rattle.rules.specs.Longest.{outcome_within};
 ghost use Rattle.rules.specs.Panel.{panel_within};
 ghost use Rattle.rules.specs.Packed.{letters_by};
+ghost use Rattle.rules.specs.Refusals.{told};
 ghost use Rattle.rules.specs.Views.{asked, reference_of, room_of};
 ghost use Rattle.within.specs.Edited.{edited_within};
 
+use crate::given_within;
 use altseq::{Transcribed, build_altseq, build_transcript};
-use longest::{bases_within, is_given_longest};
 use panel::build_panel;
-use rules::{Answer, Question};
+use rules::{Question, Refusal, Report};
 
 // The altered transcript alone.
 pub fn transcript_within(
@@ -20,16 +21,11 @@ pub fn transcript_within(
     longest: usize,
     new: &[u8],
     transcript: &mut [u8],
-) -> Transcribed
-    ensures value { result ≡ (edited_within longest (reference_of (letters_by asks.form letters.now) asks.cds asks.e) (asked asks.edit new.now) (length transcript.old)).answer }
+) -> Result<Option<Transcribed>, Refusal>
+    ensures answer { told result ≡ (edited_within longest (reference_of (letters_by asks.form letters.now) asks.cds asks.e) (asked asks.edit new.now) (length transcript.old)).answer }
     ensures transcript_after { transcript.new ≡ over (edited_within longest (reference_of (letters_by asks.form letters.now) asks.cds asks.e) (asked asks.edit new.now) (length transcript.old)).transcript transcript.old }
 {
-    if !is_given_longest(longest) {
-        return Transcribed::Refused(62);
-    }
-    let edit = asks.edit;
-    let kind = edit.kind;
-    let given = bases_within(longest, kind, new);
+    let given = given_within(longest, asks.edit.kind, new)?;
     build_transcript(letters, asks, given, transcript)
 }
 
@@ -42,17 +38,12 @@ pub fn record_within(
     transcript: &mut [u8],
     reference: &mut [u8],
     altered: &mut [u8],
-) -> Answer
+) -> Result<Report, Refusal>
     ensures { Answers
         (outcome_within longest (reference_of (letters_by asks.form letters.now) asks.cds asks.e) (asked asks.edit new.now) (room_of transcript.old reference.old altered.old))
-        result transcript.old transcript.new reference.old reference.new altered.old altered.new }
+        (told result) transcript.old transcript.new reference.old reference.new altered.old altered.new }
 {
-    if !is_given_longest(longest) {
-        return Answer::Refused(62);
-    }
-    let edit = asks.edit;
-    let kind = edit.kind;
-    let given = bases_within(longest, kind, new);
+    let given = given_within(longest, asks.edit.kind, new)?;
     build_altseq(letters, asks, given, transcript, reference, altered)
 }
 
@@ -66,16 +57,11 @@ pub fn panel_within(
     transcript: &mut [u8],
     reference: &mut [u8],
     altered: &mut [u8],
-) -> Answer
+) -> Result<Report, Refusal>
     ensures { Answers
         (panel_within longest (reference_of (letters_by asks.form letters.now) asks.cds asks.e) (asked asks.edit new.now) named (room_of transcript.old reference.old altered.old))
-        result transcript.old transcript.new reference.old reference.new altered.old altered.new }
+        (told result) transcript.old transcript.new reference.old reference.new altered.old altered.new }
 {
-    if !is_given_longest(longest) {
-        return Answer::Refused(62);
-    }
-    let edit = asks.edit;
-    let kind = edit.kind;
-    let given = bases_within(longest, kind, new);
+    let given = given_within(longest, asks.edit.kind, new)?;
     build_panel(letters, asks, named, given, transcript, reference, altered)
 }

@@ -8,4 +8,4 @@ returns c =
     let a = c.args in
     let one = c.touched-one in
     let two = c.touched-two in
-    λ s new bases long. apart_is (bare s a.c) (asked a.edit new) (asked a.other bases) one.result.start one.result.end two.result.start two.result.end (one.ensures.by_index s new long) (one.ensures.by_index_2 s new long) (two.ensures.by_index s bases long) (two.ensures.by_index_2 s bases long)
+    λ s new bases long. apart_is (bare s a.c) (asked a.edit new) (asked a.other bases) one.result.start one.result.end two.result.start two.result.end (one.ensures.start_by_index s new long) (one.ensures.end_by_index s new long) (two.ensures.start_by_index s bases long) (two.ensures.end_by_index s bases long)

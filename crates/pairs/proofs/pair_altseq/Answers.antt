@@ -8,28 +8,25 @@ use Rattle.pairs.specs.Carrying.{pair_room_of}
 use Rattle.pairs.proofs.Answering.{refused-reference, form-at, cds-at, is_known, good, accepts, pairs-cds}
 use Rattle.pairs.proofs.pair_altseq.Goals as goal
 
+pub returns-in_err-known : goal.returns-in_err-known
+returns-in_err-known c =
+    let a = c.args in
+    refused-reference a.asks.form (letters_by a.asks.form a.letters.now) a.asks.cds a.asks.e (asked a.asks.first a.new.now) (asked a.asks.second a.other.now) _ a.transcript.now a.altered.now c.in_err-known.ensures
+
 pub answer_pair-requires : goal.answer_pair-requires
 answer_pair-requires c =
     let a = c.args in
-    let x = c.know_reference in
     let s = letters_by a.asks.form a.letters.now in
-    let h = c.in-Known.is in
-    let same = ap (λ (f : Form). letters_by f a.letters.now) (form-at a.asks.form s a.asks.cds a.asks.e x.result x.ensures _ h) in
-    rw same (accepts a.asks.form s a.asks.cds a.asks.e x.result x.ensures _ h)
+    let h = c.in_ok-known.ensures in
+    let same = ap (λ (f : Form). letters_by f a.letters.now) (form-at a.asks.form s a.asks.cds a.asks.e _ h) in
+    rw same (accepts a.asks.form s a.asks.cds a.asks.e _ h)
 
-pub returns-in-Refused : goal.returns-in-Refused
-returns-in-Refused c =
+pub returns : goal.returns
+returns c =
     let a = c.args in
-    let x = c.know_reference in
-    refused-reference a.asks.form (letters_by a.asks.form a.letters.now) a.asks.cds a.asks.e x.result x.ensures (asked a.asks.first a.new.now) (asked a.asks.second a.other.now) _ a.transcript.now a.altered.now c.in-Refused.is
-
-pub returns-in-Known : goal.returns-in-Known
-returns-in-Known c =
-    let a = c.args in
-    let x = c.know_reference in
     let s = letters_by a.asks.form a.letters.now in
-    let k = c.in-Known.known in
-    let h = c.in-Known.is in
-    let same = ap (λ (f : Form). letters_by f a.letters.now) (form-at a.asks.form s a.asks.cds a.asks.e x.result x.ensures k h) in
-    pairs-cds s k.cds a.asks.cds a.asks.e (asked a.asks.first a.new.now) (asked a.asks.second a.other.now) (pair_room_of a.transcript.now a.altered.now) _ a.transcript.now _ a.altered.now _ (cds-at a.asks.form s a.asks.cds a.asks.e x.result x.ensures k h)
-    ((rw same at c.answer_pair.ensures) limits.longest a.asks.e (is_known a.asks.form s a.asks.cds a.asks.e x.result x.ensures k h) (good a.asks.form s a.asks.cds a.asks.e x.result x.ensures k h))
+    let k = c.in_ok-known.value in
+    let h = c.in_ok-known.ensures in
+    let same = ap (λ (f : Form). letters_by f a.letters.now) (form-at a.asks.form s a.asks.cds a.asks.e k h) in
+    pairs-cds s k.cds a.asks.cds a.asks.e (asked a.asks.first a.new.now) (asked a.asks.second a.other.now) (pair_room_of a.transcript.now a.altered.now) _ a.transcript.now _ a.altered.now _ (cds-at a.asks.form s a.asks.cds a.asks.e k h)
+    ((rw same at c.answer_pair.ensures) limits.longest a.asks.e (is_known a.asks.form s a.asks.cds a.asks.e k h) (good a.asks.form s a.asks.cds a.asks.e k h))

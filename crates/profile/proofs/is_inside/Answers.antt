@@ -1,16 +1,13 @@
--- `profile::is_inside` meets its contract, case by case. Assumes nothing.
+-- `profile::is_inside` meets its contract, arm by arm. Assumes nothing.
+use Rattle.std.proofs.Common.{rules}
 use Rattle.rules.specs.Position.{is_before, is_behind}
 use Rattle.rules.specs.Panel.{is_inside}
 use Rattle.profile.proofs.is_inside.Goals as goal
 
 pub returns-in-Plus : goal.returns-in-Plus
 unfolding is_inside is_before is_behind
-returns-in-Plus c = rw c.in-Plus.is
+returns-in-Plus c = search rules
 
-pub returns-in-Minus : goal.returns-in-Minus
+pub returns-in_default : goal.returns-in_default
 unfolding is_inside is_before is_behind
-returns-in-Minus c = rw c.in-Minus.is
-
-pub returns-in-Star : goal.returns-in-Star
-unfolding is_inside is_before is_behind
-returns-in-Star c = rw c.in-Star.is
+returns-in_default c = search rules

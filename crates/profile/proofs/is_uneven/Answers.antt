@@ -1,35 +1,16 @@
--- `profile::is_uneven` meets its contract, case by case. Assumes nothing.
+-- `profile::is_uneven` meets its contract, arm by arm. Assumes nothing.
+use Rattle.std.proofs.Common.{rules}
 use Rattle.profile.specs.Numbers.{uneven_by}
 use Rattle.profile.proofs.is_uneven.Goals as goal
 
-pub returns-in-Substitution : goal.returns-in-Substitution
-unfolding uneven_by
-returns-in-Substitution c = rw c.in-Substitution.is
-
 pub returns-in-Deletion : goal.returns-in-Deletion
 unfolding uneven_by
-returns-in-Deletion c = rw c.in-Deletion.is
-
-pub returns-in-Duplication : goal.returns-in-Duplication
-unfolding uneven_by
-returns-in-Duplication c = rw c.in-Duplication.is
+returns-in-Deletion c = search rules
 
 pub returns-in-Insertion : goal.returns-in-Insertion
 unfolding uneven_by
-returns-in-Insertion c = rw c.in-Insertion.is
+returns-in-Insertion c = search rules
 
-pub returns-in-Delins : goal.returns-in-Delins
+pub returns-in_default : goal.returns-in_default
 unfolding uneven_by
-returns-in-Delins c = rw c.in-Delins.is
-
-pub returns-in-Inversion : goal.returns-in-Inversion
-unfolding uneven_by
-returns-in-Inversion c = rw c.in-Inversion.is
-
-pub returns-in-Identity : goal.returns-in-Identity
-unfolding uneven_by
-returns-in-Identity c = rw c.in-Identity.is
-
-pub returns-in-Other : goal.returns-in-Other
-unfolding uneven_by
-returns-in-Other c = rw c.in-Other.is
+returns-in_default c = search rules

@@ -15,7 +15,7 @@ returns-then-not-is_proposal c =
     let a = c.args in
     let x = c.requires in
     let all = no-proposal (letters_by a.going.known.form a.letters.now) a.going.known a.going.e a.protein.now a.going.plan a.new.now a.transcript.now a.altered.now x (proposed a.going.number a.deleted.now a.inserted.now) c.is_proposal.result (c.is_proposal.ensures (reference_protein (reference_of (letters_by a.going.known.form a.letters.now) a.going.known.cds a.going.e)) (sym (ap length x.known.read))) (ap not c.if-not-is_proposal.true) in
-    record { value = all.0; transcript_after = all.1; altered_after = all.2 }
+    record { answer = all.0; transcript_after = all.1; altered_after = all.2 }
 
 pub slice_bounds-judge-end : goal.slice_bounds-judge-end
 slice_bounds-judge-end c =
@@ -34,4 +34,4 @@ returns c =
     let judged = c.judge-judged in
     let a = c.args in
     let x = c.requires in
-    record { value = judged-answer (letters_by a.going.known.form a.letters.now) a.going.known a.going.e a.protein.now a.going.plan a.new.now a.transcript.now a.altered.now x (proposed a.going.number a.deleted.now a.inserted.now) c.is_proposal.result (c.is_proposal.ensures (reference_protein (reference_of (letters_by a.going.known.form a.letters.now) a.going.known.cds a.going.e)) (sym (ap length x.known.read))) (ap not c.if-not-is_proposal.false) c.carry_out-report.result c.carry_out-report.ensures.value a.transcript.now _ c.carry_out-report.ensures.altered_after judged.result.replays judged.result.shortest judged.ensures.replays_value judged.ensures.shortest_value; transcript_after = judged-transcript (letters_by a.going.known.form a.letters.now) a.going.known a.going.e a.protein.now a.going.plan a.new.now a.transcript.now a.altered.now x (proposed a.going.number a.deleted.now a.inserted.now) c.is_proposal.result (c.is_proposal.ensures (reference_protein (reference_of (letters_by a.going.known.form a.letters.now) a.going.known.cds a.going.e)) (sym (ap length x.known.read))) (ap not c.if-not-is_proposal.false) c.carry_out-report.result c.carry_out-report.ensures.value _ _ c.carry_out-report.ensures.altered_after c.carry_out-report.ensures.transcript_after; altered_after = judged-altered (letters_by a.going.known.form a.letters.now) a.going.known a.going.e a.protein.now a.going.plan a.new.now a.transcript.now a.altered.now x (proposed a.going.number a.deleted.now a.inserted.now) c.is_proposal.result (c.is_proposal.ensures (reference_protein (reference_of (letters_by a.going.known.form a.letters.now) a.going.known.cds a.going.e)) (sym (ap length x.known.read))) (ap not c.if-not-is_proposal.false) c.carry_out-report.result c.carry_out-report.ensures.value a.transcript.now _ c.carry_out-report.ensures.altered_after }
+    record { answer = judged-answer (letters_by a.going.known.form a.letters.now) a.going.known a.going.e a.protein.now a.going.plan a.new.now a.transcript.now a.altered.now x (proposed a.going.number a.deleted.now a.inserted.now) c.is_proposal.result (c.is_proposal.ensures (reference_protein (reference_of (letters_by a.going.known.form a.letters.now) a.going.known.cds a.going.e)) (sym (ap length x.known.read))) (ap not c.if-not-is_proposal.false) c.carry_out-report.result c.carry_out-report.ensures.value a.transcript.now _ c.carry_out-report.ensures.altered_after judged.result.replays judged.result.shortest judged.ensures.replays_value judged.ensures.shortest_value; transcript_after = judged-transcript (letters_by a.going.known.form a.letters.now) a.going.known a.going.e a.protein.now a.going.plan a.new.now a.transcript.now a.altered.now x (proposed a.going.number a.deleted.now a.inserted.now) c.is_proposal.result (c.is_proposal.ensures (reference_protein (reference_of (letters_by a.going.known.form a.letters.now) a.going.known.cds a.going.e)) (sym (ap length x.known.read))) (ap not c.if-not-is_proposal.false) c.carry_out-report.result c.carry_out-report.ensures.value _ _ c.carry_out-report.ensures.altered_after c.carry_out-report.ensures.transcript_after; altered_after = judged-altered (letters_by a.going.known.form a.letters.now) a.going.known a.going.e a.protein.now a.going.plan a.new.now a.transcript.now a.altered.now x (proposed a.going.number a.deleted.now a.inserted.now) c.is_proposal.result (c.is_proposal.ensures (reference_protein (reference_of (letters_by a.going.known.form a.letters.now) a.going.known.cds a.going.e)) (sym (ap length x.known.read))) (ap not c.if-not-is_proposal.false) c.carry_out-report.result c.carry_out-report.ensures.value a.transcript.now _ c.carry_out-report.ensures.altered_after }

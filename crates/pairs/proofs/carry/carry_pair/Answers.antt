@@ -30,45 +30,45 @@ overflow_sub-length c =
     let sum = lengths-sum (letters_by a.known.form a.letters.now) a.known a.first a.second a.new.now a.other.now c.requires in
     omega (arith, sum, c.size_of.ensures)
 
-pub pair_room_refusal-refused-requires : goal.pair_room_refusal-refused-requires
-pair_room_refusal-refused-requires c =
+pub pair_room_refusal-requires : goal.pair_room_refusal-requires
+pair_room_refusal-requires c =
     let a = c.args in
     let x = c.requires in
     let first = pair-first (letters_by a.known.form a.letters.now) a.known a.first a.second a.new.now a.other.now x in
     record { bounded = bounded (letters_by a.known.form a.letters.now) a.known.cds x.sound; cs_in_bounds = omega (arith, first, c.size_of.ensures) }
 
-pub returns-then-refused-ne0 : goal.returns-then-refused-ne0
-returns-then-refused-ne0 c =
+pub returns-in_err-pair_room_refusal : goal.returns-in_err-pair_room_refusal
+returns-in_err-pair_room_refusal c =
     let a = c.args in
-    carried-refused (letters_by a.known.form a.letters.now) a.known a.first a.second a.new.now a.other.now a.transcript.now a.altered.now c.pair_room_refusal-refused.result (told a.known.cds.cs _ _ a.first a.second (letters_by a.known.form a.letters.now) (pair_room_of a.transcript.now a.altered.now) c.size_of.ensures c.pair_room_refusal-refused.ensures) c.if-refused-ne0.true
+    carried-refused (letters_by a.known.form a.letters.now) a.known a.first a.second a.new.now a.other.now a.transcript.now a.altered.now _ (told a.known.cds.cs _ _ a.first a.second (letters_by a.known.form a.letters.now) (pair_room_of a.transcript.now a.altered.now) c.size_of.ensures c.in_err-pair_room_refusal.ensures)
 
 pub write_both-n-requires : goal.write_both-n-requires
 write_both-n-requires c =
     let a = c.args in
-    let fits = transcript-room (letters_by a.known.form a.letters.now) a.known a.first a.second a.new.now a.other.now a.transcript.now a.altered.now c.requires c.pair_room_refusal-refused.result (told a.known.cds.cs _ _ a.first a.second (letters_by a.known.form a.letters.now) (pair_room_of a.transcript.now a.altered.now) c.size_of.ensures c.pair_room_refusal-refused.ensures) c.if-refused-ne0.false in
-    record { in_row = ahead-row (letters_by a.known.form a.letters.now) a.known a.first a.second a.new.now a.other.now c.requires _ fits; in_row_2 = behind-row (letters_by a.known.form a.letters.now) a.known a.first a.second a.new.now a.other.now c.requires _ fits }
+    let fits = transcript-room (letters_by a.known.form a.letters.now) a.known a.first a.second a.new.now a.other.now a.transcript.now a.altered.now c.requires (told a.known.cds.cs _ _ a.first a.second (letters_by a.known.form a.letters.now) (pair_room_of a.transcript.now a.altered.now) c.size_of.ensures c.in_ok-pair_room_refusal.ensures) in
+    record { first_ahead = ahead-row (letters_by a.known.form a.letters.now) a.known a.first a.second a.new.now a.other.now c.requires _ fits; second_ahead = behind-row (letters_by a.known.form a.letters.now) a.known a.first a.second a.new.now a.other.now c.requires _ fits }
 
 pub slice_bounds-write_protein-end : goal.slice_bounds-write_protein-end
 slice_bounds-write_protein-end c =
     let a = c.args in
     let wrote = c.write_both-n in
-    transcript-fits (letters_by a.known.form a.letters.now) a.known a.first a.second a.new.now a.other.now a.transcript.now a.altered.now c.requires c.pair_room_refusal-refused.result (told a.known.cds.cs _ _ a.first a.second (letters_by a.known.form a.letters.now) (pair_room_of a.transcript.now a.altered.now) c.size_of.ensures c.pair_room_refusal-refused.ensures) c.if-refused-ne0.false wrote.result wrote.new.transcript wrote.ensures.value wrote.ensures.transcript_after
+    transcript-fits (letters_by a.known.form a.letters.now) a.known a.first a.second a.new.now a.other.now a.transcript.now a.altered.now c.requires (told a.known.cds.cs _ _ a.first a.second (letters_by a.known.form a.letters.now) (pair_room_of a.transcript.now a.altered.now) c.size_of.ensures c.in_ok-pair_room_refusal.ensures) wrote.result wrote.new.transcript wrote.ensures.value wrote.ensures.transcript_after
 
 pub slice_bounds-write_protein-end-2 : goal.slice_bounds-write_protein-end-2
 slice_bounds-write_protein-end-2 c =
     let a = c.args in
     let wrote = c.write_both-n in
-    sym (length-take-le wrote.result _ (transcript-fits (letters_by a.known.form a.letters.now) a.known a.first a.second a.new.now a.other.now a.transcript.now a.altered.now c.requires c.pair_room_refusal-refused.result (told a.known.cds.cs _ _ a.first a.second (letters_by a.known.form a.letters.now) (pair_room_of a.transcript.now a.altered.now) c.size_of.ensures c.pair_room_refusal-refused.ensures) c.if-refused-ne0.false wrote.result wrote.new.transcript wrote.ensures.value wrote.ensures.transcript_after))
+    sym (length-take-le wrote.result _ (transcript-fits (letters_by a.known.form a.letters.now) a.known a.first a.second a.new.now a.other.now a.transcript.now a.altered.now c.requires (told a.known.cds.cs _ _ a.first a.second (letters_by a.known.form a.letters.now) (pair_room_of a.transcript.now a.altered.now) c.size_of.ensures c.in_ok-pair_room_refusal.ensures) wrote.result wrote.new.transcript wrote.ensures.value wrote.ensures.transcript_after))
 
 pub write_protein-residues-requires : goal.write_protein-residues-requires
 write_protein-residues-requires c =
     let a = c.args in
     let wrote = c.write_both-n in
-    codes (letters_by a.known.form a.letters.now) a.known a.first a.second a.new.now a.other.now a.transcript.now a.altered.now c.requires c.pair_room_refusal-refused.result (told a.known.cds.cs _ _ a.first a.second (letters_by a.known.form a.letters.now) (pair_room_of a.transcript.now a.altered.now) c.size_of.ensures c.pair_room_refusal-refused.ensures) c.if-refused-ne0.false wrote.result wrote.new.transcript wrote.ensures.value wrote.ensures.transcript_after
+    codes (letters_by a.known.form a.letters.now) a.known a.first a.second a.new.now a.other.now a.transcript.now a.altered.now c.requires (told a.known.cds.cs _ _ a.first a.second (letters_by a.known.form a.letters.now) (pair_room_of a.transcript.now a.altered.now) c.size_of.ensures c.in_ok-pair_room_refusal.ensures) wrote.result wrote.new.transcript wrote.ensures.value wrote.ensures.transcript_after
 
 pub returns : goal.returns
 returns c =
     let a = c.args in
     let wrote = c.write_both-n in
     let read = c.write_protein-residues in
-    carried (letters_by a.known.form a.letters.now) a.known a.first a.second a.new.now a.other.now a.transcript.now a.altered.now c.requires c.pair_room_refusal-refused.result (told a.known.cds.cs _ _ a.first a.second (letters_by a.known.form a.letters.now) (pair_room_of a.transcript.now a.altered.now) c.size_of.ensures c.pair_room_refusal-refused.ensures) c.if-refused-ne0.false wrote.result wrote.new.transcript wrote.ensures.value wrote.ensures.transcript_after read.result read.new.altered read.ensures.value read.ensures.altered_after
+    carried (letters_by a.known.form a.letters.now) a.known a.first a.second a.new.now a.other.now a.transcript.now a.altered.now c.requires (told a.known.cds.cs _ _ a.first a.second (letters_by a.known.form a.letters.now) (pair_room_of a.transcript.now a.altered.now) c.size_of.ensures c.in_ok-pair_room_refusal.ensures) wrote.result wrote.new.transcript wrote.ensures.value wrote.ensures.transcript_after read.result read.new.altered read.ensures.value read.ensures.altered_after

@@ -7,40 +7,36 @@ use Rattle.reference.proofs.Checking.{bounded, sound, checks}
 use Rattle.panel.proofs.Answering.{edit-refused, profile-refused, full, tests-bare, profile-bare}
 use Rattle.panel.proofs.answer.answer_profiled.Goals as goal
 
-pub edit_refusal-refused-requires : goal.edit_refusal-refused-requires
-edit_refusal-refused-requires c =
+pub edit_refusal-requires : goal.edit_refusal-requires
+edit_refusal-requires c =
     let a = c.args in
     let s = letters_by a.ready.known.form a.letters.now in
-    let r = reference_of s a.ready.known.cds a.ready.e in
-    let x = asked a.ready.edit a.new.now in
     bounded s a.ready.known.cds (sound limits s a.ready.known a.ready.e a.protein.now c.requires)
 
-pub returns-then-refused-ne0 : goal.returns-then-refused-ne0
-returns-then-refused-ne0 c =
+pub returns-in_err-edit_refusal : goal.returns-in_err-edit_refusal
+returns-in_err-edit_refusal c =
     let a = c.args in
     let s = letters_by a.ready.known.form a.letters.now in
     let r = reference_of s a.ready.known.cds a.ready.e in
     let x = asked a.ready.edit a.new.now in
     edit-refused limits r x a.named a.transcript.now a.reference.now a.altered.now c.requires.accepted _
-    (c.edit_refusal-refused.ensures s (sym c.size_of.ensures) ∙ tests-bare s a.ready.known.cds a.ready.e x limits.most) c.if-refused-ne0.true
+    (c.in_err-edit_refusal.ensures s (sym c.size_of-size.ensures) ∙ tests-bare s a.ready.known.cds a.ready.e x limits.most)
 
-pub profile_refusal-outside-requires : goal.profile_refusal-outside-requires
-profile_refusal-outside-requires c =
+pub profile_refusal-requires : goal.profile_refusal-requires
+profile_refusal-requires c =
     let a = c.args in
     let s = letters_by a.ready.known.form a.letters.now in
-    let r = reference_of s a.ready.known.cds a.ready.e in
-    let x = asked a.ready.edit a.new.now in
-    record { checks = checks limits s a.ready.known a.ready.e a.protein.now c.requires; most = limits.most; clear = sym (c.edit_refusal-refused.ensures s (sym c.size_of.ensures)) ∙ c.if-refused-ne0.false }
+    record { checks = checks limits s a.ready.known a.ready.e a.protein.now c.requires; most = limits.most; clear = sym (c.in_ok-edit_refusal.ensures s (sym c.size_of-size.ensures)) }
 
-pub returns-then-outside-ne0 : goal.returns-then-outside-ne0
-returns-then-outside-ne0 c =
+pub returns-in_err-profile_refusal : goal.returns-in_err-profile_refusal
+returns-in_err-profile_refusal c =
     let a = c.args in
     let s = letters_by a.ready.known.form a.letters.now in
     let r = reference_of s a.ready.known.cds a.ready.e in
     let x = asked a.ready.edit a.new.now in
     profile-refused limits r x a.named a.transcript.now a.reference.now a.altered.now c.requires.accepted
-    (sym (tests-bare s a.ready.known.cds a.ready.e x limits.most) ∙ sym (c.edit_refusal-refused.ensures s (sym c.size_of.ensures)) ∙ c.if-refused-ne0.false) _
-    (c.profile_refusal-outside.ensures ∙ profile-bare s a.ready.known.cds a.ready.e x a.named) c.if-outside-ne0.true
+    (sym (tests-bare s a.ready.known.cds a.ready.e x limits.most) ∙ sym (c.in_ok-edit_refusal.ensures s (sym c.size_of-size.ensures))) _
+    (c.in_err-profile_refusal.ensures ∙ profile-bare s a.ready.known.cds a.ready.e x a.named)
 
 pub returns : goal.returns
 returns c =
@@ -49,4 +45,4 @@ returns c =
     let r = reference_of s a.ready.known.cds a.ready.e in
     let x = asked a.ready.edit a.new.now in
     full limits r x a.named a.transcript.now a.reference.now a.altered.now
-    (sym (profile-bare s a.ready.known.cds a.ready.e x a.named) ∙ sym c.profile_refusal-outside.ensures ∙ c.if-outside-ne0.false) _ _ _ _ c.answer_known.ensures
+    (sym (profile-bare s a.ready.known.cds a.ready.e x a.named) ∙ sym c.in_ok-profile_refusal.ensures) _ _ _ _ c.answer_known.ensures
