@@ -13,10 +13,12 @@ pub fn read_settings(newest: usize, s: &[u8]) -> Result<Settings, Unread>
     if !is_version(newest) {
         return Err(Unread::Refused(Refusal::Version));
     }
-    let version = match version_of(s) {
-        None | Some(0) => return Err(Unread::Refused(Refusal::Version)),
-        Some(version) => version,
+    let Some(version) = version_of(s) else {
+        return Err(Unread::Refused(Refusal::Version));
     };
+    if version == 0 {
+        return Err(Unread::Refused(Refusal::Version));
+    }
     if newest < version {
         return Err(Unread::Newer);
     }

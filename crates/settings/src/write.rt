@@ -8,22 +8,12 @@ ghost use Rattle.rules.specs.Answer.{written_of, bytes_of};
 ghost use Rattle.settings.specs.Writing.{first_four, Writes};
 
 use byte_numbers::write_two;
-use fields::{write_field, write_head};
+use fields::write_head;
 use rules::{Refusal, Settings};
 use settings_values::{
     LONGEST_EDIT, PROFILE, TABLE, VERSION, WIDTH, are_settings, has_longest, is_version,
 };
-
-// A field of one byte.
-fn write_one(tag: u8, value: usize, out: &mut [u8]) -> usize
-    requires value_bound { value < 256 }
-    requires in_bounds { 4 ≤ length out.old }
-    ensures value { result ≡ 4 }
-    ensures out_after { out.new ≡ over (field_bytes (record { tag = tag; content = value ∷ [] })) out.old }
-{
-    let content = [value as u8; 1];
-    write_field(tag, &content, out)
-}
+use storing_numbers::write_one;
 
 // Two fields of one byte each.
 fn write_pair(tag: u8, value: usize, next: u8, other: usize, out: &mut [u8]) -> usize

@@ -14,8 +14,7 @@ use settings_values::{LONGEST_EDIT, PROFILE, TABLE, VERSION, WIDTH, has_longest}
 fn is_field(s: &[u8], at: usize, tag: u8, len: usize) -> bool
     ensures { result ≡ is_at s.now at (tag, len) }
 {
-    let f = next_field(s, at);
-    let Field::Whole { tag: met, content } = f else {
+    let Field::Whole { tag: met, content } = next_field(s, at) else {
         return false;
     };
     (met == tag) & (content.len == len)

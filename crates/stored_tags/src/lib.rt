@@ -73,20 +73,12 @@ pub fn field_refusal(s: &[u8], last: u8, f: Field) -> Result<(), Refusal>
 {
     match f {
         Field::End => Ok(()),
-        Field::Cut { tag } => {
-            if is_wrong_tag(last, tag) {
-                return Err(Refusal::Tag);
-            }
-            Err(Refusal::Cut)
+        Field::Cut { tag } if is_wrong_tag(last, tag) => Err(Refusal::Tag),
+        Field::Cut { tag: _ } => Err(Refusal::Cut),
+        Field::Whole { tag, content: _ } if is_wrong_tag(last, tag) => Err(Refusal::Tag),
+        Field::Whole { tag, content } if is_wrong_content(tag, bytes_at(s, content)) => {
+            Err(Refusal::Field)
         }
-        Field::Whole { tag, content } => {
-            if is_wrong_tag(last, tag) {
-                return Err(Refusal::Tag);
-            }
-            if is_wrong_content(tag, bytes_at(s, content)) {
-                return Err(Refusal::Field);
-            }
-            Ok(())
-        }
+        Field::Whole { tag: _, content: _ } => Ok(()),
     }
 }
