@@ -39,6 +39,7 @@ fn is_early(last: Part, p: Part) -> bool
 
 // 22, then 25. A second letter field stands behind a full one, so that L is above 16,384. Tag 2 is wrong for a long transcript, tag 7 for a
 // short one.
+#[tactic(auto, unfolding(crate::specs::Refusal::places_refusal, rules::specs::Bytes::first_number))]
 pub fn places_refusal(p: Places) -> Result<(), Refusal>
     ensures { refusal_of result ≡ places_refusal p }
 {
