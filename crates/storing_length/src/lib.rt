@@ -5,6 +5,7 @@ ghost use Rattle.std.specs.Prelude.{◌≡◌, ◌≤◌};
 ghost use Rattle.storing_length.specs.Length.{form_length};
 
 // By the reference's numbers: tags 1, 2 and 3 take 14 bytes beside the letters, tag 7 four more than tag 2.
+#[tactic(auto, unfolding(crate::specs::Length::form_length))]
 pub fn form_length(size: usize, count: usize, end: usize) -> usize
     requires { (size ≤ 131072) × (count ≤ 16) }
     ensures { result ≡ form_length size count end }
