@@ -16,6 +16,7 @@ use settings_values::{
 use storing_numbers::write_one;
 
 // Two fields of one byte each.
+#[tactic(auto, unfolding(rules::specs::Storing::in_two, rules::specs::Storing::field_bytes, storing_numbers::specs::Fields::one_field))]
 fn write_pair(tag: u8, value: usize, next: u8, other: usize, out: &mut [u8]) -> usize
     requires value_bound { (value < 256) × (other < 256) }
     requires in_bounds { 8 ≤ length out.old }

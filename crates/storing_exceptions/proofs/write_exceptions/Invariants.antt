@@ -7,4 +7,4 @@ use Rattle.storing_exceptions.proofs.Rows.{row}
 use Rattle.storing_exceptions.proofs.write_exceptions.Given as goal
 
 abbrev pub invariant-loop-i : goal.invariant-loop-i
-invariant-loop-i l = (l.at ≡ length (row exception_bytes (exception_list l.e) no_exception l.i)) × (l.out ≡ over (row exception_bytes (exception_list l.e) no_exception l.i) l.initial.out) × (length l.e.all ≡ 16)
+invariant-loop-i l = (l.at ≡ length (row exception_bytes (exception_list l.fn.e) no_exception l.i)) × (l.out ≡ over (row exception_bytes (exception_list l.fn.e) no_exception l.i) l.initial.out) × (length l.fn.e.all ≡ 16)
