@@ -6,16 +6,12 @@ ghost use Rattle.rules.specs.Bytes.{over};
 ghost use Rattle.rules.specs.Stored.{two_bytes, four_bytes};
 ghost use Rattle.rules.specs.Storing.{in_two, in_four};
 
-use numbers::wide;
-
 // The number of two bytes, high byte first.
 pub fn two_bytes(s: &[u8], at: usize) -> usize
     requires { at + 2 ≤ length s.now }
     ensures { result ≡ two_bytes (get_or s.now at 0) (get_or s.now (at + 1) 0) }
 {
-    let high = wide(s[at]);
-    let low = wide(s[at + 1]);
-    256 * high + low
+    usize::from(u16::from_be_bytes([s[at], s[at + 1]]))
 }
 
 // The number of four bytes, high byte first.
@@ -23,11 +19,7 @@ pub fn four_bytes(s: &[u8], at: usize) -> usize
     requires { at + 4 ≤ length s.now }
     ensures { result ≡ four_bytes (get_or s.now at 0) (get_or s.now (at + 1) 0) (get_or s.now (at + 2) 0) (get_or s.now (at + 3) 0) }
 {
-    let a = wide(s[at]);
-    let b = wide(s[at + 1]);
-    let c = wide(s[at + 2]);
-    let d = wide(s[at + 3]);
-    65536 * (256 * a + b) + (256 * c + d)
+    u32::from_be_bytes([s[at], s[at + 1], s[at + 2], s[at + 3]]) as usize
 }
 
 // A number in two bytes, high byte first.
@@ -37,8 +29,9 @@ pub fn write_two(n: usize, out: &mut [u8]) -> usize
     ensures value { result ≡ 2 }
     ensures out_after { out.new ≡ over (in_two n) out.old }
 {
-    out[0] = (n / 256) as u8;
-    out[1] = (n % 256) as u8;
+    let [high, low] = (n as u16).to_be_bytes();
+    out[0] = high;
+    out[1] = low;
     2
 }
 

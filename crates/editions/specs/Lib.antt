@@ -1,2 +1,3 @@
 -- What only this crate's contracts want said.
 pub mod Listing
+pub mod Uncompared

@@ -1,6 +1,7 @@
 -- Laws of contents: what stands at the place of a tag's content is that content; and in fields that a form doesn't refuse it fits the tag.
 -- Assumes nothing.
-use Rattle.std.specs.Prelude.{if◌then◌else◌}
+use Rattle.std.specs.Prelude.{None, Some, if◌then◌else◌}
+use Rattle.std.specs.Prelude.{Option as Optional}
 use mathlib.Core.Path.{◌≡◌, refl, sym, ap, ◌∙◌}
 use mathlib.Core.Bool.{Bool, true, false}
 use mathlib.Core.List.{List, [], ◌∷◌}
@@ -17,22 +18,20 @@ use Rattle.rules.specs.Stored as stored
 use Rattle.rules.specs.Stored.{field, Form, is_wrong_tag, is_wrong_content, Tagged, with_field, met, fields_from, fields, content_of}
 use Rattle.fields.specs.declared.reader.Field.{Field}
 use Rattle.fields.specs.declared.reader.Field.TheVariants.{Whole, Cut, End}
-use Rattle.fields.specs.declared.lookup.Content.{Content}
-use Rattle.fields.specs.declared.lookup.Content.TheVariants.{At, Missing}
 use Rattle.fields.specs.Places.{field_at, whole_then, whole_from, whole_fields, place_of, content_at}
 use Rattle.fields.specs.Refusals.{refusal_in, tagged_in}
 use Rattle.fields.proofs.Places.{as_read, read_at, length_of_part, holds, by_length}
 use Rattle.fields.proofs.Order.{given-fields}
 
 -- the content that stands at a place
-abbrev pub content_in : List ℕ → Content → Option (List ℕ)
-content_in s (At p) = some (part_of p s)
-content_in s Missing = none
+abbrev pub content_in : List ℕ → Optional Part → Option (List ℕ)
+content_in s (Some p) = some (part_of p s)
+content_in s None = none
 
 -- a content stands at a place within the bytes, if there is one
-record Stands (s : List ℕ) (c : Content) (o : Option (List ℕ)) : Type 0 where
+record Stands (s : List ℕ) (c : Optional Part) (o : Option (List ℕ)) : Type 0 where
   same : content_in s c ≡ o
-  within : (p : Part) → c ≡ At p → p.at + p.len ≤ length s
+  within : (p : Part) → c ≡ Some p → p.at + p.len ≤ length s
 
 module _ (t : ℕ) (s : List ℕ) where
   -- looked for from a place on, among n fields at most
@@ -44,7 +43,7 @@ module _ (t : ℕ) (s : List ℕ) where
   stands_from zero at = record { same = refl; within = λ p e. let z : ◌≡◌ {A = ℕ} 0 1 = cc in absurd (omega arith) }
   stands_from (suc n) at = rw (read_at s at (field_at s at) refl) (by (λ next. stands_from n next) (field_at s at) refl)
     where
-      none-there : Stands s Missing none
+      none-there : Stands s None none
       none-there = record { same = refl; within = λ p e. let z : ◌≡◌ {A = ℕ} 0 1 = cc in absurd (omega arith) }
 
       by : ((next : ℕ) → From n next) → (f : Field) → f ≡ field_at s at
@@ -54,7 +53,7 @@ module _ (t : ℕ) (s : List ℕ) where
       by more (Whole x p) e = tests (eqb x t)
         where
           tests : (b : Bool)
-              → Stands s (if b then At (record { at = at + 3; len = length (part_of p s) }) else place_of t (at + 3 + length (part_of p s)) (whole_from n (drop (p.at + p.len) s)))
+              → Stands s (if b then Some (record { at = at + 3; len = length (part_of p s) }) else place_of t (at + 3 + length (part_of p s)) (whole_from n (drop (p.at + p.len) s)))
               (if b then some (part_of p s) else content_of t (whole_from n (drop (p.at + p.len) s)))
           tests true = rw (← by_length s at (Whole x p) e x p refl) (record { same = refl; within = λ q i. let is : p ≡ q = cc in rw (← is) (holds s at (Whole x p) e x p refl).fits })
           tests false =
@@ -120,11 +119,11 @@ module _ (form : Form) (s : List ℕ) (none-refused : refusal_in (fields form s)
   unfolding fields
   are = are-whole form (length s) 0 s (tagged_in (fields form s)) (given-fields form s none-refused)
 
-  module _ (t : ℕ) (c : Content) (is : c ≡ content_at t s) where
+  module _ (t : ℕ) (c : Optional Part) (is : c ≡ content_at t s) where
     pub has : content_of t (tagged_in (fields form s)) ≡ content_in s c
     has = rw is (sym (ap (content_of t) are.same) ∙ sym (stands_from t s (length s) 0).same)
 
-    pub found : (p : Part) → c ≡ At p → Found form t s p
+    pub found : (p : Part) → c ≡ Some p → Found form t s p
     found p h =
         record {
           within = (stands_from t s (length s) 0).within p (sym is ∙ h);

@@ -1,6 +1,6 @@
 -- Laws of places: what a field at a place holds, what stands behind it, and where a content is looked for.
 -- Assumes nothing.
-use Rattle.std.specs.Prelude.{if◌then◌else◌}
+use Rattle.std.specs.Prelude.{None, Some, if◌then◌else◌}
 use denote.Enum.Declared.{tag_of}
 use types.Run.{OneOf, miss}
 use Rattle.fields.specs.contracts.reader.Field.{the_type}
@@ -19,7 +19,6 @@ use Rattle.rules.specs.Stored as stored
 use Rattle.rules.specs.Stored.{two_bytes, field, Tagged}
 use Rattle.fields.specs.declared.reader.Field.{Field}
 use Rattle.fields.specs.declared.reader.Field.TheVariants.{Whole, Cut, End}
-use Rattle.fields.specs.declared.lookup.Content.TheVariants.{At, Missing}
 use Rattle.fields.specs.Places.{placed, field_at, Within, whole_then, whole_from, whole_fields, place_of, content_at}
 
 -- a field that is cut off, or none
@@ -138,7 +137,7 @@ abbrev pub Looking : ℕ → List ℕ → ℕ → Type 0
 Looking tag s at = place_of tag at (whole_fields (drop at s)) ≡ content_at tag s
 
 module _ (tag : ℕ) (s : List ℕ) (at : ℕ) (l : Looking tag s at) (f : Field) (is : f ≡ field_at s at) where
-  pub missing : ((t : ℕ) (p : Part) → f ≡ Whole t p → ⊥) → Missing ≡ content_at tag s
+  pub missing : ((t : ℕ) (p : Part) → f ≡ Whole t p → ⊥) → None ≡ content_at tag s
   unfolding place_of whole_then
   missing other =
       let none : whole_fields (drop at s) ≡ [] = first-whole (drop at s) ∙ rw (read_at s at f is) (by f other) in
@@ -154,9 +153,9 @@ module _ (tag : ℕ) (s : List ℕ) (at : ℕ) (l : Looking tag s at) (f : Field
     unfolding whole_then
     here = first-whole (drop at s) ∙ rw (read_at s at f is, h)
 
-    pub found : t ≡ tag → At p ≡ content_at tag s
+    pub found : t ≡ tag → Some p ≡ content_at tag s
     unfolding place_of
-    found e = ap At (by_length s at f is t p h) ∙ sym (ap (place_of tag at) here ∙ rw (eq-eqb t tag e)) ∙ l
+    found e = ap Some (by_length s at f is t p h) ∙ sym (ap (place_of tag at) here ∙ rw (eq-eqb t tag e)) ∙ l
 
     pub further : (t ≡ tag → ⊥) → Looking tag s (p.at + p.len)
     unfolding place_of

@@ -1,12 +1,10 @@
 -- Fields and contents by their places in the caller's bytes.
-use Rattle.std.specs.Prelude.{ℕ, zero, suc, ◌+◌, ◌≤◌, ◌≡◌, List, [], ◌∷◌, eqb, length, drop, if◌then◌else◌}
+use Rattle.std.specs.Prelude.{ℕ, zero, suc, ◌+◌, ◌≤◌, ◌≡◌, List, [], ◌∷◌, Option, None, Some, eqb, length, drop, if◌then◌else◌}
 use Rattle.rules.specs.declared.Part.{Part}
 use Rattle.rules.specs.Stored as stored
 use Rattle.rules.specs.Stored.{Tagged}
 use Rattle.fields.specs.declared.reader.Field.{Field}
 use Rattle.fields.specs.declared.reader.Field.TheVariants.{Whole, Cut, End}
-use Rattle.fields.specs.declared.lookup.Content.{Content}
-use Rattle.fields.specs.declared.lookup.Content.TheVariants.{At, Missing}
 
 -- a field that begins at a place: its content stands behind the tag and the two bytes of the length
 unfoldable pub placed : ℕ → stored.Field → Field
@@ -37,17 +35,17 @@ abbrev pub whole_fields : List ℕ → List Tagged
 whole_fields s = whole_from (length s) s
 
 -- where the content of a tag stands among fields one behind the other, the first of which begins at a place
-unfoldable pub place_of : ℕ → ℕ → List Tagged → Content
-place_of t at [] = Missing
+unfoldable pub place_of : ℕ → ℕ → List Tagged → Option Part
+place_of t at [] = None
 place_of t at (f ∷ fs) =
-    if eqb f.tag t then At (record { at = at + 3; len = length f.content })
+    if eqb f.tag t then Some (record { at = at + 3; len = length f.content })
     else place_of t (at + 3 + length f.content) fs
 
 -- and in the bytes
-abbrev pub content_at : ℕ → List ℕ → Content
+abbrev pub content_at : ℕ → List ℕ → Option Part
 content_at t s = place_of t 0 (whole_fields s)
 
 -- 0 bytes at 0 where there is none
-unfoldable pub part_or_empty : Content → Part
-part_or_empty (At p) = p
-part_or_empty Missing = record { at = 0; len = 0 }
+unfoldable pub part_or_empty : Option Part → Part
+part_or_empty (Some p) = p
+part_or_empty None = record { at = 0; len = 0 }

@@ -6,6 +6,6 @@ pub mod lookup;
 pub mod reader;
 pub mod writer;
 
-pub use lookup::{Content, content_of, part_or_empty};
+pub use lookup::content_of;
 pub use reader::{Field, Fields, bytes_at, next_field};
 pub use writer::{write_field, write_head};

@@ -3,30 +3,25 @@ ghost use Rattle.std.specs.Prelude.{◌≡◌, ◌+◌};
 ghost use Rattle.rules.specs.Bytes.{all};
 ghost use Rattle.rules.specs.Letters.{is_letter};
 ghost use Rattle.rules.specs.Refusal.{limits};
+ghost use Rattle.rules.specs.Refusals.{refusal_of};
 ghost use Rattle.rules.specs.Views.{reference_of};
 ghost use Rattle.reference.specs.Known.{early_refusal};
-ghost use Rattle.parts.specs.Parts.{in_parts, Sizes};
+ghost use Rattle.parts.specs.Parts.{in_parts, taken_size};
 
 use reference::{are_bounds, fit_exceptions};
-use rules::{Cds, Exceptions, LONGEST};
+use rules::{Cds, Exceptions, LONGEST, Refusal};
 use sequences::all_letters;
 use translation::all_bases;
 
-// L, where it is one that a reference may have, else 0.
-fn size_of(a: usize, b: usize, c: usize) -> usize
-    ensures { Sizes (a + (b + c)) result }
+// L, where it is one that a reference may have.
+fn size_of(a: usize, b: usize, c: usize) -> Option<usize>
+    ensures { result ≡ taken_size (a + (b + c)) }
 {
-    if LONGEST < a {
-        return 0;
+    let size = a.checked_add(b)?.checked_add(c)?;
+    if (size < 1) | (LONGEST < size) {
+        return None;
     }
-    let left = LONGEST - a;
-    if left < b {
-        return 0;
-    }
-    if left - b < c {
-        return 0;
-    }
-    a + (b + c)
+    Some(size)
 }
 
 // Whether each letter is of the fifteen. Plain ones are, by a faster test.
@@ -39,25 +34,28 @@ fn are_letters(s: &[u8]) -> bool
     all_letters(s)
 }
 
-// The lowest of 1 to 5 that applies, or 0.
-pub(crate) fn early_refusal(a: &[u8], b: &[u8], c: &[u8], cds: Cds, e: Exceptions) -> usize
-    ensures { result ≡ early_refusal limits.longest (reference_of (in_parts a.now b.now c.now) cds e) }
+// The lowest of 1 to 5 that applies.
+pub(crate) fn early_refusal(
+    a: &[u8],
+    b: &[u8],
+    c: &[u8],
+    cds: Cds,
+    e: Exceptions,
+) -> Result<(), Refusal>
+    ensures { refusal_of result ≡ early_refusal limits.longest (reference_of (in_parts a.now b.now c.now) cds e) }
 {
-    let size = size_of(a.len(), b.len(), c.len());
-    if size == 0 {
-        return 1;
-    }
+    let size = size_of(a.len(), b.len(), c.len()).ok_or(Refusal::Length)?;
     if !(are_letters(a) & (are_letters(b) & are_letters(c))) {
-        return 2;
+        return Err(Refusal::Letter);
     }
     if !are_bounds(size, cds) {
-        return 3;
+        return Err(Refusal::Bounds);
     }
     if 2 < cds.table {
-        return 4;
+        return Err(Refusal::Table);
     }
     if !fit_exceptions(e, (cds.ce - (cds.cs - 1)) / 3) {
-        return 5;
+        return Err(Refusal::Exceptions);
     }
-    0
+    Ok(())
 }

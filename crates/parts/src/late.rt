@@ -2,6 +2,7 @@
 ghost use Rattle.std.specs.Prelude.{◌≡◌, ◌<◌, eqb};
 ghost use Rattle.rules.specs.Bytes.{byte, count};
 ghost use Rattle.rules.specs.Reference.{at_stop, codons, ends_in_stop, is_cut_short, reference_protein};
+ghost use Rattle.rules.specs.Refusals.{refusal_of};
 ghost use Rattle.rules.specs.Views.{reference_of};
 ghost use Rattle.letters.specs.Sets.{HoldsSets, folded_set};
 ghost use Rattle.codons.specs.Tables.{HoldsCode};
@@ -13,7 +14,7 @@ use crate::residues::residue_at;
 use excepted::next_exception;
 use letters::folded_sets;
 use reference::is_short_end;
-use rules::{Cds, Exceptions};
+use rules::{Cds, Exceptions, Refusal};
 use tables::residues_of;
 
 // Whether the last CDS codon, exceptions applied, reads `*`.
@@ -83,13 +84,25 @@ fn is_cut_short(a: &[u8], b: &[u8], c: &[u8], cds: Cds, e: Exceptions) -> bool
     has_no_stop(a, b, c, cds, e)
 }
 
-// 6 for an end at a stop, 28 for another, or 0, where none of 1 to 5 applies.
-pub(crate) fn end_refusal(a: &[u8], b: &[u8], c: &[u8], cds: Cds, e: Exceptions) -> usize
+// 6 for an end at a stop, 28 for another, where none of 1 to 5 applies.
+pub(crate) fn end_refusal(
+    a: &[u8],
+    b: &[u8],
+    c: &[u8],
+    cds: Cds,
+    e: Exceptions,
+) -> Result<(), Refusal>
     requires { Readable (in_parts a.now b.now c.now) cds e }
-    ensures { result ≡ end_refusal (reference_of (in_parts a.now b.now c.now) cds e) }
+    ensures { refusal_of result ≡ end_refusal (reference_of (in_parts a.now b.now c.now) cds e) }
 {
     if cds.end == 0 {
-        return if ends_in_stop(a, b, c, cds, e) { 0 } else { 6 };
+        if !ends_in_stop(a, b, c, cds, e) {
+            return Err(Refusal::LastCodon);
+        }
+        return Ok(());
     }
-    if is_cut_short(a, b, c, cds, e) { 0 } else { 28 }
+    if !is_cut_short(a, b, c, cds, e) {
+        return Err(Refusal::End);
+    }
+    Ok(())
 }

@@ -10,9 +10,7 @@ use lib.Dec.{eqb, leb}
 use lib.ListN.{length, take, drop, length-drop}
 use borrow.Author.Tests.{leb-true, eqb-true, lt-ltb, le-ltb}
 use Rattle.rules.specs.declared.Settings.{Settings}
-use Rattle.rules.specs.declared.Written.{Written}
-use Rattle.rules.specs.declared.Written.TheVariants.{Refused, Bytes}
-use Rattle.rules.specs.Bytes.{each, first_number, unless, over}
+use Rattle.rules.specs.Bytes.{Result, given, refused, each, first_number, unless, over}
 use Rattle.rules.specs.Codons.{is_table}
 use Rattle.rules.specs.Storing.{in_two, field_bytes, fields_bytes}
 use Rattle.rules.specs.Settings.{is_version, has_longest, is_longest, are_settings, settings_fields, store_of, settings_tests, written_settings}
@@ -79,24 +77,24 @@ pub room-behind : (d : List ℕ) (n k : ℕ) → n + k ≤ length d → k ≤ le
 room-behind d n k h = rw (tail-is n d, length-drop n d) (omega arith)
 
 -- what is answered, and what the buffer holds
-abbrev pub Answered : Settings → Written → List ℕ → List ℕ → Type 0
+abbrev pub Answered : Settings → Result ℕ → List ℕ → List ℕ → Type 0
 Answered x w old new = (w ≡ written_of (written_settings x (length old))) × (new ≡ over (bytes_of (written_settings x (length old))) old)
 
 module _ (x : Settings) (old : List ℕ) where
-  pub unknown : is_version x.version ≡ false → Answered x (Refused 60) old old
+  pub unknown : is_version x.version ≡ false → Answered x (refused 60) old old
   unfolding written_settings settings_tests first_number unless written_of bytes_of over
   unknown v = rw v (refl, refl)
 
   module _ (v : is_version x.version ≡ true) where
-    pub out_of_range : are_settings x ≡ false → Answered x (Refused 62) old old
+    pub out_of_range : are_settings x ≡ false → Answered x (refused 62) old old
     unfolding written_settings settings_tests first_number unless written_of bytes_of over
     out_of_range h = rw (v, h) (refl, refl)
 
     module _ (h : are_settings x ≡ true) where
-      pub too_short : length old < length (store_of x) → Answered x (Refused 63) old old
+      pub too_short : length old < length (store_of x) → Answered x (refused 63) old old
       unfolding written_settings settings_tests first_number unless written_of bytes_of over
       too_short l = rw (v, h, lt-ltb (length old) (length (store_of x)) l) (refl, refl)
 
-      pub stored : length (store_of x) ≤ length old → (n : ℕ) (new : List ℕ) → n ≡ length (store_of x) → new ≡ over (store_of x) old → Answered x (Bytes n) old new
+      pub stored : length (store_of x) ≤ length old → (n : ℕ) (new : List ℕ) → n ≡ length (store_of x) → new ≡ over (store_of x) old → Answered x (given n) old new
       unfolding written_settings settings_tests first_number unless written_of bytes_of
-      stored l n new e i = rw (v, h, le-ltb (length old) (length (store_of x)) l) (ap Bytes e, i)
+      stored l n new e i = rw (v, h, le-ltb (length old) (length (store_of x)) l) (ap given e, i)

@@ -1,32 +1,33 @@
 // The reader of settings.
 ghost use Rattle.std.specs.Prelude.{◌≡◌};
-ghost use Rattle.rules.specs.Settings.{stored_settings};
+ghost use Rattle.rules.specs.Settings.{store_told, stored_settings};
 
-use rules::Store;
+use rules::{Refusal, Settings, Unread};
 use settings_fields::{are_fields, settings_at, version_of};
 use settings_values::{are_settings, is_version};
 
 // What a reader that knows the versions up to `newest`, 1 or 2, reads: 60, newer or not, then 61, then 62, or the settings.
-pub fn read_settings(newest: usize, s: &[u8]) -> Store
-    ensures { result ≡ stored_settings newest s.now }
+pub fn read_settings(newest: usize, s: &[u8]) -> Result<Settings, Unread>
+    ensures { store_told result ≡ stored_settings newest s.now }
 {
     if !is_version(newest) {
-        return Store::Refused(60);
+        return Err(Unread::Refused(Refusal::Version));
     }
-    let version = version_of(s);
+    let Some(version) = version_of(s) else {
+        return Err(Unread::Refused(Refusal::Version));
+    };
     if version == 0 {
-        return Store::Refused(60);
+        return Err(Unread::Refused(Refusal::Version));
     }
     if newest < version {
-        return Store::Newer;
+        return Err(Unread::Newer);
     }
     if !are_fields(s, version) {
-        return Store::Refused(61);
+        return Err(Unread::Refused(Refusal::SettingsField));
     }
     let settings = settings_at(s, version);
-    if are_settings(settings) {
-        Store::Held(settings)
-    } else {
-        Store::Refused(62)
+    if !are_settings(settings) {
+        return Err(Unread::Refused(Refusal::Setting));
     }
+    Ok(settings)
 }

@@ -1,30 +1,22 @@
 // The writer of settings.
 ghost use Rattle.std.specs.Prelude.{◌≡◌, [], ◌∷◌, ◌++◌, ◌≤◌, ◌<◌, length, if◌then◌else◌};
 ghost use Rattle.rules.specs.Bytes.{over};
+ghost use Rattle.rules.specs.Refusals.{told};
 ghost use Rattle.rules.specs.Storing.{in_two, field_bytes};
 ghost use Rattle.rules.specs.Settings.{has_longest, store_of, written_settings};
 ghost use Rattle.rules.specs.Answer.{written_of, bytes_of};
 ghost use Rattle.settings.specs.Writing.{first_four, Writes};
 
 use byte_numbers::write_two;
-use fields::{write_field, write_head};
-use rules::{Settings, Written};
+use fields::write_head;
+use rules::{Refusal, Settings};
 use settings_values::{
     LONGEST_EDIT, PROFILE, TABLE, VERSION, WIDTH, are_settings, has_longest, is_version,
 };
-
-// A field of one byte.
-fn write_one(tag: u8, value: usize, out: &mut [u8]) -> usize
-    requires value_bound { value < 256 }
-    requires in_bounds { 4 ≤ length out.old }
-    ensures value { result ≡ 4 }
-    ensures out_after { out.new ≡ over (field_bytes (record { tag = tag; content = value ∷ [] })) out.old }
-{
-    let content = [value as u8; 1];
-    write_field(tag, &content, out)
-}
+use storing_numbers::write_one;
 
 // Two fields of one byte each.
+#[tactic(auto, unfolding(rules::specs::Storing::in_two, rules::specs::Storing::field_bytes, storing_numbers::specs::Fields::one_field))]
 fn write_pair(tag: u8, value: usize, next: u8, other: usize, out: &mut [u8]) -> usize
     requires value_bound { (value < 256) × (other < 256) }
     requires in_bounds { 8 ≤ length out.old }
@@ -79,18 +71,18 @@ fn store_size(version: usize) -> usize
 }
 
 // Writes the store of a version: 60, 62, then 63 where the buffer is too short.
-pub fn write_settings(x: Settings, out: &mut [u8]) -> Written
-    ensures value { result ≡ written_of (written_settings x (length out.old)) }
+pub fn write_settings(x: Settings, out: &mut [u8]) -> Result<usize, Refusal>
+    ensures value { told result ≡ written_of (written_settings x (length out.old)) }
     ensures out_after { out.new ≡ over (bytes_of (written_settings x (length out.old))) out.old }
 {
     if !is_version(x.version) {
-        return Written::Refused(60);
+        return Err(Refusal::Version);
     }
     if !are_settings(x) {
-        return Written::Refused(62);
+        return Err(Refusal::Setting);
     }
     if out.len() < store_size(x.version) {
-        return Written::Refused(63);
+        return Err(Refusal::SettingsRoom);
     }
-    Written::Bytes(write_store(x, out))
+    Ok(write_store(x, out))
 }

@@ -1,6 +1,6 @@
 -- Laws of places: what stands at the places of a store's fields is what its contents hold.
 -- Assumes nothing.
-use Rattle.std.specs.Prelude.{if◌then◌else◌}
+use Rattle.std.specs.Prelude.{Some, None, if◌then◌else◌}
 use mathlib.Core.Path.{◌≡◌, refl, sym, ap, ◌∙◌}
 use mathlib.Core.Bool.{Bool, true, false, ◌&&◌, and_assoc}
 use mathlib.Core.List.{List, [], ◌∷◌, ◌++◌}
@@ -13,18 +13,17 @@ use lib.ListN.{length, take, drop, get_or, length-drop}
 use lib.Seq.{drop-cons, length-take-le}
 use borrow.Author.Tests.{eq-eqb, eqb-true, le-leb, lt-leb}
 use Rattle.rules.specs.declared.Part.{Part}
-use Rattle.rules.specs.declared.Store.TheVariants.{Refused, Held}
 use Rattle.rules.specs.Bytes.{is_none}
 use Rattle.rules.specs.Record.{part_of}
 use Rattle.rules.specs.Stored as stored
 use Rattle.rules.specs.Stored.{two_bytes, field}
-use Rattle.rules.specs.Settings.{has_longest, version_of, layout, with_content, content_by, contents_in, settings_in, are_settings, held_in}
+use Rattle.rules.specs.Settings.{has_longest, version_of, layout, with_content, content_by, contents_in, settings_in, are_settings, Refused, Held, held_in}
 use Rattle.rules.proofs.Tests.{and_left, and_right}
 use Rattle.fields.specs.declared.reader.Field.{Field}
 use Rattle.fields.specs.declared.reader.Field.TheVariants.{Whole, Cut, End}
 use Rattle.fields.specs.Places.{field_at}
 use Rattle.fields.proofs.Places.{as_read, read_at, holds, length_of_part}
-use Rattle.settings_fields.specs.Places.{is_of, is_at, are_at, contents_at, or_zero, version_in, settings_at}
+use Rattle.settings_fields.specs.Places.{is_of, is_at, are_at, contents_at, answered, version_in, settings_at}
 
 -- a field at a place, as it is met there
 module _ (s : List ℕ) (at : ℕ) (f : Field) (is : f ≡ field_at s at) where
@@ -110,15 +109,15 @@ two_at : (s : List ℕ) (k : ℕ) → k + 1 < length s → take 2 (drop k s) ≡
 two_at s k h = rw (add-one, drop-cons s k 0 (omega arith), drop-cons s (suc k) 0 (omega arith))
 
 module _ (s : List ℕ) where
-  pub version-there : is_at s 0 (1, 1) ≡ true → get_or s 3 0 ≡ version_in s
+  pub version-there : is_at s 0 (1, 1) ≡ true → Some (get_or s 3 0) ≡ version_in s
   unfolding version_in version_of
   version-there h = let x = stands s 0 (1, 1) h in rw (x.reads, one-at s 3 (omega (arith, x.long)))
 
-  pub no-version : is_at s 0 (1, 1) ≡ false → 0 ≡ version_in s
+  pub no-version : is_at s 0 (1, 1) ≡ false → None ≡ version_in s
   unfolding version_in version_of is_at is_of
   no-version h = by (field s) h
     where
-      by : (g : stored.Field) → is_of (1, 1) g ≡ false → 0 ≡ or_zero (version_of g)
+      by : (g : stored.Field) → is_of (1, 1) g ≡ false → None ≡ answered (version_of g)
       by stored.ended h = refl
       by (stored.cut t) h = refl
       by (stored.whole t c r) h = rw h
@@ -144,10 +143,10 @@ module _ (s : List ℕ) where
       unfolding layout are_at
       long-six k = long-at s 16 (5, 2) (and_left (is_at s 16 (5, 2)) (leb (length s) 21) (rw k at (and_right (is_at s 12 (4, 1)) (are_at (if has_longest v then (5, 2) ∷ [] else []) 16 s) from-fourth)))
 
-      settings-are : v ≡ version_in s → settings_in (contents_at (layout v) 0 s) ≡ settings_at v s
+      settings-are : Some v ≡ version_in s → settings_in (contents_at (layout v) 0 s) ≡ settings_at v s
       unfolding layout are_at contents_at settings_in settings_at
       settings-are e =
-          let version : get_or s 3 0 ≡ v = version-there (and_left (is_at s 0 (1, 1)) _ h) ∙ sym e in
+          let version : get_or s 3 0 ≡ v = cc (version-there (and_left (is_at s 0 (1, 1)) _ h) ∙ sym e) in
           let long = long-four in
           rw (one-at s 3 (omega arith), one-at s 7 (omega arith), one-at s 11 (omega arith), one-at s 15 (omega arith), version)
           (ap (λ (n : ℕ). record { version = v; table = get_or s 7 0; profile = get_or s 11 0; width = get_or s 15 0; longest = n }) (by (has_longest v) refl))
@@ -157,7 +156,7 @@ module _ (s : List ℕ) where
           by true q = rw (two_at s 19 (omega (arith, long-six q)))
           by false q = refl
 
-      pub held_by : v ≡ version_in s → held_in (contents_in (layout v) s) ≡ (if are_settings (settings_at v s) then Held (settings_at v s) else Refused 62)
+      pub held_by : Some v ≡ version_in s → held_in (contents_in (layout v) s) ≡ (if are_settings (settings_at v s) then Held (settings_at v s) else Refused 62)
       unfolding held_in
       held_by e = rw (contents_at_lem (layout v) 0 s, h, settings-are e)
 

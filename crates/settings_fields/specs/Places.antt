@@ -1,5 +1,6 @@
 -- The fields of settings by their places in the caller's bytes.
-use Rattle.std.specs.Prelude.{ℕ, ◌+◌, List, [], ◌∷◌, ◌++◌, Bool, false, ◌&&◌, eqb, leb, length, take, drop, get_or, if◌then◌else◌}
+use Rattle.std.specs.Prelude.{ℕ, ◌+◌, Some, None, List, [], ◌∷◌, ◌++◌, Bool, false, ◌&&◌, eqb, leb, length, take, drop, get_or, if◌then◌else◌}
+use Rattle.std.specs.Prelude.{Option as Optional}
 use Rattle.std.proofs.Math.Option.{Option, none, some}
 use Rattle.rules.specs.declared.Settings.{Settings}
 use Rattle.rules.specs.Refusal.{limits}
@@ -25,13 +26,13 @@ unfoldable pub contents_at : List (ℕ × ℕ) → ℕ → List ℕ → List ℕ
 contents_at [] at s = []
 contents_at (f ∷ fs) at s = take f.1 (drop (at + 3) s) ++ contents_at fs (at + 3 + f.1) s
 
--- 0 where there is no version
-abbrev pub or_zero : Option ℕ → ℕ
-or_zero none = 0
-or_zero (some v) = v
+-- the sections' value, or none, as code answers it
+abbrev pub answered : Option ℕ → Optional ℕ
+answered none = None
+answered (some v) = Some v
 
-unfoldable pub version_in : List ℕ → ℕ
-version_in s = or_zero (version_of (field s))
+unfoldable pub version_in : List ℕ → Optional ℕ
+version_in s = answered (version_of (field s))
 
 -- the settings, by their places in a store of a version
 unfoldable pub settings_at : ℕ → List ℕ → Settings

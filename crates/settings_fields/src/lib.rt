@@ -7,7 +7,6 @@ ghost use Rattle.settings_fields.specs.Places.{is_at, are_at, version_in, settin
 
 use byte_numbers::two_bytes;
 use fields::{Field, next_field};
-use numbers::wide;
 use rules::{MOST, Settings};
 use settings_values::{LONGEST_EDIT, PROFILE, TABLE, VERSION, WIDTH, has_longest};
 
@@ -15,21 +14,20 @@ use settings_values::{LONGEST_EDIT, PROFILE, TABLE, VERSION, WIDTH, has_longest}
 fn is_field(s: &[u8], at: usize, tag: u8, len: usize) -> bool
     ensures { result ≡ is_at s.now at (tag, len) }
 {
-    let f = next_field(s, at);
-    let Field::Whole { tag: met, content } = f else {
+    let Field::Whole { tag: met, content } = next_field(s, at) else {
         return false;
     };
     (met == tag) & (content.len == len)
 }
 
-// The version that a first field of tag 1 and one byte tells, or 0.
-pub fn version_of(s: &[u8]) -> usize
+// The version that a first field of tag 1 and one byte tells.
+pub fn version_of(s: &[u8]) -> Option<usize>
     ensures { result ≡ version_in s.now }
 {
     if is_field(s, 0, VERSION, 1) {
-        return wide(s[3]);
+        return Some(usize::from(s[3]));
     }
-    0
+    None
 }
 
 // Whether the bytes are exactly the fields of a version.
@@ -62,9 +60,9 @@ pub fn settings_at(s: &[u8], version: usize) -> Settings
 {
     Settings {
         version,
-        table: wide(s[7]),
-        profile: wide(s[11]),
-        width: wide(s[15]),
+        table: usize::from(s[7]),
+        profile: usize::from(s[11]),
+        width: usize::from(s[15]),
         longest: longest_at(s, version),
     }
 }

@@ -16,6 +16,7 @@ pub const WIDTH: u8 = 4;
 // Two bytes, in version 2 alone.
 pub const LONGEST_EDIT: u8 = 5;
 
+#[tactic(auto, unfolding(rules::specs::Settings::is_version))]
 pub fn is_version(v: usize) -> bool
     ensures { result ≡ is_version v }
 {
@@ -23,6 +24,7 @@ pub fn is_version(v: usize) -> bool
 }
 
 // Whether a version stores the longest edit.
+#[tactic(auto, unfolding(rules::specs::Settings::has_longest))]
 pub fn has_longest(version: usize) -> bool
     ensures { result ≡ has_longest version }
 {
@@ -30,6 +32,7 @@ pub fn has_longest(version: usize) -> bool
 }
 
 // 1 to 4,096 bases.
+#[tactic(auto, unfolding(rules::specs::Settings::is_longest))]
 fn is_longest(n: usize) -> bool
     ensures { result ≡ is_longest n }
 {
@@ -37,6 +40,7 @@ fn is_longest(n: usize) -> bool
 }
 
 // Whether each is in its range; the longest edit of version 1 is 4,096.
+#[tactic(auto, unfolding(rules::specs::Settings::are_settings, rules::specs::Codons::is_table))]
 pub fn are_settings(x: Settings) -> bool
     ensures { result ≡ are_settings x }
 {

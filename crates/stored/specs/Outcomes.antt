@@ -1,6 +1,5 @@
 -- What an edit of a stored reference is answered.
 use Rattle.rules.specs.declared.Limits.{Limits}
-use Rattle.rules.specs.declared.Answer.TheVariants.{Refused}
 use Rattle.rules.specs.Bytes.{Result, given, refused}
 use Rattle.rules.specs.Reference.{Reference}
 use Rattle.rules.specs.Edit.{Asked}
@@ -9,5 +8,5 @@ use Rattle.rules.specs.Answer.{Outcome, writes_nothing, outcome}
 
 -- the refusal of the reference, else what the edit of it is answered
 unfoldable pub outcome_of : Limits → Result Reference → Asked → Room → Outcome
-outcome_of m (refused n) e room = writes_nothing (Refused n)
+outcome_of m (refused n) e room = writes_nothing (refused n)
 outcome_of m (given r) e room = outcome m r e room

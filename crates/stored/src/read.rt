@@ -3,14 +3,15 @@ ghost use Rattle.std.specs.Prelude.{◌≡◌, ◌++◌, ◌+◌, ◌≤◌, len
 ghost use Rattle.rules.specs.Bytes.{over, given, unless};
 ghost use Rattle.rules.specs.Record.{part_of};
 ghost use Rattle.rules.specs.Refusal.{limits, reference_refusal};
+ghost use Rattle.rules.specs.Refusals.{refusal_of, told};
 ghost use Rattle.rules.specs.Stored.{fitted, read_reference, joined_by, written_joined};
 ghost use Rattle.stored_fields.specs.Reading.{is_there, letters_at, placed_reference, Placed, Reads};
 
 use fields::bytes_at;
 use parts::judge_parts;
-use reference::{Judged, judge_reference};
-use rules::{Form, LONGEST};
-use stored_fields::{Stored, StoredAt, exceptions_in, find_stored};
+use reference::judge_reference;
+use rules::{Form, LONGEST, Refusal};
+use stored_fields::{StoredAt, exceptions_in, find_stored};
 
 // Whether the letters are joined: there is a second part of them.
 pub fn is_joined(p: StoredAt) -> bool
@@ -19,23 +20,21 @@ pub fn is_joined(p: StoredAt) -> bool
     p.second.len != 0
 }
 
-// The first of 1 to 5, 6 or 28 that applies to a reference whose letters are one part, or 0.
-fn refusal_of_one(s: &[u8], p: StoredAt) -> usize
+// The first of 1 to 5, 6 or 28 that applies to a reference whose letters are one part.
+fn refusal_of_one(s: &[u8], p: StoredAt) -> Result<(), Refusal>
     requires placed { Placed s.now p }
     requires len_value { p.second.len ≡ 0 }
-    ensures { result ≡ reference_refusal limits.longest (placed_reference s.now p) }
+    ensures { refusal_of result ≡ reference_refusal limits.longest (placed_reference s.now p) }
 {
     let e = exceptions_in(bytes_at(s, p.exceptions));
-    match judge_reference(bytes_at(s, p.letters), Form::Bytes, p.cds, e, LONGEST) {
-        Judged::Refused(n) => n,
-        Judged::Clear { plain: _ } => 0,
-    }
+    judge_reference(bytes_at(s, p.letters), Form::Bytes, p.cds, e, LONGEST)?;
+    Ok(())
 }
 
-// The first of 1 to 5, 6 or 28 that applies to a reference that stands in the bytes, or 0.
-pub(crate) fn refusal_at(s: &[u8], p: StoredAt) -> usize
+// The first of 1 to 5, 6 or 28 that applies to a reference that stands in the bytes.
+pub(crate) fn refusal_at(s: &[u8], p: StoredAt) -> Result<(), Refusal>
     requires { Placed s.now p }
-    ensures { result ≡ reference_refusal limits.longest (placed_reference s.now p) }
+    ensures { refusal_of result ≡ reference_refusal limits.longest (placed_reference s.now p) }
 {
     if !is_joined(p) {
         return refusal_of_one(s, p);
@@ -70,41 +69,31 @@ fn join(s: &[u8], p: StoredAt, joined: &mut [u8])
     join_rest(s, p, &mut joined[n..]);
 }
 
-// 29 where letters that are joined don't fit the buffer, else 0; then they are there.
-fn join_within(s: &[u8], p: StoredAt, joined: &mut [u8]) -> usize
+// 29 where letters that are joined don't fit the buffer; else they are there.
+fn join_within(s: &[u8], p: StoredAt, joined: &mut [u8]) -> Result<(), Refusal>
     requires placed { Placed s.now p }
     requires p_value { reference_refusal limits.longest (placed_reference s.now p) ≡ 0 }
-    ensures p_value_2 { unless result (placed_reference s.now p) ≡ fitted (length joined.old) (is_there p.second) (given (placed_reference s.now p)) }
+    ensures fits { unless (refusal_of result) (placed_reference s.now p) ≡ fitted (length joined.old) (is_there p.second) (given (placed_reference s.now p)) }
     ensures joined_after { joined.new ≡ over (joined_by (is_there p.second) (fitted (length joined.old) (is_there p.second) (given (placed_reference s.now p)))) joined.old }
 {
     if !is_joined(p) {
-        return 0;
+        return Ok(());
     }
     if joined.len() < p.letters.len + (p.second.len + p.third.len) {
-        return 29;
+        return Err(Refusal::JoinedRoom);
     }
     join(s, p, joined);
-    0
+    Ok(())
 }
 
 // Where the reference that the bytes store stands in them, or its one refusal: 20, 21 and 23 in field order, then 22, 25, 1 to 5, 6 or 28, and
 // 29. Letters in more than one part are joined in the buffer; those of one part stay where they are, and the buffer may be empty.
-pub fn read_stored(s: &[u8], joined: &mut [u8]) -> Stored
-    ensures reads { Reads s.now (read_reference limits.longest (length joined.old) s.now) result }
+pub fn read_stored(s: &[u8], joined: &mut [u8]) -> Result<StoredAt, Refusal>
+    ensures reads { Reads s.now (read_reference limits.longest (length joined.old) s.now) (told result) }
     ensures joined_after { joined.new ≡ over (written_joined limits.longest (length joined.old) s.now) joined.old }
 {
-    match find_stored(s) {
-        Stored::Refused(n) => Stored::Refused(n),
-        Stored::At(p) => {
-            let refused = refusal_at(s, p);
-            if refused != 0 {
-                return Stored::Refused(refused);
-            }
-            let unfit = join_within(s, p, joined);
-            if unfit != 0 {
-                return Stored::Refused(unfit);
-            }
-            Stored::At(p)
-        }
-    }
+    let p = find_stored(s)?;
+    refusal_at(s, p)?;
+    join_within(s, p, joined)?;
+    Ok(p)
 }

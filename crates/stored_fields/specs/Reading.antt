@@ -1,5 +1,5 @@
 -- What an answer tells of a stored reference, by places in the caller's bytes.
-use Rattle.std.specs.Prelude.{ℕ, ◌+◌, ◌%◌, ◌≤◌, ◌≡◌, List, [], ◌∷◌, ◌++◌, length, get_or}
+use Rattle.std.specs.Prelude.{ℕ, Some, ◌+◌, ◌%◌, ◌≤◌, ◌≡◌, List, [], ◌∷◌, ◌++◌, length, get_or}
 use Rattle.std.proofs.Math.Option.{none, some}
 use Rattle.rules.specs.declared.Cds.{Cds}
 use Rattle.rules.specs.Bytes.{Result, given, refused}
@@ -7,14 +7,11 @@ use Rattle.rules.specs.Record.{part_of}
 use Rattle.rules.specs.Reference.{Reference, at_stop}
 use Rattle.rules.specs.Stored.{Bounds, bounds_in, reference_form, fields, exceptions_in, is_joined}
 use Rattle.rules.specs.Views.{cds_of}
-use Rattle.fields.specs.declared.lookup.Content.TheVariants as content
 use Rattle.fields.specs.Places.{content_at, part_or_empty}
 use Rattle.fields.specs.Refusals.{refusal_in}
 use Rattle.stored_places.specs.declared.Places.{Places}
 pub use Rattle.stored_places.specs.Refusal.{is_there}
 use Rattle.stored_fields.specs.declared.field_places.StoredAt.{StoredAt}
-use Rattle.stored_fields.specs.declared.field_places.Stored.{Stored}
-use Rattle.stored_fields.specs.declared.field_places.Stored.TheVariants.{Refused, At}
 
 -- the bounds that the contents of tags 2 and 7 hold, one of them empty
 abbrev pub bounds_by : List ℕ → List ℕ → Bounds
@@ -48,14 +45,14 @@ placed_reference s p =
     }
 
 -- what an answer tells: a reference, or the refusal
-unfoldable pub told_reference : List ℕ → Stored → Result Reference
-told_reference s (Refused n) = refused n
-told_reference s (At p) = given (placed_reference s p)
+unfoldable pub told_reference : List ℕ → Result StoredAt → Result Reference
+told_reference s (refused n) = refused n
+told_reference s (given p) = given (placed_reference s p)
 
 -- in fields that aren't refused, where the contents stand; there is a tag 1
 pub record Stand (s : List ℕ) (p : Places) : Type 0 where
   pub unrefused : refusal_in (fields reference_form s) ≡ 0
-  pub letters : content.At p.letters ≡ content_at 1 s
+  pub letters : Some p.letters ≡ content_at 1 s
   pub bounds : p.bounds ≡ part_or_empty (content_at 2 s)
   pub table : p.table ≡ part_or_empty (content_at 3 s)
   pub exceptions : p.exceptions ≡ part_or_empty (content_at 4 s)
@@ -80,6 +77,6 @@ pub record Placed (s : List ℕ) (p : StoredAt) : Type 0 where
   pub alone : p.second.len ≡ 0 → p.third.len ≡ 0
 
 -- an answer: the reference, or its refusal, and where in the bytes it stands
-pub record Reads (s : List ℕ) (x : Result Reference) (r : Stored) : Type 0 where
+pub record Reads (s : List ℕ) (x : Result Reference) (r : Result StoredAt) : Type 0 where
   pub says : told_reference s r ≡ x
-  pub stands : (p : StoredAt) → r ≡ At p → Placed s p
+  pub stands : (p : StoredAt) → r ≡ given p → Placed s p

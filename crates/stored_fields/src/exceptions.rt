@@ -21,22 +21,17 @@ fn exception_at(s: &[u8], i: usize) -> Exception
 pub fn exceptions_in(s: &[u8]) -> Exceptions
     ensures { result ≡ exceptions_of s.now }
 {
-    let none = Exception {
-        codon: 0,
-        residue: 0,
-    };
-    let mut all = [none; 16];
+    let mut e = Exceptions::none();
     if s.len() % 3 != 0 {
-        return Exceptions { all, count: 17 };
+        e.count = 17;
+        return e;
     }
-    let count = s.len() / 3;
-    if 16 < count {
-        return Exceptions { all, count };
+    e.count = s.len() / 3;
+    if 16 < e.count {
+        return e;
     }
-    let mut i = 0;
-    while i < count {
-        all[i] = exception_at(s, i);
-        i += 1;
+    for i in 0..e.count {
+        e.all[i] = exception_at(s, i);
     }
-    Exceptions { all, count }
+    e
 }

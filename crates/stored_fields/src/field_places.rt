@@ -1,19 +1,18 @@
 // Where a reference stands in the bytes that store it. Whether it is one that a call takes, 1 to 5, 6 or 28, isn't judged here.
-ghost use Rattle.std.specs.Prelude.{◌≡◌, get_or};
+ghost use Rattle.std.specs.Prelude.{◌≡◌, Some, get_or};
+ghost use Rattle.rules.specs.Bytes.{given};
 ghost use Rattle.rules.specs.Reference.{at_stop};
+ghost use Rattle.rules.specs.Refusals.{told};
 ghost use Rattle.rules.specs.Stored.{reference_form, fields, assembled_in};
-ghost use Rattle.fields.specs.declared.lookup.Content.TheVariants as content;
-ghost use Rattle.fields.specs.Places.{content_at};
+ghost use Rattle.fields.specs.Places.{content_at, part_or_empty};
 ghost use Rattle.fields.specs.Refusals.{refusal_in};
 ghost use Rattle.stored_places.specs.Refusal.{places_refusal};
-ghost use Rattle.stored_fields.specs.declared.field_places.Stored.TheVariants as stored;
 ghost use Rattle.stored_fields.specs.Reading.{cds_in, Fit, Stand, Reads};
 
 use crate::order::fields_refusal;
 use byte_numbers::{four_bytes, two_bytes};
-use fields::{Content, bytes_at, content_of, part_or_empty};
-use numbers::wide;
-use rules::{Cds, Part};
+use fields::{bytes_at, content_of};
+use rules::{Cds, Part, Refusal};
 use stored_places::{Places, places_refusal};
 use stored_tags::{BOUNDS, END, EXCEPTIONS, LETTERS, SECOND, TABLE, THIRD, WIDE};
 
@@ -27,26 +26,27 @@ pub struct StoredAt {
     pub exceptions: Part,
 }
 
-#[derive(Clone, Copy)]
-pub enum Stored {
-    Refused(usize),
-    At(StoredAt),
+// Where the content of a tag stands; 0 bytes at 0 where there is none.
+fn place_of(s: &[u8], tag: u8) -> Part
+    ensures { result ≡ part_or_empty (content_at tag s.now) }
+{
+    content_of(s, tag).unwrap_or(Part { at: 0, len: 0 })
 }
 
 fn places_of(s: &[u8], letters: Part) -> Places
     requires s_value { refusal_in (fields reference_form s.now) ≡ 0 }
-    requires letters_value { content.At letters ≡ content_at 1 s.now }
+    requires letters_value { Some letters ≡ content_at 1 s.now }
     ensures { Stand s.now result }
 {
     Places {
         letters,
-        bounds: part_or_empty(content_of(s, BOUNDS)),
-        table: part_or_empty(content_of(s, TABLE)),
-        exceptions: part_or_empty(content_of(s, EXCEPTIONS)),
-        second: part_or_empty(content_of(s, SECOND)),
-        third: part_or_empty(content_of(s, THIRD)),
-        wide: part_or_empty(content_of(s, WIDE)),
-        end: part_or_empty(content_of(s, END)),
+        bounds: place_of(s, BOUNDS),
+        table: place_of(s, TABLE),
+        exceptions: place_of(s, EXCEPTIONS),
+        second: place_of(s, SECOND),
+        third: place_of(s, THIRD),
+        wide: place_of(s, WIDE),
+        end: place_of(s, END),
     }
 }
 
@@ -57,7 +57,7 @@ fn end_in(end: &[u8]) -> usize
     if end.len() == 0 {
         return 0;
     }
-    wide(end[0])
+    usize::from(end[0])
 }
 
 // The numbers that the contents of tags 2 or 7, 3 and 8 hold.
@@ -65,7 +65,7 @@ fn cds_in(bounds: &[u8], long: &[u8], table: &[u8], end: &[u8]) -> Cds
     requires { Fit bounds.now long.now table.now }
     ensures { result ≡ cds_in bounds.now long.now table.now end.now }
 {
-    let table = wide(table[0]);
+    let table = usize::from(table[0]);
     let end = end_in(end);
     if bounds.len() == 0 {
         return Cds {
@@ -87,7 +87,7 @@ fn cds_in(bounds: &[u8], long: &[u8], table: &[u8], end: &[u8]) -> Cds
 fn stored_at(s: &[u8], p: Places) -> StoredAt
     requires stand { Stand s.now p }
     requires p_value { places_refusal p ≡ 0 }
-    ensures { Reads s.now (assembled_in (fields reference_form s.now)) (stored.At result) }
+    ensures { Reads s.now (assembled_in (fields reference_form s.now)) (given result) }
 {
     let letters = p.letters;
     let second = p.second;
@@ -109,21 +109,12 @@ fn stored_at(s: &[u8], p: Places) -> StoredAt
 }
 
 // 20, 21 and 23 in field order, then 22, then 25, or where the reference stands.
-pub fn find_stored(s: &[u8]) -> Stored
-    ensures { Reads s.now (assembled_in (fields reference_form s.now)) result }
+pub fn find_stored(s: &[u8]) -> Result<StoredAt, Refusal>
+    ensures { Reads s.now (assembled_in (fields reference_form s.now)) (told result) }
 {
-    let refused = fields_refusal(s);
-    if refused != 0 {
-        return Stored::Refused(refused);
-    }
-    let one = content_of(s, LETTERS);
-    let Content::At(letters) = one else {
-        return Stored::Refused(22);
-    };
+    fields_refusal(s)?;
+    let letters = content_of(s, LETTERS).ok_or(Refusal::Missing)?;
     let places = places_of(s, letters);
-    let unfit = places_refusal(places);
-    if unfit != 0 {
-        return Stored::Refused(unfit);
-    }
-    Stored::At(stored_at(s, places))
+    places_refusal(places)?;
+    Ok(stored_at(s, places))
 }

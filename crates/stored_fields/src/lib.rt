@@ -7,4 +7,4 @@ pub mod field_places;
 mod order;
 
 pub use exceptions::exceptions_in;
-pub use field_places::{Stored, StoredAt, find_stored};
+pub use field_places::{StoredAt, find_stored};

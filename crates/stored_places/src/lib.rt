@@ -1,10 +1,11 @@
 // Where the contents of a stored reference's tags stand, and what their lengths are refused with: 22, then 25.
 #![tactic(auto)]
 
-ghost use Rattle.std.specs.Prelude.{◌≡◌, if◌then◌else◌};
+ghost use Rattle.std.specs.Prelude.{◌≡◌};
+ghost use Rattle.rules.specs.Refusals.{refusal_of};
 ghost use Rattle.stored_places.specs.Refusal.{is_there, is_early, places_refusal};
 
-use rules::{Part, SHORT};
+use rules::{Part, Refusal, SHORT};
 
 // The letters that fill a field.
 const FULL: usize = 65535;
@@ -36,28 +37,21 @@ fn is_early(last: Part, p: Part) -> bool
     is_there(p) & (last.len != FULL)
 }
 
-// Whether tag 2 is there for a long transcript, or tag 7 for a short one.
-fn are_wrong_bounds(long: bool, narrow: bool, wide: bool) -> bool
-    ensures { result ≡ (if long then narrow else wide) }
-{
-    if long { narrow } else { wide }
-}
-
-// 22, then 25, or 0. A second letter field stands behind a full one, so that L is above 16,384.
-pub fn places_refusal(p: Places) -> usize
-    ensures { result ≡ places_refusal p }
+// 22, then 25. A second letter field stands behind a full one, so that L is above 16,384. Tag 2 is wrong for a long transcript, tag 7 for a
+// short one.
+#[tactic(auto, unfolding(crate::specs::Refusal::places_refusal, rules::specs::Bytes::first_number))]
+pub fn places_refusal(p: Places) -> Result<(), Refusal>
+    ensures { refusal_of result ≡ places_refusal p }
 {
     let narrow = is_there(p.bounds);
     let wide = is_there(p.wide);
     if !(narrow | wide) | !is_there(p.table) {
-        return 22;
+        return Err(Refusal::Missing);
     }
     let long = is_there(p.second) | (SHORT < p.letters.len);
-    if are_wrong_bounds(long, narrow, wide)
-        | is_early(p.letters, p.second)
-        | is_early(p.second, p.third)
-    {
-        return 25;
+    let wrong_bounds = if long { narrow } else { wide };
+    if wrong_bounds | is_early(p.letters, p.second) | is_early(p.second, p.third) {
+        return Err(Refusal::Parts);
     }
-    0
+    Ok(())
 }

@@ -1,14 +1,15 @@
 // The form of a stored reference: its tags, what content fits each, and what a field is refused with, 20, 21 or 23.
 #![tactic(auto)]
 
-ghost use Rattle.std.specs.Prelude.{◌≡◌, if◌then◌else◌};
+ghost use Rattle.std.specs.Prelude.{◌≡◌};
+ghost use Rattle.rules.specs.Refusals.{refusal_of};
 ghost use Rattle.rules.specs.Stored.{is_wrong_tag, is_wrong_content, reference_form};
 ghost use Rattle.fields.specs.Places.{Within};
 ghost use Rattle.fields.specs.Refusals.{field_refusal};
 
 use fields::{Field, bytes_at};
-use numbers::wide;
 use reference::is_short_end;
+use rules::Refusal;
 
 pub const LETTERS: u8 = 1;
 // cs and ce, two bytes each.
@@ -46,7 +47,7 @@ fn is_end(content: &[u8]) -> bool
     if content.len() != 1 {
         return false;
     }
-    is_short_end(wide(content[0]))
+    is_short_end(usize::from(content[0]))
 }
 
 fn is_wrong_content(tag: u8, content: &[u8]) -> bool
@@ -65,25 +66,19 @@ fn is_wrong_content(tag: u8, content: &[u8]) -> bool
     }
 }
 
-// A number if a test holds, else another.
-fn refused_if(holds: bool, number: usize, other: usize) -> usize
-    ensures { result ≡ (if holds then number else other) }
-{
-    if holds { number } else { other }
-}
-
-// 21 before 20 before 23, in a field behind one with the tag `last`; 0 where none applies.
-pub fn field_refusal(s: &[u8], last: u8, f: Field) -> usize
+// 21 before 20 before 23, in a field behind one with the tag `last`.
+pub fn field_refusal(s: &[u8], last: u8, f: Field) -> Result<(), Refusal>
     requires { Within s.now f }
-    ensures { result ≡ field_refusal reference_form last s.now f }
+    ensures { refusal_of result ≡ field_refusal reference_form last s.now f }
 {
     match f {
-        Field::End => 0,
-        Field::Cut { tag } => refused_if(is_wrong_tag(last, tag), 21, 20),
-        Field::Whole { tag, content } => {
-            let wrong = is_wrong_tag(last, tag);
-            let unfit = is_wrong_content(tag, bytes_at(s, content));
-            refused_if(wrong, 21, refused_if(unfit, 23, 0))
+        Field::End => Ok(()),
+        Field::Cut { tag } if is_wrong_tag(last, tag) => Err(Refusal::Tag),
+        Field::Cut { tag: _ } => Err(Refusal::Cut),
+        Field::Whole { tag, content: _ } if is_wrong_tag(last, tag) => Err(Refusal::Tag),
+        Field::Whole { tag, content } if is_wrong_content(tag, bytes_at(s, content)) => {
+            Err(Refusal::Field)
         }
+        Field::Whole { tag: _, content: _ } => Ok(()),
     }
 }

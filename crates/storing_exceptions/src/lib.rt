@@ -31,12 +31,9 @@ fn write_exceptions(e: Exceptions, out: &mut [u8]) -> usize
     ensures out_after { out.new ≡ over (each exception_bytes (exception_list e)) out.old }
 {
     let all = e.all;
-    let mut i = 0;
     let mut at = 0;
-    while i < e.count {
-        let one = all[i];
-        at = at + write_exception(one, &mut out[at..]);
-        i += 1;
+    for i in 0..e.count {
+        at += write_exception(all[i], &mut out[at..]);
     }
     at
 }

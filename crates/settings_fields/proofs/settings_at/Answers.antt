@@ -15,4 +15,4 @@ bounds-s-15 c = omega (arith, long-four c.args.s.now c.args.version c.requires)
 
 pub returns : goal.returns
 unfolding settings_at
-returns c = rw (c.wide.ensures.value, c.wide-2.ensures.value, c.wide-3.ensures.value, c.longest_at.ensures)
+returns c = rw (c.from.ensures, c.from-2.ensures, c.from-3.ensures, c.longest_at.ensures)

@@ -1,5 +1,5 @@
 -- `settings_fields::version_of` meets its contract. Assumes nothing.
-use mathlib.Core.Path.{◌≡◌, ◌∙◌}
+use mathlib.Core.Path.{◌≡◌}
 use mathlib.Core.Bool.{true, false}
 use native.Mathlib.Omega.{arith}
 use Rattle.settings_fields.specs.Places.{is_at}
@@ -16,7 +16,7 @@ pub returns-then-is_field : goal.returns-then-is_field
 returns-then-is_field c =
     let s = c.args.s.now in
     let h : is_at s 0 (1, 1) ≡ true = cc in
-    c.wide.ensures.value ∙ version-there s h
+    rw c.from.ensures (version-there s h)
 
 pub returns : goal.returns
 returns c =

@@ -1,5 +1,4 @@
 use mathlib.Core.Path.{◌≡◌}
-use Prim.Native.Nat.{◌-◌, ◌≤◌}
 use lib.ListN.{length}
 use Rattle.rules.specs.Bytes.{over}
 use Rattle.rules.specs.Translation.{no_exception, exception_list}
@@ -8,7 +7,4 @@ use Rattle.storing_exceptions.proofs.Rows.{row}
 use Rattle.storing_exceptions.proofs.write_exceptions.Given as goal
 
 abbrev pub invariant-loop-i : goal.invariant-loop-i
-invariant-loop-i l = (l.i ≤ l.e.count) × (l.at ≡ length (row exception_bytes (exception_list l.e) no_exception l.i)) × (l.out ≡ over (row exception_bytes (exception_list l.e) no_exception l.i) l.initial.out) × (length l.e.all ≡ 16)
-
-abbrev pub decreases-loop-i : goal.decreases-loop-i
-decreases-loop-i l = l.e.count - l.i
+invariant-loop-i l = (l.at ≡ length (row exception_bytes (exception_list l.fn.e) no_exception l.i)) × (l.out ≡ over (row exception_bytes (exception_list l.fn.e) no_exception l.i) l.initial.out) × (length l.fn.e.all ≡ 16)
