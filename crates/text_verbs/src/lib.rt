@@ -12,9 +12,9 @@ use sequences::equals;
 
 // The new bases are the line from `at` on.
 #[derive(Clone, Copy)]
-pub enum VerbAt {
-    Not,
-    Found { kind: Kind, at: usize },
+pub struct VerbAt {
+    pub kind: Kind,
+    pub at: usize,
 }
 
 fn all_capitals(s: &[u8]) -> bool
@@ -33,102 +33,70 @@ fn all_capitals(s: &[u8]) -> bool
 pub fn are_capitals(s: &[u8]) -> bool
     ensures { result ≡ are_capitals s.now }
 {
-    if s.len() < 1 {
-        return false;
-    }
-    all_capitals(s)
+    1 <= s.len() && all_capitals(s)
 }
 
 pub fn starts_with(word: &[u8], s: &[u8]) -> bool
     ensures { result ≡ starts_with word.now s.now }
 {
     let n = word.len();
-    if s.len() < n {
-        return false;
-    }
-    equals(&s[..n], word)
+    n <= s.len() && equals(&s[..n], word)
 }
 
 // A word with bases behind it.
 fn has_bases(word: &[u8], s: &[u8]) -> bool
     ensures { result ≡ (starts_with word.now s.now && are_capitals (drop (length word.now) s.now)) }
 {
-    if !starts_with(word, s) {
-        return false;
-    }
-    let n = word.len();
-    are_capitals(&s[n..])
+    starts_with(word, s) && are_capitals(&s[word.len()..])
 }
 
 // `A>G`: in a substitution one byte on each side.
 fn is_arrow(s: &[u8]) -> bool
     ensures { result ≡ is_arrow s.now }
 {
-    if s.len() != 3 {
-        return false;
-    }
-    (s[1] == b'>') & is_capital(s[0]) & is_capital(s[2])
+    s.len() == 3 && s[1] == b'>' && is_capital(s[0]) && is_capital(s[2])
 }
 
 // A kind with new bases, from a place of a line to its end.
-fn parse_base_verb(line: &[u8], at: usize) -> VerbAt
+fn parse_base_verb(line: &[u8], at: usize) -> Option<VerbAt>
     requires { at ≤ length line.now }
     ensures result_value { verb_in line.now result ≡ base_verb (drop at line.now) }
     ensures within { verb_next result ≤ length line.now }
 {
     let s = &line[at..];
     if has_bases(b"delins", s) {
-        return VerbAt::Found {
+        return Some(VerbAt {
             kind: Kind::Delins,
             at: at + 6,
-        };
+        });
     }
     if has_bases(b"ins", s) {
-        return VerbAt::Found {
+        return Some(VerbAt {
             kind: Kind::Insertion,
             at: at + 3,
-        };
+        });
     }
     if is_arrow(s) {
-        return VerbAt::Found {
+        return Some(VerbAt {
             kind: Kind::Substitution,
             at: at + 2,
-        };
+        });
     }
-    VerbAt::Not
+    None
 }
 
 // A kind, from a place of a line to its end.
-pub fn parse_verb(line: &[u8], at: usize) -> VerbAt
+pub fn parse_verb(line: &[u8], at: usize) -> Option<VerbAt>
     requires { at ≤ length line.now }
     ensures result_value { verb_in line.now result ≡ verb (drop at line.now) }
     ensures within { verb_next result ≤ length line.now }
 {
-    let s = &line[at..];
     let end = line.len();
-    if equals(s, b"del") {
-        return VerbAt::Found {
-            kind: Kind::Deletion,
-            at: end,
-        };
+    match &line[at..] {
+        b"del" => Some(VerbAt { kind: Kind::Deletion, at: end }),
+        b"dup" => Some(VerbAt { kind: Kind::Duplication, at: end }),
+        b"inv" => Some(VerbAt { kind: Kind::Inversion, at: end }),
+        b"=" => Some(VerbAt { kind: Kind::Identity, at: end }),
+        _ => parse_base_verb(line, at),
     }
-    if equals(s, b"dup") {
-        return VerbAt::Found {
-            kind: Kind::Duplication,
-            at: end,
-        };
-    }
-    if equals(s, b"inv") {
-        return VerbAt::Found {
-            kind: Kind::Inversion,
-            at: end,
-        };
-    }
-    if equals(s, b"=") {
-        return VerbAt::Found {
-            kind: Kind::Identity,
-            at: end,
-        };
-    }
-    parse_base_verb(line, at)
 }
