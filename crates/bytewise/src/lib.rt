@@ -1,8 +1,10 @@
-// Bytes that are copied to a buffer's start, and the first place of a byte.
+// Bytes that are copied to a buffer's start, the first place of a byte, and a test of each byte.
 #![tactic(auto)]
 
-ghost use Rattle.std.specs.Prelude.{◌≡◌, ◌+◌, ◌≤◌, ◌++◌, length, take, drop};
+ghost use Rattle.std.specs.Prelude.{ℕ, Bool, ◌≡◌, ◌+◌, ◌≤◌, ◌++◌, length, take, drop};
+ghost use Rattle.rules.specs.Bytes.{all};
 ghost use Rattle.bytewise.specs.Find.{index_of, slice};
+ghost use Rattle.bytewise.specs.Tests.{Computes};
 
 // Copies src to dst's start, and answers how many bytes that were. A loop, which the compiler makes memcpy or wide moves of: std's copy_from_slice wants
 // memmove, which a host of the archive need not have.
@@ -31,4 +33,16 @@ pub fn find(s: &[u8], from: usize, to: usize, b: u8) -> usize
         }
     }
     to
+}
+
+// Whether each byte passes the test. No byte ends the loop early, so that it goes many at a time.
+pub fn all_bytes<F: Fn(u8) -> bool>(s: &[u8], test: F) -> bool
+    requires callable { F.IsAlwaysCallable test }
+    ensures value { (p : ℕ → Bool) → Computes (F.post test) p → result ≡ all p s.now }
+{
+    let mut good = true;
+    for &b in s {
+        good = good & test(b);
+    }
+    good
 }
