@@ -2,13 +2,12 @@
 #![tactic(auto)]
 
 ghost use Rattle.std.specs.Prelude.{◌≡◌, ◌&&◌, ◌≤◌, length, drop};
-ghost use Rattle.rules.specs.Bytes.{all, is_capital};
 ghost use Rattle.rules.specs.Line.{are_capitals, starts_with, is_arrow, base_verb, verb};
-ghost use Rattle.text_verbs.specs.Views.{verb_in, verb_next};
+ghost use Rattle.text_verbs.specs.Views.{word_kind, verb_in, verb_next};
 
+use bytewise::all_bytes;
 use letters::is_capital;
 use rules::Kind;
-use sequences::equals;
 
 // The new bases are the line from `at` on.
 #[derive(Clone, Copy)]
@@ -17,30 +16,17 @@ pub struct VerbAt {
     pub at: usize,
 }
 
-fn all_capitals(s: &[u8]) -> bool
-    ensures { result ≡ all is_capital s.now }
-{
-    let mut good = true;
-    let mut i = 0;
-    while i < s.len() {
-        good = good & is_capital(s[i]);
-        i += 1;
-    }
-    good
-}
-
 // One or more bytes A to Z; a wrong one is left to 2 and 10.
 pub fn are_capitals(s: &[u8]) -> bool
     ensures { result ≡ are_capitals s.now }
 {
-    1 <= s.len() && all_capitals(s)
+    !s.is_empty() && all_bytes(s, is_capital)
 }
 
 pub fn starts_with(word: &[u8], s: &[u8]) -> bool
     ensures { result ≡ starts_with word.now s.now }
 {
-    let n = word.len();
-    n <= s.len() && equals(&s[..n], word)
+    s.starts_with(word)
 }
 
 // A word with bases behind it.
@@ -85,18 +71,31 @@ fn parse_base_verb(line: &[u8], at: usize) -> Option<VerbAt>
     None
 }
 
+// A kind that has no new bases.
+#[tactic(auto, using(std::proofs::lemmas::Bool::Decides::nat_tests, crate::proofs::Verbs::same_one, crate::proofs::Verbs::same_three))]
+fn word_kind(s: &[u8]) -> Option<Kind>
+    ensures { result ≡ word_kind s.now }
+{
+    match s {
+        b"del" => Some(Kind::Deletion),
+        b"dup" => Some(Kind::Duplication),
+        b"inv" => Some(Kind::Inversion),
+        b"=" => Some(Kind::Identity),
+        _ => None,
+    }
+}
+
 // A kind, from a place of a line to its end.
 pub fn parse_verb(line: &[u8], at: usize) -> Option<VerbAt>
     requires { at ≤ length line.now }
     ensures result_value { verb_in line.now result ≡ verb (drop at line.now) }
     ensures within { verb_next result ≤ length line.now }
 {
-    let end = line.len();
-    match &line[at..] {
-        b"del" => Some(VerbAt { kind: Kind::Deletion, at: end }),
-        b"dup" => Some(VerbAt { kind: Kind::Duplication, at: end }),
-        b"inv" => Some(VerbAt { kind: Kind::Inversion, at: end }),
-        b"=" => Some(VerbAt { kind: Kind::Identity, at: end }),
-        _ => parse_base_verb(line, at),
+    match word_kind(&line[at..]) {
+        Some(kind) => Some(VerbAt {
+            kind,
+            at: line.len(),
+        }),
+        None => parse_base_verb(line, at),
     }
 }

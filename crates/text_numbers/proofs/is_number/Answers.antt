@@ -1,5 +1,4 @@
 -- `text_numbers::is_number` meets its contract. Assumes nothing.
-use borrow.Author.Rules.{rules}
 use Rattle.std.proofs.lemmas.Bool.Decides.{nat_tests}
 use native.Mathlib.Omega.{arith}
 use Rattle.rules.specs.Number.{is_number}

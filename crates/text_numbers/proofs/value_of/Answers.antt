@@ -1,7 +1,6 @@
 -- `text_numbers::value_of` meets its contract. The invariant: the value so far, with what is left, is the whole's; so it is below 100,000.
 use mathlib.Core.Path.{refl, sym, ◌∙◌}
 use native.Mathlib.Omega.{arith}
-use borrow.Author.Rules.{rules}
 use Rattle.rules.specs.Number.{is_digit, value}
 use Rattle.rules.proofs.Lists.{all_at}
 use Rattle.text_numbers.proofs.Numbers.{digit_low, value-more, value-end, value-fits, next_fits}
