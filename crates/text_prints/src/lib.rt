@@ -20,16 +20,8 @@ use words::{
 fn part_of(p: Part, protein: &[u8]) -> &[u8]
     ensures { result.now ≡ part_of p protein.now }
 {
-    let at = p.at;
-    let len = p.len;
-    if protein.len() <= at {
-        return &protein[0..0];
-    }
-    if protein.len() - at <= len {
-        return &protein[at..];
-    }
-    let end = at + len;
-    &protein[at..end]
+    let rest = &protein[p.at.min(protein.len())..];
+    &rest[..p.len.min(rest.len())]
 }
 
 // Deleted and inserted residues, each behind a space, and the first residue of a copy.
