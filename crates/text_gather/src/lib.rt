@@ -8,7 +8,6 @@ ghost use Rattle.rules.specs.Answer.{written_of, bytes_of};
 ghost use Rattle.text_answers.specs.Rooms.{line_room};
 ghost use Rattle.text_gather.specs.Steps.{within, Gathers};
 
-use numbers::least;
 use rules::Refusal;
 
 // How many bytes of the line are held, and how many of the input were taken.
@@ -24,7 +23,7 @@ fn hold(line: &mut [u8], held: usize, part: &[u8]) -> usize
     ensures line_after { take result line.new ≡ take (length line.old) (take held line.old ++ part.now) }
     ensures upper_bound { result ≤ length line.old }
 {
-    let n = least(part.len(), line.len() - held);
+    let n = part.len().min(line.len() - held);
     held + bytewise::copy(&part[..n], &mut line[held..])
 }
 

@@ -1,5 +1,5 @@
 // The edit lines of a reference.
-ghost use Rattle.std.specs.Prelude.{◌≡◌, ◌≤◌, ◌<◌, length, take, IsSome, IsNone, unwrap_or};
+ghost use Rattle.std.specs.Prelude.{ℕ, ◌≡◌, ◌≤◌, ◌<◌, length, take, Some, None, unwrap_or};
 ghost use Rattle.rules.specs.Bytes.{over};
 ghost use Rattle.rules.specs.Refusals.{told};
 ghost use Rattle.rules.specs.Answer.{written_of, bytes_of};
@@ -73,8 +73,8 @@ fn edit_line(
     ensures moves { Moves (editing (bare letters.now begun.known.cds) (take begun.held line.old))
         (editing (bare letters.now begun.known.cds) (take result.held line.new))
         input.now result.taken (unwrap_or result.answer 0) out.old out.new }
-    ensures taken_nonzero { IsSome result.answer → 0 < result.taken }
-    ensures full { IsNone result.answer → Full (editing (bare letters.now begun.known.cds) (take begun.held line.old))
+    ensures taken_nonzero { (size : ℕ) → result.answer ≡ Some size → 0 < result.taken }
+    ensures full { result.answer ≡ None → Full (editing (bare letters.now begun.known.cds) (take begun.held line.old))
         input.now result.taken out.old }
 {
     let Gathered { held, taken } = gather(line, begun.held, input);

@@ -63,7 +63,7 @@ fn begin(
 ) -> Stepped
     requires rooms { Rooms line.old letters.old protein.old }
     requires keeps { Keeps state letters.old protein.old }
-    ensures keeps_2 { Keeps result.state letters.new protein.new }
+    ensures still_keeps { Keeps result.state letters.new protein.new }
     ensures begins { Begins (stage_of state line.old letters.old) result.state line.new letters.new
         input.now result.taken result.used out.old out.new }
     ensures fills { Fills (first_end (stage_of state line.old letters.old) input.now) letters.old letters.new protein.old protein.new }
@@ -90,7 +90,7 @@ fn go_on(
     requires line_len { length line.old ≡ line_room }
     requires keeps { Keeps begun.state letters.now protein.now }
     requires taken_in_bounds { (begun.taken ≤ length input.now) × (begun.used ≤ length out.old) }
-    ensures keeps_2 { Keeps result.state letters.now protein.now }
+    ensures still_keeps { Keeps result.state letters.now protein.now }
     ensures steps { (x : Stage) (old : List ℕ) → Begins x begun.state line.old letters.now input.now begun.taken begun.used old out.old
         → Steps x (stage_of result.state line.new letters.now) input.now result.taken result.used old out.new }
 {
@@ -139,7 +139,7 @@ pub fn step(
 ) -> Stepped
     requires rooms { Rooms line.old letters.old protein.old }
     requires keeps { Keeps state letters.old protein.old }
-    ensures keeps_2 { Keeps result.state letters.new protein.new }
+    ensures still_keeps { Keeps result.state letters.new protein.new }
     ensures steps { Steps (stage_of state line.old letters.old) (stage_of result.state line.new letters.new)
         input.now result.taken result.used out.old out.new }
     ensures fills { Fills (first_end (stage_of state line.old letters.old) input.now) letters.old letters.new protein.old protein.new }

@@ -9,20 +9,17 @@ use text_answers::{FIRST, Opened, Phase, answer_first};
 use text_gather::{Gathered, gather, put};
 
 // The answer to a first line, put out; None where there is no room for it.
-fn open_line(
-    line: &[u8],
-    letters: &mut [u8],
-    protein: &mut [u8],
-    out: &mut [u8],
-) -> Option<Opened>
+fn open_line(line: &[u8], letters: &mut [u8], protein: &mut [u8], out: &mut [u8]) -> Option<Opened>
     requires { (length letters.old ≡ letters_room) × (length protein.old ≡ protein_room) }
     ensures put { Put (opening line.now) result letters.new protein.new out.old out.new }
     ensures fills { Fills (next_line (opening line.now)) letters.old letters.new protein.old protein.new }
 {
     let mut text = [0u8; FIRST];
     let opened = answer_first(line, letters, protein, &mut text);
-    put(&text[..opened.size], out).ok()?;
-    Some(opened)
+    match put(&text[..opened.size], out) {
+        Ok(_) => Some(opened),
+        Err(_) => None,
+    }
 }
 
 // What is held behind the first line: nothing of an edit line; the line itself, where it was refused.
