@@ -153,12 +153,12 @@ module _ (n : ℕ) (l line' input : List ℕ) (t : ℕ) (g : Gathers l (take n l
   -- the line ends there
   module _ (more : t ≡ length input → ⊥) (letters' protein' out out' : List ℕ) where
     pub begun-full : Put (opening (take n line')) None letters' protein' out out' → length line' ≡ line_room → Begins (opening l) (record { phase = Opening; held = n }) line' letters' input t 0 out out'
-    begun-full no room =
-        rw no.1
+    begun-full full room =
+        rw full.1
         (record {
           room = room;
           moves = begun-moves out;
-          stays = λ e. full-feed (opening l) g.short input t g.ends g.inside (opening (take n line')) held-opening more out no.0;
+          stays = λ e. full-feed (opening l) g.short input t g.ends g.inside (opening (take n line')) held-opening more out full.0;
         })
 
     module _ (o : Opened) (q : Put (opening (take n line')) (Some o) letters' protein' out out') (m : ℕ) (behind : m ≡ held_behind o.phase n) where

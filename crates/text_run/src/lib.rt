@@ -1,7 +1,7 @@
 // The text program over memory.
 #![tactic(auto)]
 
-ghost use Rattle.std.specs.Prelude.{◌≡◌, ◌≤◌, ◌<◌, length, Some, None};
+ghost use Rattle.std.specs.Prelude.{◌≡◌, ◌≤◌, ◌<◌, length, IfSome, IfNone};
 ghost use Rattle.rules.specs.Bytes.{over};
 ghost use Rattle.rules.specs.Refusals.{told};
 ghost use Rattle.rules.specs.Answer.{written_of, bytes_of};
@@ -33,8 +33,8 @@ fn count_lines(
 ) -> Option<Count>
     requires rooms { Rooms line.old letters.old protein.old }
     requires piece_len { length piece.old ≡ answer_room }
-    ensures counted { (k : Count) → result ≡ Some k → Counted k.state input.now line.new letters.new protein.new (length input.now) k.total most }
-    ensures too_many { result ≡ None → most < length (run input.now) }
+    ensures counted { IfSome result (λ k. Counted k.state input.now line.new letters.new protein.new (length input.now) k.total most) }
+    ensures too_many { IfNone result (most < length (run input.now)) }
     ensures piece_stays { length piece.new ≡ answer_room }
 {
     let mut state = start();
@@ -76,15 +76,16 @@ fn run_size(input: &[u8], most: usize) -> Result<usize, Refusal>
     let mut letters = [0u8; LETTERS];
     let mut protein = [0u8; PROTEIN];
     let mut piece = [0u8; ANSWER];
-    let counted = count_lines(
+    let Some(counted) = count_lines(
         &mut line,
         &mut letters,
         &mut protein,
         &mut piece,
         input,
         most,
-    )
-    .ok_or(Refusal::Output)?;
+    ) else {
+        return Err(Refusal::Output);
+    };
     let last = last_size(
         counted.state,
         &mut line,
