@@ -8,18 +8,16 @@
 
 mod says;
 
-ghost use Rattle.std.specs.Prelude.{◌≡◌, true, false, List, ℕ, ◌≤◌, length, take};
-ghost use Rattle.text_answers.specs.Stage.{is_ended};
+ghost use Rattle.std.specs.Prelude.{◌≡◌, ℕ, ◌≤◌, length, take, Ok, Err, OnOk};
 ghost use Rattle.text_gather.specs.Steps.{after, Steps};
 ghost use Rattle.text_lines.specs.Memory.{stage_of, Rooms, Keeps};
-ghost use Rattle.annotate.specs.Turns.{piece_room, next_by, is_read, unwritten_status, Turned};
+ghost use Rattle.annotate.specs.Turns.{piece_room, status_of, Turned};
 
-use rules::Written;
 use says::{hint_return, say_unread, say_unwritten};
 use std::io::{ErrorKind, Read, Stderr, Stdin, Stdout, Write};
 use std::process::ExitCode;
 use text_answers::{LETTERS, LINE, PROTEIN};
-use text_lines::{State, Stepped};
+use text_lines::State;
 
 // What is read and written at once.
 const PIECE: usize = 65536;
@@ -29,295 +27,183 @@ const FAILED: u8 = 1;
 
 const CLOSED: u8 = 141;
 
-// Whether bytes were written, and whether they weren't because nobody reads them any more.
-#[derive(Clone, Copy)]
-struct Sent {
-    written: bool,
-    closed: bool,
-}
-
-// The state behind a piece of input, whether its answers were written, and whether nobody reads them any more.
-#[derive(Clone, Copy)]
-struct Ran {
-    state: State,
-    written: bool,
-    closed: bool,
-}
-
-// What comes behind a read: another; the answer to the last line, at the input's end; nothing, behind a refused first line; or the read or a write
-// failed.
+// What comes behind a read: another; the answer to the last line, at the input's end; or nothing, behind a refused first line.
 #[derive(Clone, Copy)]
 enum Next {
     Read,
     Finish,
     Stop,
+}
+
+// Why a run breaks off: the input can't be read, or the answers can't be written; or nobody reads these any more.
+#[derive(Clone, Copy)]
+enum Failure {
     Unread,
     Unwritten,
-}
-
-// The state behind `came` bytes that were read, and whether nobody reads the answers any more.
-#[derive(Clone, Copy)]
-struct Turn {
-    state: State,
-    came: usize,
-    next: Next,
-    closed: bool,
-}
-
-// A step over a piece, whether what it put out was written, and whether nobody reads that any more.
-#[derive(Clone, Copy)]
-struct Put {
-    stepped: Stepped,
-    written: bool,
-    closed: bool,
+    Closed,
 }
 
 // Writes bytes out.
-fn send(stdout: &mut Stdout, bytes: &[u8]) -> Sent
-    ensures { result.written ≡ true → result.closed ≡ false }
-{
-    match stdout.write_all(bytes) {
-        Ok(()) => Sent {
-            written: true,
-            closed: false,
-        },
-        Err(e) => Sent {
-            written: false,
-            closed: matches!(e.kind(), ErrorKind::BrokenPipe),
-        },
-    }
+fn send(stdout: &mut Stdout, bytes: &[u8]) -> Result<(), Failure> {
+    stdout.write_all(bytes).map_err(|e| match e.kind() {
+        ErrorKind::BrokenPipe => Failure::Closed,
+        _ => Failure::Unwritten,
+    })
 }
 
-// Answers as much of a piece as there is room for, and writes the answers out.
+// Answers as much of a piece as there is room for, and writes the answers out. The result is how much that is.
 fn put_some(
     stdout: &mut Stdout,
-    state: State,
+    state: &mut State,
     line: &mut [u8],
     letters: &mut [u8],
     protein: &mut [u8],
     input: &[u8],
     out: &mut [u8],
-) -> Put
+) -> Result<usize, Failure>
     requires rooms { Rooms line.old letters.old protein.old }
-    requires keeps { Keeps state letters.old protein.old }
-    ensures keeps_2 { Keeps result.stepped.state letters.new protein.new }
-    ensures steps { Steps (stage_of state line.old letters.old) (stage_of result.stepped.state line.new letters.new)
-        input.now result.stepped.taken result.stepped.used out.old out.new }
+    requires keeps { Keeps state.old letters.old protein.old }
+    ensures still_keeps { Keeps state.new letters.new protein.new }
+    ensures steps { (taken : ℕ) → result ≡ Ok taken → (used : ℕ) × Steps (stage_of state.old line.old letters.old) (stage_of state.new line.new letters.new)
+        input.now taken used out.old out.new }
 {
-    let stepped = text_lines::step(state, line, letters, protein, input, out);
-    let used = stepped.used;
-    let sent = send(stdout, &out[..used]);
-    Put {
-        stepped,
-        written: sent.written,
-        closed: sent.closed,
-    }
+    let stepped = text_lines::step(*state, line, letters, protein, input, out);
+    *state = stepped.state;
+    send(stdout, &out[..stepped.used])?;
+    Ok(stepped.taken)
 }
 
 // Answers a piece of input, and writes the answers out whenever the output is full and at the piece's end.
 fn run_piece(
     stdout: &mut Stdout,
-    state: State,
+    state: &mut State,
     line: &mut [u8],
     letters: &mut [u8],
     protein: &mut [u8],
     input: &[u8],
     out: &mut [u8],
-) -> Ran
+) -> Result<(), Failure>
     requires rooms { Rooms line.old letters.old protein.old }
-    requires keeps { Keeps state letters.old protein.old }
+    requires keeps { Keeps state.old letters.old protein.old }
     requires out_len { length out.old ≡ piece_room }
-    ensures keeps_2 { Keeps result.state letters.new protein.new }
-    ensures letters_after { result.written ≡ true → stage_of result.state line.new letters.new ≡ after (stage_of state line.old letters.old) input.now }
+    ensures still_keeps { Keeps state.new letters.new protein.new }
+    ensures reaches { OnOk result (stage_of state.new line.new letters.new ≡ after (stage_of state.old line.old letters.old) input.now) }
 {
-    let mut reached = state;
     let mut at = 0;
     while at < input.len() {
-        let put = put_some(stdout, reached, line, letters, protein, &input[at..], out);
-        let stepped = put.stepped;
-        reached = stepped.state;
-        at = at + stepped.taken;
-        if !put.written {
-            return Ran {
-                state: reached,
-                written: false,
-                closed: put.closed,
-            };
-        }
+        at += put_some(stdout, state, line, letters, protein, &input[at..], out)?;
     }
-    Ran {
-        state: reached,
-        written: true,
-        closed: false,
-    }
-}
-
-// Nothing follows a refused first line.
-fn next_of(state: State, written: bool) -> Next
-    ensures { (line letters : List ℕ) → result ≡ next_by written (is_ended (stage_of state line letters)) }
-{
-    if !written {
-        return Next::Unwritten;
-    }
-    if text_lines::is_over(state) {
-        return Next::Stop;
-    }
-    Next::Read
+    Ok(())
 }
 
 // Reads once, and answers what came. A read that fails ends the run: what came before it is written.
 fn run_once(
     stdin: &mut Stdin,
     stdout: &mut Stdout,
-    state: State,
+    state: &mut State,
     line: &mut [u8],
     letters: &mut [u8],
     protein: &mut [u8],
     input: &mut [u8],
     out: &mut [u8],
-) -> Turn
+) -> Result<Next, Failure>
     requires rooms { Rooms line.old letters.old protein.old }
-    requires keeps { Keeps state letters.old protein.old }
+    requires keeps { Keeps state.old letters.old protein.old }
     requires out_len { length out.old ≡ piece_room }
-    ensures keeps_2 { Keeps result.state letters.new protein.new }
-    ensures came_in_bounds { result.came ≤ length input.new }
-    ensures turned { Turned result.next (stage_of state line.old letters.old) (stage_of result.state line.new letters.new) (take result.came input.new) }
+    ensures still_keeps { Keeps state.new letters.new protein.new }
+    ensures turned { (came : ℕ) × (came ≤ length input.new)
+        × Turned result (stage_of state.old line.old letters.old) (stage_of state.new line.new letters.new) (take came input.new) }
 {
-    match stdin.read(input) {
-        Err(_) => Turn {
-            state,
-            came: 0,
-            next: Next::Unread,
-            closed: false,
-        },
-        Ok(0) => Turn {
-            state,
-            came: 0,
-            next: Next::Finish,
-            closed: false,
-        },
-        Ok(came) => {
-            let ran = run_piece(stdout, state, line, letters, protein, &input[..came], out);
-            let reached = ran.state;
-            Turn {
-                state: reached,
-                came,
-                next: next_of(reached, ran.written),
-                closed: ran.closed,
-            }
-        }
+    let came = stdin.read(input).map_err(|_| Failure::Unread)?;
+    if came == 0 {
+        return Ok(Next::Finish);
+    }
+    run_piece(stdout, state, line, letters, protein, &input[..came], out)?;
+    if text_lines::is_over(*state) {
+        Ok(Next::Stop)
+    } else {
+        Ok(Next::Read)
     }
 }
 
-fn is_read(next: Next) -> bool
-    ensures { result ≡ is_read next }
-{
-    match next {
-        Next::Read => true,
-        Next::Finish => false,
-        Next::Stop => false,
-        Next::Unread => false,
-        Next::Unwritten => false,
-    }
-}
-
-// Reads and answers to the end. A proved loop has to end, and nothing says that the input does: the loop counts its turns down, from a number that no
-// run uses up.
+// Reads and answers to the end. A proved loop has to end, and nothing says that the input does: the loop counts its turns, to a number that no run
+// comes to.
 fn run_reads(
     stdin: &mut Stdin,
     stdout: &mut Stdout,
+    state: &mut State,
     line: &mut [u8],
     letters: &mut [u8],
     protein: &mut [u8],
     input: &mut [u8],
     out: &mut [u8],
-) -> Turn
+) -> Result<Next, Failure>
     requires rooms { Rooms line.old letters.old protein.old }
+    requires keeps { Keeps state.old letters.old protein.old }
     requires out_len { length out.old ≡ piece_room }
-    ensures { Keeps result.state letters.new protein.new }
+    ensures still_keeps { Keeps state.new letters.new protein.new }
 {
-    let mut turn = Turn {
-        state: text_lines::start(),
-        came: 0,
-        next: Next::Read,
-        closed: false,
-    };
-    let mut turns = u64::MAX;
-    while turns > 0 {
-        let state = turn.state;
-        turn = run_once(stdin, stdout, state, line, letters, protein, input, out);
-        let next = turn.next;
-        if !is_read(next) {
-            return turn;
+    for _ in 0..u64::MAX {
+        let next = run_once(stdin, stdout, state, line, letters, protein, input, out)?;
+        if !matches!(next, Next::Read) {
+            return Ok(next);
         }
-        turns -= 1;
     }
-    turn
+    Ok(Next::Read)
 }
 
-// Says that answers are missing, unless nobody reads them any more, and gives the exit status.
-fn end_unwritten(stderr: &mut Stderr, closed: bool) -> u8
-    ensures { result ≡ unwritten_status closed }
-{
-    if closed {
-        return CLOSED;
-    }
-    say_unwritten(stderr);
-    FAILED
-}
-
-// Answers a last line that no line feed ends, and gives the exit status.
+// Answers a last line that no line feed ends.
 fn run_last(
     stdout: &mut Stdout,
-    stderr: &mut Stderr,
     state: State,
     line: &mut [u8],
     letters: &mut [u8],
     protein: &mut [u8],
     out: &mut [u8],
-) -> u8
+) -> Result<(), Failure>
     requires rooms { Rooms line.old letters.old protein.old }
     requires keeps { Keeps state letters.old protein.old }
 {
-    match text_lines::finish(state, line, letters, protein, out) {
-        Written::Refused(_) => end_unwritten(stderr, false),
-        Written::Bytes(n) => {
-            let sent = send(stdout, &out[..n]);
-            if sent.written {
-                return 0;
-            }
-            end_unwritten(stderr, sent.closed)
-        }
-    }
+    let size = text_lines::finish(state, line, letters, protein, out)
+        .map_err(|_| Failure::Unwritten)?;
+    send(stdout, &out[..size])
 }
 
-// What comes behind the last read, and the exit status.
+// What comes behind the last read.
 fn end_run(
     stdout: &mut Stdout,
-    stderr: &mut Stderr,
-    turn: Turn,
+    ended: Result<Next, Failure>,
+    state: State,
     line: &mut [u8],
     letters: &mut [u8],
     protein: &mut [u8],
     out: &mut [u8],
-) -> u8
+) -> Result<(), Failure>
     requires rooms { Rooms line.old letters.old protein.old }
-    requires keeps { Keeps turn.state letters.old protein.old }
-    ensures unread { turn.next ≡ Next.Unread → result ≡ 1 }
-    ensures unwritten { turn.next ≡ Next.Unwritten → result ≡ unwritten_status turn.closed }
+    requires keeps { Keeps state letters.old protein.old }
+    ensures failure { (f : Failure) → ended ≡ Err f → result ≡ Err f }
 {
-    let state = turn.state;
-    let next = turn.next;
-    hint_return(stderr, state, line);
-    match next {
-        Next::Read => 0,
-        Next::Finish => run_last(stdout, stderr, state, line, letters, protein, out),
-        Next::Stop => 0,
-        Next::Unread => {
+    match ended? {
+        Next::Finish => run_last(stdout, state, line, letters, protein, out),
+        _ => Ok(()),
+    }
+}
+
+// Says what went wrong, unless nobody reads the answers any more, and gives the exit status.
+fn status_of(stderr: &mut Stderr, done: Result<(), Failure>) -> u8
+    ensures { result ≡ status_of done }
+{
+    match done {
+        Ok(()) => 0,
+        Err(Failure::Closed) => CLOSED,
+        Err(Failure::Unread) => {
             say_unread(stderr);
             FAILED
         }
-        Next::Unwritten => end_unwritten(stderr, turn.closed),
+        Err(Failure::Unwritten) => {
+            say_unwritten(stderr);
+            FAILED
+        }
     }
 }
 
@@ -325,28 +211,31 @@ fn main(rt: HostRuntime) -> ExitCode {
     let mut stdin = rt.stdin();
     let mut stdout = rt.stdout();
     let mut stderr = rt.stderr();
+    let mut state = text_lines::start();
     let mut line = [0u8; LINE];
     let mut letters = [0u8; LETTERS];
     let mut protein = [0u8; PROTEIN];
     let mut input = [0u8; PIECE];
     let mut out = [0u8; PIECE];
-    let turn = run_reads(
+    let ended = run_reads(
         &mut stdin,
         &mut stdout,
+        &mut state,
         &mut line,
         &mut letters,
         &mut protein,
         &mut input,
         &mut out,
     );
-    let status = end_run(
+    hint_return(&mut stderr, state, &line);
+    let done = end_run(
         &mut stdout,
-        &mut stderr,
-        turn,
+        ended,
+        state,
         &mut line,
         &mut letters,
         &mut protein,
         &mut out,
     );
-    ExitCode::from(status)
+    ExitCode::from(status_of(&mut stderr, done))
 }

@@ -27,22 +27,13 @@ pub(crate) fn say_unwritten(stderr: &mut Stderr) {
 fn is_editing(state: State) -> bool
     ensures { (line letters : List ℕ) → result ≡ is_editing (stage_of state line letters) }
 {
-    let phase = state.phase;
-    match phase {
-        Phase::Opening => false,
-        Phase::Editing { known: _, size: _ } => true,
-        Phase::Ended => false,
-    }
+    matches!(state.phase, Phase::Editing { .. })
 }
 
 fn ends_in_return(line: &[u8]) -> bool
     ensures { result ≡ ends_in_return line.now }
 {
-    let n = line.len();
-    if n == 0 {
-        return false;
-    }
-    line[n - 1] == b'\r'
+    matches!(line.last(), Some(b'\r'))
 }
 
 // A first line that ends in a carriage return isn't in the form, and is held where it was refused: the file is likely another system's.

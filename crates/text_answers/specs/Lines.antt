@@ -1,9 +1,8 @@
 -- A line's answer at the front of a buffer, and what a first line leaves.
-use Rattle.std.specs.Prelude.{ℕ, ◌≤◌, ◌≡◌, List, [], length, take, replicate}
+use Rattle.std.specs.Prelude.{ℕ, ◌≤◌, ◌≡◌, List, [], length, take}
 use Rattle.rules.specs.declared.Form.TheVariants.{Bytes}
-use Rattle.rules.specs.declared.Exceptions.{Exceptions}
 use Rattle.rules.specs.Bytes.{over}
-use Rattle.rules.specs.Translation.{no_exception}
+use Rattle.rules.specs.Translation.{no_exceptions}
 use Rattle.rules.specs.Reference.{Reference, reference_protein}
 use Rattle.rules.specs.Line.{text_limits}
 use Rattle.rules.specs.Run.{record_line}
@@ -15,10 +14,6 @@ use Rattle.altseq.specs.Carried.{protein_by, report_by}
 use Rattle.text_answers.specs.declared.Phase.{Phase}
 use Rattle.text_answers.specs.declared.Phase.TheVariants.{Opening, Editing, Ended}
 use Rattle.text_answers.specs.Stage.{Stage, opening, editing, ended}
-
--- a line of text has no exceptions
-abbrev pub no_exceptions : Exceptions
-no_exceptions = record { all = replicate 16 no_exception; count = 0 }
 
 -- the line of a plan that is carried out
 abbrev pub plan_line : Reference → List ℕ → Plan → List ℕ → List ℕ

@@ -1,20 +1,21 @@
 // An edit line.
 ghost use Rattle.std.proofs.Math.Option.{some};
 ghost use Rattle.std.specs.Prelude.{[], ◌∷◌};
+ghost use Rattle.rules.specs.Translation.{no_exceptions};
 ghost use Rattle.rules.specs.Run.{edit_answer, unlines};
 ghost use Rattle.rules.specs.Views.{bare, asked, reference_of};
 ghost use Rattle.altseq.specs.Carried.{Carries};
 ghost use Rattle.text_answers.specs.Rooms.{Ample};
 ghost use Rattle.text_answers.specs.Stage.{editing, answered};
-ghost use Rattle.text_answers.specs.Lines.{no_exceptions, KnowsText, plan_line, Line};
+ghost use Rattle.text_answers.specs.Lines.{KnowsText, plan_line, Line};
 
-use crate::{fits_line, no_exceptions};
+use crate::fits_line;
 use brief::record_of;
-use edits::decision::{Decision, decide};
+use edits::decision::decide;
 use edits::plans::Plan;
 use reference::Known;
-use rules::{Edit, Record};
-use text_forms::{EditLine, parse_edit};
+use rules::{Edit, Exceptions, Record, Refusal};
+use text_forms::parse_edit;
 use text_prints::{print_record, print_refused};
 
 // The most new bases of an edit.
@@ -38,7 +39,7 @@ fn answer_plan(
     let found = record_of(
         letters,
         known,
-        no_exceptions(),
+        Exceptions::none(),
         protein,
         plan,
         new,
@@ -63,11 +64,9 @@ fn answer_asked(
     ensures { Line result transcript.new (unlines (edit_answer (bare letters.now known.cds) (some (asked edit new.now)) ∷ [])) }
 {
     match decide(letters, known, MOST, edit, new) {
-        Decision::Refused(n) => print_refused(n, transcript),
-        Decision::Unknown => print_record(Record::Unknown, protein, &altered[..0], transcript),
-        Decision::Goes(plan) => {
-            answer_plan(letters, known, protein, plan, new, transcript, altered)
-        }
+        Err(refusal) => print_refused(refusal, transcript),
+        Ok(None) => print_record(Record::Unknown, protein, &[], transcript),
+        Ok(Some(plan)) => answer_plan(letters, known, protein, plan, new, transcript, altered),
     }
 }
 
@@ -85,18 +84,17 @@ pub fn answer_edit(
     ensures { Line result transcript.new (answered (editing (bare letters.now known.cds) line.now)) }
 {
     if !fits_line(line) {
-        return print_refused(30, transcript);
+        return print_refused(Refusal::Line, transcript);
     }
-    let parsed = parse_edit(line);
-    let EditLine::Asked { edit, at } = parsed else {
-        return print_refused(30, transcript);
+    let Some(asked) = parse_edit(line) else {
+        return print_refused(Refusal::Line, transcript);
     };
     answer_asked(
         letters,
         known,
         protein,
-        edit,
-        &line[at..],
+        asked.edit,
+        &line[asked.at..],
         transcript,
         altered,
     )

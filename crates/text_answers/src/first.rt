@@ -2,16 +2,17 @@
 ghost use Rattle.std.specs.Prelude.{◌≡◌, [], ◌∷◌, ◌++◌, length};
 ghost use Rattle.std.proofs.Math.Option.{some};
 ghost use Rattle.rules.specs.Bytes.{over};
+ghost use Rattle.rules.specs.Refusals.{refusal_number};
 ghost use Rattle.rules.specs.Run.{refused_line, answers_of, line_feed, unlines};
 ghost use Rattle.rules.specs.Views.{bare};
 ghost use Rattle.text_answers.specs.Rooms.{letters_room, protein_room, first_room};
 ghost use Rattle.text_answers.specs.Stage.{opening, accepted, behind_first, next_line, answered};
 ghost use Rattle.text_answers.specs.Lines.{Opens};
 
-use crate::{LETTERS, Phase, fits_line, no_exceptions};
-use reference::{Checked, check_reference};
-use rules::{Cds, Form};
-use text_forms::{ReferenceLine, parse_reference};
+use crate::{LETTERS, Phase, fits_line};
+use reference::check_reference;
+use rules::{Cds, Exceptions, Form, Refusal};
+use text_forms::parse_reference;
 use text_prints::{print_reference, print_refused};
 
 // What a first line is answered, `size` bytes, and where the run stands behind it.
@@ -22,15 +23,15 @@ pub struct Opened {
 }
 
 // A refused first line ends the run.
-fn refuse(n: usize, text: &mut [u8]) -> Opened
+fn refuse(refusal: Refusal, text: &mut [u8]) -> Opened
     requires { length text.old ≡ first_room }
     ensures phase_value { result.phase ≡ Phase.Ended }
-    ensures size_value { result.size ≡ length (refused_line n ++ (line_feed ∷ [])) }
-    ensures text_after { text.new ≡ over (refused_line n ++ (line_feed ∷ [])) text.old }
+    ensures size_value { result.size ≡ length (refused_line (refusal_number refusal) ++ (line_feed ∷ [])) }
+    ensures text_after { text.new ≡ over (refused_line (refusal_number refusal) ++ (line_feed ∷ [])) text.old }
 {
     Opened {
         phase: Phase::Ended,
-        size: print_refused(n, text),
+        size: print_refused(refusal, text),
     }
 }
 
@@ -46,14 +47,20 @@ fn answer_given(
     ensures { Opens (unlines (answers_of (some (bare given.now cds)) [])) (behind_first (accepted (some (bare given.now cds)))) result.phase result.size
         letters.old letters.new protein.old protein.new text.old text.new }
 {
-    match check_reference(given, Form::Bytes, cds, no_exceptions(), LETTERS, protein) {
-        Checked::Refused(n) => refuse(n, text),
-        Checked::Known(known) => {
-            let residues = known.residues;
+    match check_reference(
+        given,
+        Form::Bytes,
+        cds,
+        Exceptions::none(),
+        LETTERS,
+        protein,
+    ) {
+        Err(refusal) => refuse(refusal, text),
+        Ok(known) => {
             let size = bytewise::copy(given, letters);
             Opened {
                 phase: Phase::Editing { known, size },
-                size: print_reference(&protein[..residues], text),
+                size: print_reference(&protein[..known.residues], text),
             }
         }
     }
@@ -66,11 +73,10 @@ pub fn answer_first(line: &[u8], letters: &mut [u8], protein: &mut [u8], text: &
         letters.old letters.new protein.old protein.new text.old text.new }
 {
     if !fits_line(line) {
-        return refuse(30, text);
+        return refuse(Refusal::Line, text);
     }
-    let parsed = parse_reference(line);
-    let ReferenceLine::Given { cds, at } = parsed else {
-        return refuse(30, text);
+    let Some(given) = parse_reference(line) else {
+        return refuse(Refusal::Line, text);
     };
-    answer_given(&line[at..], cds, letters, protein, text)
+    answer_given(&line[given.at..], given.cds, letters, protein, text)
 }

@@ -7,12 +7,10 @@ mod first;
 
 ghost use Rattle.std.specs.Prelude.{◌≡◌};
 ghost use Rattle.rules.specs.Line.{fits_line};
-ghost use Rattle.text_answers.specs.Lines.{no_exceptions};
 
 pub use edit::answer_edit;
 pub use first::{Opened, answer_first};
 use reference::Known;
-use rules::{Exception, Exceptions};
 
 // The longest line; and one byte more, which tells that a line is longer.
 const LONGEST_LINE: usize = 20480;
@@ -41,18 +39,6 @@ pub enum Phase {
     Opening,
     Editing { known: Known, size: usize },
     Ended,
-}
-
-fn no_exceptions() -> Exceptions
-    ensures { result ≡ no_exceptions }
-{
-    Exceptions {
-        all: [Exception {
-            codon: 0,
-            residue: 0,
-        }; 16],
-        count: 0,
-    }
 }
 
 // Lines above 20,480 bytes are 30.

@@ -1,7 +1,8 @@
--- Laws of the parsers' answers: the place of an answer that is known by its case; and that the promise of `parse_edit`, and that of
--- `parse_reference`, admits one answer.
+-- Laws of the parsers' answers: the promise of `parse_edit`, and that of `parse_reference`, admits one answer.
 -- Assumes nothing.
-use mathlib.Core.Path.{◌≡◌, refl, sym, ap, subst, ◌∙◌}
+use Rattle.std.specs.Prelude.{None, Some}
+use Rattle.std.specs.Prelude.{Option as Returned}
+use mathlib.Core.Path.{◌≡◌, refl, sym, ap, ◌∙◌}
 use mathlib.Core.List.{List}
 use mathlib.Core.Option.{none, some}
 use Prim.Native.Nat.{ℕ, ◌≤◌}
@@ -12,14 +13,8 @@ use Rattle.rules.specs.Edit.{Asked}
 use Rattle.rules.specs.Line.{edit_line, reference_line}
 use Rattle.rules.specs.Views.{cds_of}
 use Rattle.text_forms.specs.declared.line.EditLine.{EditLine}
-use Rattle.text_forms.specs.declared.line.EditLine.TheVariants as edit-line
 use Rattle.text_forms.specs.declared.line.ReferenceLine.{ReferenceLine}
-use Rattle.text_forms.specs.declared.line.ReferenceLine.TheVariants as reference-line
 use Rattle.text_forms.specs.Views.{edit_line_in, bases_at, reference_line_in, letters_at}
-
--- `at` gives an answer's place, and x is the case that the answer turned out to be
-pub within : {A : Type 0} (at : A → ℕ) {r x : A} {n : ℕ} → r ≡ x → at r ≤ n → at x ≤ n
-within at {n = n} e h = subst (λ x. at x ≤ n) e h
 
 -- a place within the line is told by what stands behind it
 place_once : (line : List ℕ) (a b : ℕ) → a ≤ length line → b ≤ length line → drop a line ≡ drop b line → a ≡ b
@@ -33,25 +28,25 @@ never x e = let z : ◌≡◌ {A = ℕ} 0 1 = cc in omega arith
 held : {A : Type 0} (x y : A) → some x ≡ some y → x ≡ y
 held x y e = cc
 
-asked_once : (line : List ℕ) (r t : EditLine) → edit_line_in line r ≡ edit_line_in line t → bases_at r ≤ length line → bases_at t ≤ length line → r ≡ t
-asked_once line edit-line.Not edit-line.Not e h k = refl
-asked_once line edit-line.Not (edit-line.Asked d b) e h k = absurd (never _ e)
-asked_once line (edit-line.Asked c a) edit-line.Not e h k = absurd (never _ (sym e))
-asked_once line (edit-line.Asked c a) (edit-line.Asked d b) e h k =
-    let x = held _ _ e in
-    rw (ap (λ (q : Asked). q.edit) x, place_once line a b h k (ap (λ (q : Asked). q.new) x))
+asked_once : (line : List ℕ) (r t : Returned EditLine) → edit_line_in line r ≡ edit_line_in line t → bases_at r ≤ length line → bases_at t ≤ length line → r ≡ t
+asked_once line None None e h k = refl
+asked_once line None (Some y) e h k = absurd (never _ e)
+asked_once line (Some x) None e h k = absurd (never _ (sym e))
+asked_once line (Some x) (Some y) e h k =
+    let z = held _ _ e in
+    rw (ap (λ (q : Asked). q.edit) z, place_once line x.at y.at h k (ap (λ (q : Asked). q.new) z))
 
 -- two answers that meet the promise are equal
-pub edit_once : (line : List ℕ) (r t : EditLine) → edit_line_in line r ≡ edit_line line → bases_at r ≤ length line → edit_line_in line t ≡ edit_line line → bases_at t ≤ length line → r ≡ t
+pub edit_once : (line : List ℕ) (r t : Returned EditLine) → edit_line_in line r ≡ edit_line line → bases_at r ≤ length line → edit_line_in line t ≡ edit_line line → bases_at t ≤ length line → r ≡ t
 edit_once line r t e h f k = asked_once line r t (e ∙ sym f) h k
 
-given_once : (line : List ℕ) (r t : ReferenceLine) → reference_line_in line r ≡ reference_line_in line t → letters_at r ≤ length line → letters_at t ≤ length line → r ≡ t
-given_once line reference-line.Not reference-line.Not e h k = refl
-given_once line reference-line.Not (reference-line.Given cds at) e h k = absurd (never _ e)
-given_once line (reference-line.Given cds at) reference-line.Not e h k = absurd (never _ (sym e))
-given_once line (reference-line.Given cds at) (reference-line.Given cds₂ at₂) e h k =
-    let x = held _ _ e in
-    rw (ap (λ (q : Reference). cds_of q.cs q.ce q.table q.end) x, place_once line at at₂ h k (ap (λ (q : Reference). q.letters) x))
+given_once : (line : List ℕ) (r t : Returned ReferenceLine) → reference_line_in line r ≡ reference_line_in line t → letters_at r ≤ length line → letters_at t ≤ length line → r ≡ t
+given_once line None None e h k = refl
+given_once line None (Some y) e h k = absurd (never _ e)
+given_once line (Some x) None e h k = absurd (never _ (sym e))
+given_once line (Some x) (Some y) e h k =
+    let z = held _ _ e in
+    rw (ap (λ (q : Reference). cds_of q.cs q.ce q.table q.end) z, place_once line x.at y.at h k (ap (λ (q : Reference). q.letters) z))
 
-pub reference_once : (line : List ℕ) (r t : ReferenceLine) → reference_line_in line r ≡ reference_line line → letters_at r ≤ length line → reference_line_in line t ≡ reference_line line → letters_at t ≤ length line → r ≡ t
+pub reference_once : (line : List ℕ) (r t : Returned ReferenceLine) → reference_line_in line r ≡ reference_line line → letters_at r ≤ length line → reference_line_in line t ≡ reference_line line → letters_at t ≤ length line → r ≡ t
 reference_once line r t e h f k = given_once line r t (e ∙ sym f) h k

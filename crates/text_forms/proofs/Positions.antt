@@ -1,6 +1,7 @@
 -- `position` and `range` at a place of a line, from what the parsers below answer there.
 -- Assumes nothing.
-use Rattle.std.specs.Prelude.{if◌then◌else◌}
+use Rattle.std.specs.Prelude.{if◌then◌else◌, None, Some}
+use Rattle.std.specs.Prelude.{Option as Returned}
 use mathlib.Core.Path.{◌≡◌, sym, ap, ◌∙◌}
 use mathlib.Core.Bool.{Bool, true, false}
 use mathlib.Core.List.{List, ◌∷◌}
@@ -17,21 +18,10 @@ use Rattle.rules.specs.declared.Position.TheVariants.{Plus, Minus, Star}
 use Rattle.rules.specs.Number.{number}
 use Rattle.rules.specs.Line.{placed, position, joined, range}
 use Rattle.text_numbers.specs.declared.NumberAt.{NumberAt}
-use Rattle.text_numbers.specs.declared.NumberAt.TheVariants as number_at
 use Rattle.text_numbers.specs.Views.{number_in}
 use Rattle.text_forms.specs.declared.position.PositionAt.{PositionAt}
-use Rattle.text_forms.specs.declared.position.PositionAt.TheVariants.{Not, Found}
-use Rattle.text_forms.specs.declared.position.RangeAt.TheVariants as range_at
+use Rattle.text_forms.specs.declared.position.RangeAt.{RangeAt}
 use Rattle.text_forms.specs.Views.{signs, signed, placed_in, range_in}
-
-signs_by : (t u : Bool) → (if t then 1 else if u then 1 else 0) ≤ 1
-signs_by true u = omega arith
-signs_by false true = omega arith
-signs_by false false = omega arith
-
--- a sign is one byte
-pub sign_within : (b k : ℕ) → k ≡ signs b → k ≤ 1
-sign_within b k e = rw e (signs_by (eqb b 45) (eqb b 42))
 
 module _ (line : List ℕ) (at : ℕ) where
   pub position_past : length line ≤ at → none ≡ position (drop at line)
@@ -56,42 +46,45 @@ module _ (line : List ℕ) (at : ℕ) where
     unfolding position
     behind = rw (drop-cons line at 0 h) (by_sign (eqb first 45) (eqb first 42))
 
-    module _ (k : ℕ) (s : k ≡ signs first) (r : NumberAt) (q : number_in line r ≡ number (drop (at + k) line)) where
-      pub position-not : r ≡ number_at.Not → none ≡ position (drop at line)
+    module _ (k : ℕ) (s : k ≡ signs first) (r : Returned NumberAt) (q : number_in line r ≡ number (drop (at + k) line)) where
+      pub position-not : r ≡ None → none ≡ position (drop at line)
       position-not e = rw (behind, ← s, ← q, e)
 
-      pub position-is : (v next : ℕ) → r ≡ number_at.Found v next → (p : Position) → p ≡ signed first v → placed_in line (Found p next) ≡ position (drop at line)
-      position-is v next e p g = rw (behind, ← s, ← q, e, g)
+      pub position-is : (n : NumberAt) → r ≡ Some n → (p : Position) → p ≡ signed first n.value → placed_in line (Some (record { position = p; next = n.next })) ≡ position (drop at line)
+      position-is n e p g = rw (behind, ← s, ← q, e, g)
 
-module _ (line : List ℕ) (r : PositionAt) (q : placed_in line r ≡ position (drop 0 line)) where
-  pub range-not : r ≡ Not → none ≡ range line
+module _ (line : List ℕ) (r : Returned PositionAt) (q : placed_in line r ≡ position (drop 0 line)) where
+  pub range-not : r ≡ None → none ≡ range line
   unfolding range
   range-not e = rw (← q, e)
 
-  module _ (p : Position) (n : ℕ) (e : r ≡ Found p n) where
-    begun : range line ≡ joined p (drop n line)
+  module _ (p : PositionAt) (e : r ≡ Some p) where
+    abbrev one : RangeAt
+    one = record { start = p.position; end = p.position; next = p.next }
+
+    begun : range line ≡ joined p.position (drop p.next line)
     unfolding range
     begun = rw (← q, e)
 
     -- nothing behind it
-    pub range-end : length line ≤ n → range_in line (range_at.Found p p n) ≡ range line
+    pub range-end : length line ≤ p.next → range_in line (Some one) ≡ range line
     unfolding joined
-    range-end h = rw (begun, drop_of_length-le line {i = n} h)
+    range-end h = rw (begun, drop_of_length-le line {i = p.next} h)
 
     -- no `_` behind it
-    pub range-one : n < length line → (get_or line n 0 ≡ 95 → ⊥) → range_in line (range_at.Found p p n) ≡ range line
+    pub range-one : p.next < length line → (get_or line p.next 0 ≡ 95 → ⊥) → range_in line (Some one) ≡ range line
     unfolding joined
-    range-one h k = rw (begun, drop-cons line n 0 h) (simp (ne_eqb _ _ k))
+    range-one h k = rw (begun, drop-cons line p.next 0 h) (simp (ne_eqb _ _ k))
 
     -- a second position behind a `_`
-    module _ (h : n < length line) (k : get_or line n 0 ≡ 95) (r₂ : PositionAt) (q₂ : placed_in line r₂ ≡ position (drop (n + 1) line)) where
-      second : position (drop (suc n) line) ≡ placed_in line r₂
+    module _ (h : p.next < length line) (k : get_or line p.next 0 ≡ 95) (r₂ : Returned PositionAt) (q₂ : placed_in line r₂ ≡ position (drop (p.next + 1) line)) where
+      second : position (drop (suc p.next) line) ≡ placed_in line r₂
       second = sym (q₂ ∙ rw add-one)
 
-      pub range-half : r₂ ≡ Not → none ≡ range line
+      pub range-half : r₂ ≡ None → none ≡ range line
       unfolding joined
-      range-half e₂ = rw (begun, drop-cons line n 0 h) (simp (eq-eqb _ _ k) (rw (second, e₂)))
+      range-half e₂ = rw (begun, drop-cons line p.next 0 h) (simp (eq-eqb _ _ k) (rw (second, e₂)))
 
-      pub range-two : (p₂ : Position) (m : ℕ) → r₂ ≡ Found p₂ m → range_in line (range_at.Found p p₂ m) ≡ range line
+      pub range-two : (p₂ : PositionAt) → r₂ ≡ Some p₂ → range_in line (Some (record { start = p.position; end = p₂.position; next = p₂.next })) ≡ range line
       unfolding joined
-      range-two p₂ m e₂ = rw (begun, drop-cons line n 0 h) (simp (eq-eqb _ _ k) (rw (second, e₂)))
+      range-two p₂ e₂ = rw (begun, drop-cons line p.next 0 h) (simp (eq-eqb _ _ k) (rw (second, e₂)))

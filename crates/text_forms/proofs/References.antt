@@ -1,5 +1,7 @@
 -- `spaced` and `reference_line` from what the parsers below answer.
 -- Assumes nothing.
+use Rattle.std.specs.Prelude.{None, Some}
+use Rattle.std.specs.Prelude.{Option as Returned}
 use mathlib.Core.Path.{◌≡◌, sym, ap, ◌∙◌}
 use mathlib.Core.Bool.{Bool, true, false}
 use mathlib.Core.List.{List}
@@ -16,28 +18,26 @@ use Rattle.rules.specs.Views.{cds_of}
 use Rattle.rules.specs.Line.{are_capitals, starts_with, behind_space, spaced, behind_ref, reference_line}
 use Rattle.rules.proofs.Over.{tail-is}
 use Rattle.text_numbers.specs.declared.NumberAt.{NumberAt}
-use Rattle.text_numbers.specs.declared.NumberAt.TheVariants.{Not, Found}
 use Rattle.text_numbers.specs.Views.{number_in}
-use Rattle.text_forms.specs.declared.line.ReferenceLine.TheVariants.{Given}
 use Rattle.text_forms.specs.Views.{reference_line_in}
 
-module _ (line : List ℕ) (at : ℕ) (r : NumberAt) (q : number_in line r ≡ number (drop at line)) where
-  pub spaced-not : r ≡ Not → none ≡ spaced (drop at line)
+module _ (line : List ℕ) (at : ℕ) (r : Returned NumberAt) (q : number_in line r ≡ number (drop at line)) where
+  pub spaced-not : r ≡ None → none ≡ spaced (drop at line)
   unfolding spaced
   spaced-not e = rw (← q, e)
 
-  module _ (v n : ℕ) (e : r ≡ Found v n) where
-    pub spaced-end : length line ≤ n → none ≡ spaced (drop at line)
+  module _ (n : NumberAt) (e : r ≡ Some n) where
+    pub spaced-end : length line ≤ n.next → none ≡ spaced (drop at line)
     unfolding spaced behind_space
-    spaced-end h = rw (← q, e, drop_of_length-le line {i = n} h)
+    spaced-end h = rw (← q, e, drop_of_length-le line {i = n.next} h)
 
-    pub spaced-other : n < length line → (get_or line n 0 ≡ 32 → ⊥) → none ≡ spaced (drop at line)
+    pub spaced-other : n.next < length line → (get_or line n.next 0 ≡ 32 → ⊥) → none ≡ spaced (drop at line)
     unfolding spaced behind_space
-    spaced-other h k = rw (← q, e, drop-cons line n 0 h) (simp (ne_eqb _ _ k))
+    spaced-other h k = rw (← q, e, drop-cons line n.next 0 h) (simp (ne_eqb _ _ k))
 
-    pub spaced-is : n < length line → get_or line n 0 ≡ 32 → number_in line (Found v (n + 1)) ≡ spaced (drop at line)
+    pub spaced-is : n.next < length line → get_or line n.next 0 ≡ 32 → number_in line (Some (record { value = n.value; next = n.next + 1 })) ≡ spaced (drop at line)
     unfolding spaced behind_space
-    spaced-is h k = rw (← q, e, add-one, drop-cons line n 0 h) (simp (eq-eqb _ _ k))
+    spaced-is h k = rw (← q, e, add-one, drop-cons line n.next 0 h) (simp (eq-eqb _ _ k))
 
 -- `ref CS CE TABLE LETTERS`, part by part
 module _ (line : List ℕ) (u : Bool) (q : u ≡ starts_with (bytes "ref ") line) where
@@ -45,29 +45,29 @@ module _ (line : List ℕ) (u : Bool) (q : u ≡ starts_with (bytes "ref ") line
   unfolding reference_line behind_ref
   reference-not e = rw (← q, e)
 
-  module _ (e : u ≡ true) (r₁ : NumberAt) (q₁ : number_in line r₁ ≡ spaced (drop 4 line)) where
-    pub reference-no-cs : r₁ ≡ Not → none ≡ reference_line line
+  module _ (e : u ≡ true) (r₁ : Returned NumberAt) (q₁ : number_in line r₁ ≡ spaced (drop 4 line)) where
+    pub reference-no-cs : r₁ ≡ None → none ≡ reference_line line
     unfolding reference_line behind_ref
     reference-no-cs e₁ = rw (← q, e, ← q₁, e₁)
 
-    module _ (cs n₁ : ℕ) (e₁ : r₁ ≡ Found cs n₁) (r₂ : NumberAt) (q₂ : number_in line r₂ ≡ spaced (drop n₁ line)) where
-      pub reference-no-ce : r₂ ≡ Not → none ≡ reference_line line
+    module _ (cs : NumberAt) (e₁ : r₁ ≡ Some cs) (r₂ : Returned NumberAt) (q₂ : number_in line r₂ ≡ spaced (drop cs.next line)) where
+      pub reference-no-ce : r₂ ≡ None → none ≡ reference_line line
       unfolding reference_line behind_ref
       reference-no-ce e₂ = rw (← q, e, ← q₁, e₁, ← q₂, e₂)
 
-      module _ (ce n₂ : ℕ) (e₂ : r₂ ≡ Found ce n₂) (r₃ : NumberAt) (q₃ : number_in line r₃ ≡ spaced (drop n₂ line)) where
-        pub reference-no-table : r₃ ≡ Not → none ≡ reference_line line
+      module _ (ce : NumberAt) (e₂ : r₂ ≡ Some ce) (r₃ : Returned NumberAt) (q₃ : number_in line r₃ ≡ spaced (drop ce.next line)) where
+        pub reference-no-table : r₃ ≡ None → none ≡ reference_line line
         unfolding reference_line behind_ref
         reference-no-table e₃ = rw (← q, e, ← q₁, e₁, ← q₂, e₂, ← q₃, e₃)
 
-        module _ (table at : ℕ) (e₃ : r₃ ≡ Found table at) (v : Bool) (z : v ≡ are_capitals (take (length line - at) (drop at line))) where
-          capitals : are_capitals (drop at line) ≡ v
-          capitals = sym (z ∙ ap are_capitals (tail-is at line))
+        module _ (t : NumberAt) (e₃ : r₃ ≡ Some t) (v : Bool) (z : v ≡ are_capitals (take (length line - t.next) (drop t.next line))) where
+          capitals : are_capitals (drop t.next line) ≡ v
+          capitals = sym (z ∙ ap are_capitals (tail-is t.next line))
 
           pub reference-no-letters : v ≡ false → none ≡ reference_line line
           unfolding reference_line behind_ref
           reference-no-letters e₄ = rw (← q, e, ← q₁, e₁, ← q₂, e₂, ← q₃, e₃, capitals, e₄)
 
-          pub reference-is : v ≡ true → reference_line_in line (Given (cds_of cs ce table at_stop) at) ≡ reference_line line
+          pub reference-is : v ≡ true → reference_line_in line (Some (record { cds = cds_of cs.value ce.value t.value at_stop; at = t.next })) ≡ reference_line line
           unfolding reference_line behind_ref
           reference-is e₄ = rw (← q, e, ← q₁, e₁, ← q₂, e₂, ← q₃, e₃, capitals, e₄)

@@ -4,108 +4,79 @@ ghost use Rattle.rules.specs.Line.{edit_line, spaced, reference_line};
 ghost use Rattle.text_numbers.specs.Views.{number_in, number_next};
 ghost use Rattle.text_forms.specs.Views.{edit_line_in, bases_at, reference_line_in, letters_at};
 
-use crate::position::{RangeAt, parse_range};
+use crate::position::parse_range;
 use rules::{Cds, Edit};
 use text_numbers::{NumberAt, parse_number};
-use text_verbs::{VerbAt, are_capitals, parse_verb, starts_with};
+use text_verbs::{are_capitals, parse_verb, starts_with};
 
 // The new bases are the line from `at` on; `at` is the line's length where there are none.
 #[derive(Clone, Copy)]
-pub enum EditLine {
-    Not,
-    Asked { edit: Edit, at: usize },
+pub struct EditLine {
+    pub edit: Edit,
+    pub at: usize,
 }
 
 // The letters are the line from `at` on.
 #[derive(Clone, Copy)]
-pub enum ReferenceLine {
-    Not,
-    Given { cds: Cds, at: usize },
+pub struct ReferenceLine {
+    pub cds: Cds,
+    pub at: usize,
 }
 
 // An edit line: its positions, its kind, and where its new bases begin.
-pub fn parse_edit(line: &[u8]) -> EditLine
+pub fn parse_edit(line: &[u8]) -> Option<EditLine>
     ensures result_value { edit_line_in line.now result ≡ edit_line line.now }
     ensures within { bases_at result ≤ length line.now }
 {
-    let g = parse_range(line);
-    let RangeAt::Found { start, end, next } = g else {
-        return EditLine::Not;
-    };
-    let v = parse_verb(line, next);
-    let VerbAt::Found { kind, at } = v else {
-        return EditLine::Not;
-    };
-    EditLine::Asked {
-        edit: Edit { kind, start, end },
-        at,
-    }
+    let range = parse_range(line)?;
+    let verb = parse_verb(line, range.next)?;
+    Some(EditLine {
+        edit: Edit {
+            kind: verb.kind,
+            start: range.start,
+            end: range.end,
+        },
+        at: verb.at,
+    })
 }
 
 // The number at a place of a line, with one space behind it.
-fn parse_spaced(line: &[u8], at: usize) -> NumberAt
+fn parse_spaced(line: &[u8], at: usize) -> Option<NumberAt>
     requires { at ≤ length line.now }
     ensures result_value { number_in line.now result ≡ spaced (drop at line.now) }
     ensures within { number_next result ≤ length line.now }
 {
-    let n = parse_number(line, at);
-    let NumberAt::Found { value, next } = n else {
-        return NumberAt::Not;
-    };
-    if line.len() <= next {
-        return NumberAt::Not;
+    let NumberAt { value, next } = parse_number(line, at)?;
+    if line.len() <= next || line[next] != b' ' {
+        return None;
     }
-    if line[next] != b' ' {
-        return NumberAt::Not;
-    }
-    NumberAt::Found {
+    Some(NumberAt {
         value,
         next: next + 1,
-    }
+    })
 }
 
 // `ref CS CE TABLE LETTERS`: the numbers, and where the letters begin.
-pub fn parse_reference(line: &[u8]) -> ReferenceLine
+pub fn parse_reference(line: &[u8]) -> Option<ReferenceLine>
     ensures result_value { reference_line_in line.now result ≡ reference_line line.now }
     ensures within { letters_at result ≤ length line.now }
 {
     if !starts_with(b"ref ", line) {
-        return ReferenceLine::Not;
+        return None;
     }
-    let a = parse_spaced(line, 4);
-    let NumberAt::Found {
-        value: cs,
-        next: behind_cs,
-    } = a
-    else {
-        return ReferenceLine::Not;
-    };
-    let b = parse_spaced(line, behind_cs);
-    let NumberAt::Found {
-        value: ce,
-        next: behind_ce,
-    } = b
-    else {
-        return ReferenceLine::Not;
-    };
-    let c = parse_spaced(line, behind_ce);
-    let NumberAt::Found {
-        value: table,
-        next: at,
-    } = c
-    else {
-        return ReferenceLine::Not;
-    };
-    if !are_capitals(&line[at..]) {
-        return ReferenceLine::Not;
+    let cs = parse_spaced(line, 4)?;
+    let ce = parse_spaced(line, cs.next)?;
+    let table = parse_spaced(line, ce.next)?;
+    if !are_capitals(&line[table.next..]) {
+        return None;
     }
-    ReferenceLine::Given {
+    Some(ReferenceLine {
         cds: Cds {
-            cs,
-            ce,
-            table,
+            cs: cs.value,
+            ce: ce.value,
+            table: table.value,
             end: 0,
         },
-        at,
-    }
+        at: table.next,
+    })
 }

@@ -1,15 +1,13 @@
 -- Laws of a line gathered in a buffer.
 -- Assumes nothing.
-use mathlib.Core.Path.{◌≡◌, refl, sym, ap, ◌∙◌}
-use mathlib.Core.Bool.{Bool, true, false}
+use mathlib.Core.Path.{◌≡◌, sym, ap, ◌∙◌}
 use mathlib.Core.List.{List, ◌++◌, append_assoc}
 use Prim.Native.Nat.{ℕ, ◌+◌, ◌-◌, ◌≤◌, min}
 use native.Mathlib.Omega.{arith}
-use lib.Dec.{leb}
 use lib.ListN.{length, take, drop}
-use lib.Seq.{length-take-le, take_all, take-length, take_at, take-append-add}
+use lib.Seq.{length-take-le, take-length, take_at, take-append-add}
 use borrow.Rule.Slice.PartMut.{put_mid}
-use borrow.Author.Tests.{leb-true, leb-false}
+use Rattle.std.proofs.lemmas.List.{take_min}
 use Rattle.bytewise.specs.Find.{slice, index_of}
 use Rattle.rules.specs.Run.{line_feed}
 use Rattle.text_answers.specs.Rooms.{line_room}
@@ -17,14 +15,8 @@ use Rattle.text_gather.specs.Steps.{kept, Gathers}
 use Rattle.text_gather.proofs.Feeds.{found}
 
 -- the first m of a list, or all where it has fewer
-take_min : (m n : ℕ) (s : List ℕ) → n ≡ min (length s) m → take n s ≡ take m s
-take_min m n s e = by (leb (length s) m) refl
-  where
-    by : (t : Bool) → leb (length s) m ≡ t → take n s ≡ take m s
-    by true h =
-        let few : n ≡ length s = omega (arith, leb-true (length s) m h) in
-        rw few (take-length s ∙ sym (take_all m s (leb-true (length s) m h)))
-    by false h = let many : n ≡ m = omega (arith, leb-false (length s) m h) in ap (λ (n : ℕ). take n s) many
+take_least : (m n : ℕ) (s : List ℕ) → n ≡ min (length s) m → take n s ≡ take m s
+take_least m n s e = let few : n ≡ min m (length s) = omega arith in rw few (take_min m s)
 
 -- the first n bytes of a part, copied behind the `held` bytes of the line so far
 module _ (line part : List ℕ) (held n : ℕ) (h : held ≤ length line) (e : n ≡ min (length part) (length line - held)) where
@@ -44,7 +36,7 @@ module _ (line part : List ℕ) (held n : ℕ) (h : held ≤ length line) (e : n
       let place : held + r ≡ length (take held line) + r = omega (arith, front) in
       let rest : d ≡ take n part ++ drop (length (take n part)) (take (length line - held) (drop held line)) = q ∙ rw (take-length (take n part)) in (
         rw (place, take-append-add (take held line) (d ++ drop (length line - held) (drop held line)) r, rest)
-            (ap (λ (t : List ℕ). take held line ++ t) (front_of r k _ _ ∙ take_min (length line - held) n part e)
+            (ap (λ (t : List ℕ). take held line ++ t) (front_of r k _ _ ∙ take_least (length line - held) n part e)
             ∙ sym (ap (λ (m : ℕ). take m (take held line ++ part)) all ∙ take-append-add (take held line) part (length line - held))),
         omega (arith, few),
       )

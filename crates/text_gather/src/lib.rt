@@ -3,12 +3,12 @@
 
 ghost use Rattle.std.specs.Prelude.{◌≡◌, ◌++◌, ◌≤◌, length, take};
 ghost use Rattle.rules.specs.Bytes.{over};
+ghost use Rattle.rules.specs.Refusals.{told};
 ghost use Rattle.rules.specs.Answer.{written_of, bytes_of};
 ghost use Rattle.text_answers.specs.Rooms.{line_room};
 ghost use Rattle.text_gather.specs.Steps.{within, Gathers};
 
-use numbers::least;
-use rules::Written;
+use rules::Refusal;
 
 // How many bytes of the line are held, and how many of the input were taken.
 #[derive(Clone, Copy)]
@@ -23,7 +23,7 @@ fn hold(line: &mut [u8], held: usize, part: &[u8]) -> usize
     ensures line_after { take result line.new ≡ take (length line.old) (take held line.old ++ part.now) }
     ensures upper_bound { result ≤ length line.old }
 {
-    let n = least(part.len(), line.len() - held);
+    let n = part.len().min(line.len() - held);
     held + bytewise::copy(&part[..n], &mut line[held..])
 }
 
@@ -41,12 +41,12 @@ pub fn gather(line: &mut [u8], held: usize, input: &[u8]) -> Gathered
 }
 
 // Puts bytes out, or answers 15 where there is no room for them.
-pub fn put(s: &[u8], out: &mut [u8]) -> Written
-    ensures value { result ≡ written_of (within s.now (length out.old)) }
+pub fn put(s: &[u8], out: &mut [u8]) -> Result<usize, Refusal>
+    ensures value { told result ≡ written_of (within s.now (length out.old)) }
     ensures out_after { out.new ≡ over (bytes_of (within s.now (length out.old))) out.old }
 {
     if out.len() < s.len() {
-        return Written::Refused(15);
+        return Err(Refusal::Output);
     }
-    Written::Bytes(bytewise::copy(s, out))
+    Ok(bytewise::copy(s, out))
 }

@@ -1,6 +1,6 @@
 -- Laws of a step's beginning, up to the end of the first line, and of how it goes on from there.
 -- Assumes nothing.
-use Rattle.std.specs.Prelude.{if◌then◌else◌}
+use Rattle.std.specs.Prelude.{if◌then◌else◌, None, Some}
 use mathlib.Core.Path.{◌≡◌, refl, sym, ap, subst, ◌∙◌}
 use mathlib.Core.List.{List, [], ◌∷◌, ◌++◌, append-nil}
 use mathlib.Core.Option.{Option, none, some}
@@ -12,9 +12,7 @@ use borrow.Rule.Slice.PartMut.{put_mid}
 use borrow.Author.Tests.{lt-ltb, le-ltb}
 use Rattle.bytewise.specs.Find.{index_after, index_of}
 use Rattle.rules.specs.Opened.{opened}
-use Rattle.rules.specs.declared.Written.{Written}
-use Rattle.rules.specs.declared.Written.TheVariants.{Refused, Bytes}
-use Rattle.rules.specs.Bytes.{bytes, over}
+use Rattle.rules.specs.Bytes.{bytes, given, refused, over}
 use Rattle.rules.specs.Answer.{written_of, bytes_of}
 use Rattle.rules.specs.Reference.{Reference, reference_protein}
 use Rattle.rules.specs.Refusal.{reference_refusal}
@@ -25,6 +23,7 @@ use Rattle.rules.proofs.Over.{fits_over, read_back}
 use Rattle.reference.specs.declared.Known.{Known}
 use Rattle.text_answers.specs.declared.Phase.{Phase}
 use Rattle.text_answers.specs.declared.Phase.TheVariants.{Opening, Editing, Ended}
+use Rattle.text_answers.specs.declared.first.Opened.{Opened}
 use Rattle.text_answers.specs.Rooms.{line_room}
 use Rattle.text_answers.specs.Stage.{Stage, opening, editing, ended, accepted, behind_first, next_line, answered}
 use Rattle.text_answers.specs.Lines.{stage_by, KnownIn, Opens}
@@ -67,41 +66,28 @@ unfolding answered answers
 answered_some l = answers_some (if fits_line l then reference_line l else none)
 
 -- the first line's answer, put out
-module _ (l : List ℕ) (p : Phase) (size : ℕ) (letters letters' protein protein' text text' : List ℕ)
-    (h : Opens (answered (opening l)) (next_line (opening l)) p size letters letters' protein protein' text text') where
-  pub first_fits : size ≤ length text'
-  first_fits = fits_over (answered (opening l)) text text' size h.counts h.prints
+module _ (l : List ℕ) (o : Opened) (letters letters' protein protein' text text' : List ℕ)
+    (h : Opens (answered (opening l)) (next_line (opening l)) o.phase o.size letters letters' protein protein' text text') where
+  pub first_fits : o.size ≤ length text'
+  first_fits = fits_over (answered (opening l)) text text' o.size h.counts h.prints
 
-  first_read : take size text' ≡ answered (opening l)
-  first_read = read_back (answered (opening l)) text text' size h.counts h.prints
+  first_read : take o.size text' ≡ answered (opening l)
+  first_read = read_back (answered (opening l)) text text' o.size h.counts h.prints
 
-  module _ (w : Written) (out out' : List ℕ) (says : w ≡ written_of (within (take size text') (length out))) (holds : out' ≡ over (bytes_of (within (take size text') (length out))) out) where
-    pub put_first : (n : ℕ) → w ≡ Bytes n → Put (opening l) p n letters' protein' out out'
+  module _ (out out' : List ℕ) (holds : out' ≡ over (bytes_of (within (take o.size text') (length out))) out) where
+    pub put_first : (n : ℕ) → given n ≡ written_of (within (take o.size text') (length out)) → Put (opening l) (Some o) letters' protein' out out'
     put_first n is =
-        let all = put-bytes (take size text') (length out) w n says is in
-        record {
-          full = λ z. absurd (omega (arith, all.0, ap length first_read, answered_some l));
-          counts = λ z. all.0 ∙ ap length first_read;
-          prints = λ z. holds ∙ ap (λ (s : List ℕ). over s out) (all.2 ∙ first_read);
-          reaches = λ z. h.reaches;
-          known = λ z. h.known;
-        }
+        let all = put-bytes (take o.size text') (length out) n is in
+        record { counts = h.counts; prints = holds ∙ ap (λ (s : List ℕ). over s out) (all.2 ∙ first_read); reaches = h.reaches; known = h.known }
 
-    pub put-nothing : (n : ℕ) → w ≡ Refused n → Put (opening l) p 0 letters' protein' out out'
+    pub put-nothing : (n : ℕ) → refused n ≡ written_of (within (take o.size text') (length out)) → Put (opening l) None letters' protein' out out'
     put-nothing n is =
-        let no = put-none (take size text') (length out) w n says is in
-        record {
-          full = λ z. (omega (arith, no.0, ap length first_read), holds ∙ over_none (bytes_of (within (take size text') (length out))) out no.1);
-          counts = λ z. absurd (z refl);
-          prints = λ z. absurd (z refl);
-          reaches = λ z. absurd (z refl);
-          known = λ z. absurd (z refl);
-        }
+        let no = put-none (take o.size text') (length out) n is in
+        (omega (arith, no.0, ap length first_read), holds ∙ over_none (bytes_of (within (take o.size text') (length out))) out no.1)
 
--- a first line's letters and R
-pub fills_first : (l : List ℕ) (p : Phase) (size : ℕ) (letters letters' protein protein' text text' : List ℕ) → Opens (answered (opening l)) (next_line (opening l)) p size letters letters' protein protein' text text'
-    → Fills (next_line (opening l)) letters letters' protein protein'
-fills_first l p size letters letters' protein protein' text text' h = record { with-letters = h.keeps-letters; with-protein = h.keeps-protein }
+  -- its letters and R
+  pub fills_first : Fills (next_line (opening l)) letters letters' protein protein'
+  fills_first = record { with-letters = h.keeps-letters; with-protein = h.keeps-protein }
 
 fills_ended : (x : Stage) (letters protein : List ℕ) → x ≡ ended → Fills x letters letters protein protein
 unfolding over
@@ -165,37 +151,36 @@ module _ (n : ℕ) (l line' input : List ℕ) (t : ℕ) (g : Gathers l (take n l
       rw there h
 
   -- the line ends there
-  module _ (more : t ≡ length input → ⊥) (p : Phase) (size : ℕ) (letters' protein' out out' : List ℕ) (q : Put (opening (take n line')) p size letters' protein' out out') where
-    pub begun-full : length line' ≡ line_room → size ≡ 0 → Begins (opening l) (record { phase = Opening; held = n }) line' letters' input t 0 out out'
-    begun-full room z =
-        let no = q.full z in
-        rw no.1
+  module _ (more : t ≡ length input → ⊥) (letters' protein' out out' : List ℕ) where
+    pub begun-full : Put (opening (take n line')) None letters' protein' out out' → length line' ≡ line_room → Begins (opening l) (record { phase = Opening; held = n }) line' letters' input t 0 out out'
+    begun-full full room =
+        rw full.1
         (record {
           room = room;
           moves = begun-moves out;
-          stays = λ e. full-feed (opening l) g.short input t g.ends g.inside (opening (take n line')) held-opening more out no.0;
+          stays = λ e. full-feed (opening l) g.short input t g.ends g.inside (opening (take n line')) held-opening more out full.0;
         })
 
-    module _ (not : size ≡ 0 → ⊥) (m : ℕ) (behind : m ≡ held_behind p n) where
-      there : stage_by p (take m line') letters' ≡ next_line (opening (take n line'))
-      there = rw behind (stage_behind p n line' letters' ∙ q.reaches not)
+    module _ (o : Opened) (q : Put (opening (take n line')) (Some o) letters' protein' out out') (m : ℕ) (behind : m ≡ held_behind o.phase n) where
+      there : stage_by o.phase (take m line') letters' ≡ next_line (opening (take n line'))
+      there = rw behind (stage_behind o.phase n line' letters' ∙ q.reaches)
 
-      pub opened-begins : length line' ≡ line_room → size ≤ length out → Begins (opening l) (record { phase = p; held = m }) line' letters' input (t + 1) size out out'
-      opened-begins has room =
+      -- what is put out has room, since a buffer keeps its length
+      pub put_fits : length out' ≡ length out → o.size ≤ length out
+      put_fits same = omega (arith, fits_over (answered (opening (take n line'))) out out' o.size q.counts q.prints)
+
+      pub opened-begins : length line' ≡ line_room → length out' ≡ length out → Begins (opening l) (record { phase = o.phase; held = m }) line' letters' input (t + 1) o.size out out'
+      opened-begins has same =
           record {
             room = has;
             moves =
                 moves-feed (opening l) g.short input t g.ends g.inside (opening (take n line')) held-opening more
-                (stage_by p (take m line') letters') size out out' there (q.counts not) room (q.prints not);
-            stays = λ e. absurd (not_again (take n line') [] (sym (q.reaches not) ∙ ap (λ (p : Phase). stage_by p [] letters') e));
+                (stage_by o.phase (take m line') letters') o.size out out' there q.counts (put_fits same) q.prints;
+            stays = λ e. absurd (not_again (take n line') [] (sym q.reaches ∙ ap (λ (p : Phase). stage_by p [] letters') e));
           }
 
-      pub opened-keeps : n ≤ line_room → Keeps (record { phase = p; held = m }) letters' protein'
-      opened-keeps few = record { short = omega (arith, held_less p n); known = q.known not }
-
--- what is put out has room, since a buffer keeps its length
-pub put_fits : (l : List ℕ) (p : Phase) (size : ℕ) (letters protein out out' : List ℕ) → Put (opening l) p size letters protein out out' → length out' ≡ length out → (size ≡ 0 → ⊥) → size ≤ length out
-put_fits l p size letters protein out out' q same not = omega (arith, fits_over (answered (opening l)) out out' size (q.counts not) (q.prints not))
+      pub opened-keeps : n ≤ line_room → Keeps (record { phase = o.phase; held = m }) letters' protein'
+      opened-keeps few = record { short = omega (arith, held_less o.phase n); known = q.known }
 
 -- by the phase that a step finds
 module _ (s : State) (line letters input out : List ℕ) where

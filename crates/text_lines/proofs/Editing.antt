@@ -7,9 +7,7 @@ use Prim.Native.Nat.{ℕ, ◌+◌, ◌-◌, ◌^◌, ◌≤◌, ◌<◌}
 use native.Mathlib.Omega.{arith}
 use lib.ListN.{length, take, drop}
 use borrow.Rule.Slice.PartMut.{put_mid}
-use Rattle.rules.specs.declared.Written.{Written}
-use Rattle.rules.specs.declared.Written.TheVariants.{Refused, Bytes}
-use Rattle.rules.specs.Bytes.{over}
+use Rattle.rules.specs.Bytes.{given, refused, over}
 use Rattle.rules.specs.Answer.{written_of, bytes_of}
 use Rattle.rules.specs.Reference.{Reference}
 use Rattle.text_answers.specs.Rooms.{line_room, Ample}
@@ -20,13 +18,6 @@ use Rattle.text_lines.proofs.Turns.{moves_none, full_all, moves-line, full-feed,
 
 pub ample_kept : (t q t' q' : List ℕ) → Ample t q → length t' ≡ length t → length q' ≡ length q → Ample t' q'
 ample_kept t q t' q' h a b = record { for-transcript = a ∙ h.for-transcript; for-altered = b ∙ h.for-altered }
-
--- no line was answered, or one was
-pub no_answer : false ≡ true → ⊥
-no_answer e = let z : ◌≡◌ {A = ℕ} 0 1 = cc in omega arith
-
-pub an_answer : true ≡ false → ⊥
-an_answer e = let z : ◌≡◌ {A = ℕ} 0 1 = cc in omega arith
 
 -- an edit line takes the bytes before the next line feed
 module _ (r : Reference) (l l' input : List ℕ) (t : ℕ) (g : Gathers l l' input t) (out : List ℕ) where
@@ -41,18 +32,18 @@ module _ (r : Reference) (l l' input : List ℕ) (t : ℕ) (g : Gathers l l' inp
   edit-all e = full_all (editing r l) input t out (omega arith)
 
   -- the line ends there, and is answered
-  module _ (more : t ≡ length input → ⊥) (w : Written) (out' : List ℕ) (says : w ≡ written_of (within (answered (editing r l')) (length out)))
+  module _ (more : t ≡ length input → ⊥) (out' : List ℕ)
       (holds : out' ≡ over (bytes_of (within (answered (editing r l')) (length out))) out) where
-    pub edit-full : (n : ℕ) → w ≡ Refused n → Moves (editing r l) (editing r l') input t 0 out out' × Full (editing r l) input t out
+    pub edit-full : (n : ℕ) → refused n ≡ written_of (within (answered (editing r l')) (length out)) → Moves (editing r l) (editing r l') input t 0 out out' × Full (editing r l) input t out
     edit-full n is =
-        let none = put-none (answered (editing r l')) (length out) w n says is in
+        let none = put-none (answered (editing r l')) (length out) n is in
         let same : out' ≡ out = holds ∙ over_none (bytes_of (within (answered (editing r l')) (length out))) out none.1 in
         (rw same edit-moves, full-feed (editing r l) g.short input t g.ends g.inside (editing r l') held-editing more out none.0)
 
-    pub edit-answered : (n : ℕ) → w ≡ Bytes n → Moves (editing r l) (editing r []) input (t + 1) n out out'
+    pub edit-answered : (n : ℕ) → given n ≡ written_of (within (answered (editing r l')) (length out)) → Moves (editing r l) (editing r []) input (t + 1) n out out'
     unfolding next_line
     edit-answered n is =
-        let all = put-bytes (answered (editing r l')) (length out) w n says is in
+        let all = put-bytes (answered (editing r l')) (length out) n is in
         moves-feed (editing r l) g.short input t g.ends g.inside (editing r l') held-editing more (editing r []) n out out' refl all.0 all.1
         (holds ∙ ap (λ (s : List ℕ). over s out) all.2)
 
@@ -92,11 +83,12 @@ module _ (x : Stage) (r : Reference) (input old line out : List ℕ) (held taken
     pub used-fits : used + u < 2 ^ 64
     used-fits = omega (arith, on.fits, g.small.1)
 
-    pub turned : held' ≤ line_room → length line' ≡ length line → (transcript' altered' : List ℕ) → length transcript' ≡ length transcript → length altered' ≡ length altered
-        → Going x r input old line' (put_mid used (length out - used) out d) held' (taken + t) (used + u) transcript' altered'
-    turned few same transcript' altered' a b = record { moves = on; short = few; line-room = same ∙ g.line-room; ample = ample_kept transcript altered transcript' altered' g.ample a b; small = g.small }
+    pub turned : (size : ℕ) → u ≡ size → held' ≤ line_room → length line' ≡ length line → (transcript' altered' : List ℕ) → length transcript' ≡ length transcript → length altered' ≡ length altered
+        → Going x r input old line' (put_mid used (length out - used) out d) held' (taken + t) (used + size) transcript' altered'
+    turned size e few same transcript' altered' a b = rw (← e) (record { moves = on; short = few; line-room = same ∙ g.line-room; ample = ample_kept transcript altered transcript' altered' g.ample a b; small = g.small })
 
-    pub stopped : Full (editing r (take held line)) (take (length input - taken) (drop taken input)) t (take (length out - used) (drop used out))
-        → Steps x (editing r (take held' line')) input (taken + t) (used + u) old (put_mid used (length out - used) out d)
-    stopped f =
-        record { moves = on; most = row-full x (editing r (take held line)) (editing r (take held' line')) input taken used t u old out d g.moves f }
+    pub stopped : u ≡ 0 → Full (editing r (take held line)) (take (length input - taken) (drop taken input)) t (take (length out - used) (drop used out))
+        → Steps x (editing r (take held' line')) input (taken + t) used old (put_mid used (length out - used) out d)
+    stopped z f =
+        let none : used + u ≡ used = omega arith in
+        record { moves = rw none at on; most = row-full x (editing r (take held line)) (editing r (take held' line')) input taken used t u old out d g.moves f }

@@ -6,9 +6,7 @@ use Prim.Native.Nat.{ℕ, ◌≤◌, ◌<◌}
 use native.Mathlib.Omega.{arith}
 use lib.ListN.{length, take}
 use lib.Seq.{length-take-le}
-use Rattle.rules.specs.declared.Written.{Written}
-use Rattle.rules.specs.declared.Written.TheVariants as written
-use Rattle.rules.specs.Bytes.{given, over}
+use Rattle.rules.specs.Bytes.{Result, given, refused, over}
 use Rattle.rules.specs.Answer.{written_of, bytes_of}
 use Rattle.rules.specs.Run.{line_feed}
 use Rattle.rules.proofs.Fills.{refuses, gives}
@@ -45,10 +43,10 @@ nothing_printed x out = refl
 
 module _ (s : State) (line letters protein out : List ℕ) (room : length line ≡ line_room) (h : Keeps s letters protein) where
   -- what `finish` answers and leaves
-  abbrev Finished : Written → List ℕ → Type 0
+  abbrev Finished : Result ℕ → List ℕ → Type 0
   Finished r out' = (r ≡ written_of (last (stage_of s line letters) (length out))) × (out' ≡ over (bytes_of (last (stage_of s line letters) (length out))) out)
 
-  pub none-held : s.held ≡ 0 → Finished (written.Bytes 0) out
+  pub none-held : s.held ≡ 0 → Finished (given 0) out
   unfolding last over
   none-held z =
       let none : printed_last (stage_of s line letters) ≡ [] = rw z (empty_last s.phase letters) in
@@ -59,14 +57,14 @@ module _ (s : State) (line letters protein out : List ℕ) (room : length line �
     is : printed_last (stage_of s line letters) ≡ answered (stage_of s line letters)
     is = line_last s.phase (take s.held line) letters (omega (arith, length-take-le s.held line (omega (arith, h.short))))
 
-    pub no-room-left : t ≡ 0 → Finished (written.Refused 15) out'
+    pub no-room-left : t ≡ 0 → Finished (refused 15) out'
     unfolding last
     no-room-left z =
         let more : length out < length (answered (stage_of s line letters)) = subst (λ (l : List ℕ). length out < length l) (printed_feed (stage_of s line letters)) (rw z at (k.most (omega arith))) in
         let same : out' ≡ out = k.moves.prints ∙ rw z (nothing_printed (stage_of s line letters) out) in
         rw same (refuses (last (stage_of s line letters) (length out)) 15 out (rw is (within-not (answered (stage_of s line letters)) (length out) more)))
 
-    pub line-finished : (t ≡ 0 → ⊥) → Finished (written.Bytes u) out'
+    pub line-finished : (t ≡ 0 → ⊥) → Finished (given u) out'
     unfolding last
     line-finished z =
         let all : t ≡ 1 = omega (arith, k.moves.inside, z) in
@@ -77,9 +75,9 @@ module _ (s : State) (line letters protein out : List ℕ) (room : length line �
         size (k.moves.prints ∙ ap (λ (l : List ℕ). over l out) said)
 
 -- what is put out at the end has room
-pub last_within : (x : Stage) (room n : ℕ) (r : Written) → r ≡ written_of (last x room) → r ≡ written.Bytes n → n ≤ room
+pub last_within : (x : Stage) (room n : ℕ) → given n ≡ written_of (last x room) → n ≤ room
 unfolding last
-last_within x room n r is h = (put-bytes (printed_last x) room r n is h).1
+last_within x room n is = (put-bytes (printed_last x) room n is).1
 
 pub last_fits : (x : Stage) (room : ℕ) → length (printed_last x) ≤ room → last x room ≡ given (printed_last x)
 unfolding last

@@ -1,10 +1,11 @@
 -- What is kept between two steps: a state, and the buffers that are lent to each.
-use Rattle.std.specs.Prelude.{ℕ, ◌≤◌, ◌<◌, ◌≡◌, List, [], ◌++◌, ltb, length, take, if◌then◌else◌}
+use Rattle.std.specs.Prelude.{ℕ, ◌≤◌, ◌<◌, ◌≡◌, List, [], ◌++◌, ltb, length, take, if◌then◌else◌, Option, None, Some}
 use Rattle.bytewise.specs.Find.{index_of}
 use Rattle.rules.specs.Bytes.{over}
 use Rattle.rules.specs.Run.{line_feed}
 use Rattle.text_answers.specs.declared.Phase.{Phase}
 use Rattle.text_answers.specs.declared.Phase.TheVariants.{Opening, Editing, Ended}
+use Rattle.text_answers.specs.declared.first.Opened.{Opened}
 use Rattle.text_answers.specs.Rooms.{line_room, letters_room, protein_room}
 use Rattle.text_answers.specs.Stage.{Stage, opening, editing, ended, next_line, answered}
 use Rattle.text_answers.specs.Lines.{stage_by, KnownIn, letters_of, protein_of}
@@ -46,13 +47,17 @@ pub record Fills (x : Stage) (letters letters' protein protein' : List ℕ) : Ty
   pub with-letters : letters' ≡ over (letters_of x) letters
   pub with-protein : protein' ≡ over (protein_of x) protein
 
+-- the answer to a first line's end, where it was put out
+pub record Printed (x : Stage) (o : Opened) (letters protein out out' : List ℕ) : Type 0 where
+  pub counts : o.size ≡ length (answered x)
+  pub prints : out' ≡ over (answered x) out
+  pub reaches : stage_by o.phase [] letters ≡ next_line x
+  pub known : KnownIn o.phase letters protein
+
 -- A first line's end, answered into the output: nothing is put out where there is no room.
-pub record Put (x : Stage) (p : Phase) (size : ℕ) (letters protein out out' : List ℕ) : Type 0 where
-  pub full : size ≡ 0 → (length out < length (answered x)) × (out' ≡ out)
-  pub counts : (size ≡ 0 → ⊥) → size ≡ length (answered x)
-  pub prints : (size ≡ 0 → ⊥) → out' ≡ over (answered x) out
-  pub reaches : (size ≡ 0 → ⊥) → stage_by p [] letters ≡ next_line x
-  pub known : (size ≡ 0 → ⊥) → KnownIn p letters protein
+abbrev pub Put : Stage → Option Opened → List ℕ → List ℕ → List ℕ → List ℕ → Type 0
+Put x None letters protein out out' = (length out < length (answered x)) × (out' ≡ out)
+Put x (Some o) letters protein out out' = Printed x o letters protein out out'
 
 -- A step up to the first line's end; where the line goes on, all is taken, or there is no room for its answer.
 pub record Begins (x : Stage) (s : State) (line letters input : List ℕ) (taken used : ℕ) (out out' : List ℕ) : Type 0 where

@@ -1,6 +1,7 @@
 // The edit lines of a reference.
-ghost use Rattle.std.specs.Prelude.{◌≡◌, true, false, ◌≤◌, ◌<◌, length, take};
+ghost use Rattle.std.specs.Prelude.{ℕ, ◌≡◌, ◌≤◌, ◌<◌, length, take, Some, None, unwrap_or};
 ghost use Rattle.rules.specs.Bytes.{over};
+ghost use Rattle.rules.specs.Refusals.{told};
 ghost use Rattle.rules.specs.Answer.{written_of, bytes_of};
 ghost use Rattle.rules.specs.Views.{bare};
 ghost use Rattle.text_answers.specs.Rooms.{line_room, Ample};
@@ -9,9 +10,9 @@ ghost use Rattle.text_answers.specs.Lines.{KnowsText, KnownIn};
 ghost use Rattle.text_gather.specs.Steps.{within, Full, Moves, Steps};
 
 use reference::Known;
-use rules::Written;
+use rules::Refusal;
 use text_answers::{ALTERED, Phase, TRANSCRIPT, answer_edit};
-use text_gather::{gather, put};
+use text_gather::{Gathered, gather, put};
 
 // What is known of the reference, and how many bytes of the line so far are held.
 #[derive(Clone, Copy)]
@@ -20,13 +21,12 @@ struct Kept {
     held: usize,
 }
 
-// The bytes of the line so far, and those that were taken and put out. `answered` is whether a line ended and was answered.
+// The bytes of the line so far, and those that were taken. `answer` is how many bytes the line's answer put out, where it ended and was answered.
 #[derive(Clone, Copy)]
 struct Turn {
     held: usize,
     taken: usize,
-    used: usize,
-    answered: bool,
+    answer: Option<usize>,
 }
 
 #[derive(Clone, Copy)]
@@ -45,10 +45,10 @@ fn answer_line(
     transcript: &mut [u8],
     altered: &mut [u8],
     out: &mut [u8],
-) -> Written
+) -> Result<usize, Refusal>
     requires knows_text { KnowsText letters.now known protein.now }
     requires ample { Ample transcript.old altered.old }
-    ensures value { result ≡ written_of (within (answered (editing (bare letters.now known.cds) line.now)) (length out.old)) }
+    ensures value { told result ≡ written_of (within (answered (editing (bare letters.now known.cds) line.now)) (length out.old)) }
     ensures out_after { out.new ≡ over (bytes_of (within (answered (editing (bare letters.now known.cds) line.now)) (length out.old))) out.old }
 {
     let size = answer_edit(line, letters, known, protein, transcript, altered);
@@ -72,23 +72,20 @@ fn edit_line(
     ensures held_le_line_room { result.held ≤ line_room }
     ensures moves { Moves (editing (bare letters.now begun.known.cds) (take begun.held line.old))
         (editing (bare letters.now begun.known.cds) (take result.held line.new))
-        input.now result.taken result.used out.old out.new }
-    ensures taken_nonzero { result.answered ≡ true → 0 < result.taken }
-    ensures full { result.answered ≡ false → Full (editing (bare letters.now begun.known.cds) (take begun.held line.old))
+        input.now result.taken (unwrap_or result.answer 0) out.old out.new }
+    ensures taken_nonzero { (size : ℕ) → result.answer ≡ Some size → 0 < result.taken }
+    ensures full { result.answer ≡ None → Full (editing (bare letters.now begun.known.cds) (take begun.held line.old))
         input.now result.taken out.old }
 {
-    let got = gather(line, begun.held, input);
-    let held = got.held;
-    let taken = got.taken;
+    let Gathered { held, taken } = gather(line, begun.held, input);
+    let still = Turn {
+        held,
+        taken,
+        answer: None,
+    };
     if taken == input.len() {
-        return Turn {
-            held,
-            taken,
-            used: 0,
-            answered: false,
-        };
+        return still;
     }
-    let behind = taken + 1;
     match answer_line(
         &line[..held],
         letters,
@@ -98,17 +95,11 @@ fn edit_line(
         altered,
         out,
     ) {
-        Written::Refused(_) => Turn {
-            held,
-            taken,
-            used: 0,
-            answered: false,
-        },
-        Written::Bytes(used) => Turn {
+        Err(_) => still,
+        Ok(size) => Turn {
             held: 0,
-            taken: behind,
-            used,
-            answered: true,
+            taken: taken + 1,
+            answer: Some(size),
         },
     }
 }
@@ -148,11 +139,11 @@ fn edit_lines(
             &mut out[used..],
         );
         held = turn.held;
-        taken = taken + turn.taken;
-        used = used + turn.used;
-        if !turn.answered {
+        taken += turn.taken;
+        let Some(size) = turn.answer else {
             return Moved { held, taken, used };
-        }
+        };
+        used += size;
     }
     Moved { held, taken, used }
 }
@@ -175,14 +166,13 @@ pub(crate) fn edit_some(
         (editing (bare (take size letters.now) known.cds) (take result.held line.new))
         input.now result.taken result.used out.old out.new }
 {
-    let residues = known.residues;
     let mut transcript = [0u8; TRANSCRIPT];
     let mut altered = [0u8; ALTERED];
     edit_lines(
         Kept { known, held },
         line,
         &letters[..size],
-        &protein[..residues],
+        &protein[..known.residues],
         &mut transcript,
         &mut altered,
         input,

@@ -7,6 +7,7 @@ mod open;
 
 ghost use Rattle.std.specs.Prelude.{◌≡◌, List, [], ◌∷◌, ℕ, ◌≤◌, length};
 ghost use Rattle.rules.specs.Bytes.{over};
+ghost use Rattle.rules.specs.Refusals.{told};
 ghost use Rattle.rules.specs.Answer.{written_of, bytes_of};
 ghost use Rattle.rules.specs.Run.{line_feed};
 ghost use Rattle.text_answers.specs.Rooms.{line_room};
@@ -16,7 +17,7 @@ ghost use Rattle.text_lines.specs.Memory.{fresh, stage_of, Rooms, Keeps, first_e
 
 use edit::edit_some;
 use open::open_some;
-use rules::Written;
+use rules::Refusal;
 use text_answers::Phase;
 
 // `held` bytes of the line so far are kept, of a refused first line too; one more than the longest line has stands for any larger number.
@@ -48,12 +49,7 @@ pub fn start() -> State
 pub fn is_over(state: State) -> bool
     ensures { (line letters : List ℕ) → result ≡ is_ended (stage_of state line letters) }
 {
-    let phase = state.phase;
-    match phase {
-        Phase::Opening => false,
-        Phase::Editing { known: _, size: _ } => false,
-        Phase::Ended => true,
-    }
+    matches!(state.phase, Phase::Ended)
 }
 
 // A step up to the end of the first line; behind that it takes nothing.
@@ -67,21 +63,18 @@ fn begin(
 ) -> Stepped
     requires rooms { Rooms line.old letters.old protein.old }
     requires keeps { Keeps state letters.old protein.old }
-    ensures keeps_2 { Keeps result.state letters.new protein.new }
+    ensures still_keeps { Keeps result.state letters.new protein.new }
     ensures begins { Begins (stage_of state line.old letters.old) result.state line.new letters.new
         input.now result.taken result.used out.old out.new }
     ensures fills { Fills (first_end (stage_of state line.old letters.old) input.now) letters.old letters.new protein.old protein.new }
 {
-    let phase = state.phase;
-    let nothing = Stepped {
-        state,
-        taken: 0,
-        used: 0,
-    };
-    match phase {
+    match state.phase {
         Phase::Opening => open_some(state.held, line, letters, protein, input, out),
-        Phase::Editing { known: _, size: _ } => nothing,
-        Phase::Ended => nothing,
+        _ => Stepped {
+            state,
+            taken: 0,
+            used: 0,
+        },
     }
 }
 
@@ -97,7 +90,7 @@ fn go_on(
     requires line_len { length line.old ≡ line_room }
     requires keeps { Keeps begun.state letters.now protein.now }
     requires taken_in_bounds { (begun.taken ≤ length input.now) × (begun.used ≤ length out.old) }
-    ensures keeps_2 { Keeps result.state letters.now protein.now }
+    ensures still_keeps { Keeps result.state letters.now protein.now }
     ensures steps { (x : Stage) (old : List ℕ) → Begins x begun.state line.old letters.now input.now begun.taken begun.used old out.old
         → Steps x (stage_of result.state line.new letters.now) input.now result.taken result.used old out.new }
 {
@@ -146,7 +139,7 @@ pub fn step(
 ) -> Stepped
     requires rooms { Rooms line.old letters.old protein.old }
     requires keeps { Keeps state letters.old protein.old }
-    ensures keeps_2 { Keeps result.state letters.new protein.new }
+    ensures still_keeps { Keeps result.state letters.new protein.new }
     ensures steps { Steps (stage_of state line.old letters.old) (stage_of result.state line.new letters.new)
         input.now result.taken result.used out.old out.new }
     ensures fills { Fills (first_end (stage_of state line.old letters.old) input.now) letters.old letters.new protein.old protein.new }
@@ -162,19 +155,19 @@ fn finish_line(
     letters: &mut [u8],
     protein: &mut [u8],
     out: &mut [u8],
-) -> Written
+) -> Result<usize, Refusal>
     requires rooms { Rooms line.old letters.old protein.old }
     requires keeps { Keeps state letters.old protein.old }
     requires fact { state.held ≡ 0 → ⊥ }
-    ensures value { result ≡ written_of (last (stage_of state line.old letters.old) (length out.old)) }
+    ensures value { told result ≡ written_of (last (stage_of state line.old letters.old) (length out.old)) }
     ensures out_after { out.new ≡ over (bytes_of (last (stage_of state line.old letters.old) (length out.old))) out.old }
     ensures fills { Fills (first_end (stage_of state line.old letters.old) (line_feed ∷ [])) letters.old letters.new protein.old protein.new }
 {
     let stepped = step(state, line, letters, protein, b"\n", out);
     if stepped.taken == 0 {
-        return Written::Refused(15);
+        return Err(Refusal::Output);
     }
-    Written::Bytes(stepped.used)
+    Ok(stepped.used)
 }
 
 // At the input's end: the answer to a last line that no line feed ends; 15 if there is no room for it.
@@ -184,15 +177,15 @@ pub fn finish(
     letters: &mut [u8],
     protein: &mut [u8],
     out: &mut [u8],
-) -> Written
+) -> Result<usize, Refusal>
     requires rooms { Rooms line.old letters.old protein.old }
     requires keeps { Keeps state letters.old protein.old }
-    ensures value { result ≡ written_of (last (stage_of state line.old letters.old) (length out.old)) }
+    ensures value { told result ≡ written_of (last (stage_of state line.old letters.old) (length out.old)) }
     ensures out_after { out.new ≡ over (bytes_of (last (stage_of state line.old letters.old) (length out.old))) out.old }
     ensures fills { Fills (first_end (stage_of state line.old letters.old) (line_feed ∷ [])) letters.old letters.new protein.old protein.new }
 {
     if state.held == 0 {
-        return Written::Bytes(0);
+        return Ok(0);
     }
     finish_line(state, line, letters, protein, out)
 }

@@ -5,23 +5,20 @@ ghost use Rattle.text_answers.specs.Stage.{opening, next_line};
 ghost use Rattle.text_lines.specs.Memory.{held_behind, Rooms, Keeps, first_end, Fills, Put, Begins};
 
 use crate::{State, Stepped};
-use rules::Written;
 use text_answers::{FIRST, Opened, Phase, answer_first};
-use text_gather::{gather, put};
+use text_gather::{Gathered, gather, put};
 
-// The answer to a first line, put out; nothing where there is no room for it.
-fn open_line(line: &[u8], letters: &mut [u8], protein: &mut [u8], out: &mut [u8]) -> Opened
+// The answer to a first line, put out; None where there is no room for it.
+fn open_line(line: &[u8], letters: &mut [u8], protein: &mut [u8], out: &mut [u8]) -> Option<Opened>
     requires { (length letters.old ≡ letters_room) × (length protein.old ≡ protein_room) }
-    ensures put { Put (opening line.now) result.phase result.size letters.new protein.new out.old out.new }
+    ensures put { Put (opening line.now) result letters.new protein.new out.old out.new }
     ensures fills { Fills (next_line (opening line.now)) letters.old letters.new protein.old protein.new }
 {
     let mut text = [0u8; FIRST];
     let opened = answer_first(line, letters, protein, &mut text);
-    let phase = opened.phase;
-    let size = opened.size;
-    match put(&text[..size], out) {
-        Written::Refused(_) => Opened { phase, size: 0 },
-        Written::Bytes(n) => Opened { phase, size: n },
+    match put(&text[..opened.size], out) {
+        Ok(_) => Some(opened),
+        Err(_) => None,
     }
 }
 
@@ -29,10 +26,10 @@ fn open_line(line: &[u8], letters: &mut [u8], protein: &mut [u8], out: &mut [u8]
 fn held_behind(phase: Phase, held: usize) -> usize
     ensures { result ≡ held_behind phase held }
 {
-    match phase {
-        Phase::Opening => 0,
-        Phase::Editing { known: _, size: _ } => 0,
-        Phase::Ended => held,
+    if matches!(phase, Phase::Ended) {
+        held
+    } else {
+        0
     }
 }
 
@@ -52,9 +49,7 @@ pub(crate) fn open_some(
         input.now result.taken result.used out.old out.new }
     ensures fills { Fills (first_end (opening (take held line.old)) input.now) letters.old letters.new protein.old protein.new }
 {
-    let got = gather(line, held, input);
-    let n = got.held;
-    let taken = got.taken;
+    let Gathered { held: n, taken } = gather(line, held, input);
     let still = Stepped {
         state: State {
             phase: Phase::Opening,
@@ -66,18 +61,15 @@ pub(crate) fn open_some(
     if taken == input.len() {
         return still;
     }
-    let behind = taken + 1;
-    let opened = open_line(&line[..n], letters, protein, out);
-    let phase = opened.phase;
-    if opened.size == 0 {
+    let Some(opened) = open_line(&line[..n], letters, protein, out) else {
         return still;
-    }
+    };
     Stepped {
         state: State {
-            phase,
-            held: held_behind(phase, n),
+            phase: opened.phase,
+            held: held_behind(opened.phase, n),
         },
-        taken: behind,
+        taken: taken + 1,
         used: opened.size,
     }
 }

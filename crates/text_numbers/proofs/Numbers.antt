@@ -1,6 +1,8 @@
 -- Laws of `digits`, `value`, `is_number` and `number`.
 -- Assumes nothing.
-use Rattle.std.specs.Prelude.{if◌then◌else◌}
+use Rattle.std.specs.Prelude.{if◌then◌else◌, cond}
+use Rattle.std.specs.Char.{is_ascii_digit}
+use Rattle.std.specs.List.{prefix_len}
 use mathlib.Core.Path.{◌≡◌, refl, sym, ap, ◌∙◌}
 use mathlib.Core.Bool.{Bool, true, false, ◌&&◌, ◌||◌, not}
 use mathlib.Core.List.{List, [], ◌∷◌}
@@ -17,23 +19,21 @@ use Rattle.rules.specs.Bytes.{all}
 use Rattle.rules.specs.Number.{is_digit, digits, value, value_from, is_number, number_of, number}
 use Rattle.rules.proofs.Over.{tail-is}
 use Rattle.rules.proofs.Tests.{and_left, and_right}
-use Rattle.text_numbers.specs.declared.NumberAt.TheVariants.{Found}
+use Rattle.std.specs.Prelude.{Some}
 use Rattle.text_numbers.specs.Views.{number_in}
 
--- what a loop meets at the place i: a digit more, another byte, the end
+-- the leading digits, as std counts what passes a test
+pub digits-prefix : (s : List ℕ) → prefix_len is_ascii_digit s ≡ digits s
+unfolding digits is_digit
+digits-prefix [] = refl
+digits-prefix (b ∷ s) = by (is_ascii_digit b) (digits-prefix s)
+  where
+    by : (t : Bool) → prefix_len is_ascii_digit s ≡ digits s → cond t (1 + prefix_len is_ascii_digit s) 0 ≡ (if t then suc (digits s) else 0)
+    by true h = omega arith
+    by false h = refl
+
+-- what a loop meets at the place i: a digit more, the end
 module _ (s : List ℕ) (i : ℕ) where
-  pub digits_more : i < length s → is_digit (get_or s i 0) ≡ true → digits (drop i s) ≡ suc (digits (drop (i + 1) s))
-  unfolding digits
-  digits_more h e = rw (add-one, drop-cons s i 0 h) (simp e)
-
-  pub digits-stop : i < length s → is_digit (get_or s i 0) ≡ false → digits (drop i s) ≡ 0
-  unfolding digits
-  digits-stop h e = rw (drop-cons s i 0 h) (simp e)
-
-  pub digits-end : length s ≤ i → digits (drop i s) ≡ 0
-  unfolding digits
-  digits-end h = rw (drop_of_length-le s h)
-
   pub value-more : (v : ℕ) → i < length s → value_from v (drop i s) ≡ value_from (10 * v + (get_or s i 0 - 48)) (drop (i + 1) s)
   unfolding value_from
   value-more v h = rw (add-one, drop-cons s i 0 h)
@@ -134,6 +134,6 @@ module _ (line : List ℕ) (at n : ℕ) (q : n ≡ digits (take (length line - a
       pub next-within : at ≤ length line → at + n ≤ length line
       next-within h = omega (arith, digits_le (drop at line), counted, length-drop at line)
 
-      pub is-number : (v : ℕ) → v ≡ value (take n part) → number_in line (Found v (at + n)) ≡ number (drop at line)
+      pub is-number : (v : ℕ) → v ≡ value (take n part) → number_in line (Some (record { value = v; next = at + n })) ≡ number (drop at line)
       unfolding number number_of
       is-number v k = rw (counted, tested, e, k, tail-is at line) (rw drop-drop)

@@ -10,32 +10,16 @@ const MOST_DIGITS: usize = 5;
 
 // `next` is the place behind the number.
 #[derive(Clone, Copy)]
-pub enum NumberAt {
-    Not,
-    Found { value: usize, next: usize },
-}
-
-fn is_digit(b: u8) -> bool
-    ensures { result ≡ is_digit b }
-{
-    match b {
-        b'0'..=b'9' => true,
-        _ => false,
-    }
+pub struct NumberAt {
+    pub value: usize,
+    pub next: usize,
 }
 
 // The number of leading digits.
 fn count_digits(s: &[u8]) -> usize
     ensures { result ≡ digits s.now }
 {
-    let mut i = 0;
-    while i < s.len() {
-        if !is_digit(s[i]) {
-            return i;
-        }
-        i += 1;
-    }
-    i
+    s.iter().take_while(|b| b.is_ascii_digit()).count()
 }
 
 // The value of at most five digits.
@@ -44,11 +28,9 @@ fn value_of(s: &[u8]) -> usize
     requires s_value { all is_digit s.now ≡ true }
     ensures { result ≡ value s.now }
 {
-    let mut v: usize = 0;
-    let mut i = 0;
-    while i < s.len() {
-        v = 10 * v + (s[i] - b'0') as usize;
-        i += 1;
+    let mut v = 0;
+    for b in s {
+        v = 10 * v + usize::from(*b - b'0');
     }
     v
 }
@@ -58,20 +40,11 @@ fn is_number(n: usize, s: &[u8]) -> bool
     requires { n ≤ length s.now }
     ensures { result ≡ is_number n s.now }
 {
-    if n < 1 {
-        return false;
-    }
-    if MOST_DIGITS < n {
-        return false;
-    }
-    if n == 1 {
-        return true;
-    }
-    s[0] != b'0'
+    1 <= n && n <= MOST_DIGITS && (n == 1 || s[0] != b'0')
 }
 
 // The number that stands at a place of a line.
-pub fn parse_number(line: &[u8], at: usize) -> NumberAt
+pub fn parse_number(line: &[u8], at: usize) -> Option<NumberAt>
     requires { at ≤ length line.now }
     ensures result_value { number_in line.now result ≡ number (drop at line.now) }
     ensures within { number_next result ≤ length line.now }
@@ -79,11 +52,11 @@ pub fn parse_number(line: &[u8], at: usize) -> NumberAt
     let s = &line[at..];
     let n = count_digits(s);
     if !is_number(n, s) {
-        return NumberAt::Not;
+        return None;
     }
     let value = value_of(&s[..n]);
-    NumberAt::Found {
+    Some(NumberAt {
         value,
         next: at + n,
-    }
+    })
 }

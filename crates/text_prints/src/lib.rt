@@ -7,29 +7,21 @@ mod words;
 ghost use Rattle.std.specs.Prelude.{◌≡◌, [], ◌∷◌, ◌++◌, ◌≤◌, ◌<◌, length};
 ghost use Rattle.rules.specs.Bytes.{bytes, over};
 ghost use Rattle.rules.specs.Record.{part_of};
+ghost use Rattle.rules.specs.Refusals.{refusal_number};
 ghost use Rattle.rules.specs.Run.{refused_line, change_line, record_line, line_feed};
 ghost use Rattle.text_prints.specs.Words.{parts_line};
 
-use rules::{Change, Part, Record};
+use rules::{Change, Part, Record, Refusal};
 use words::{
-    close_line, write_class, write_first, write_refused, write_silent, write_spaced,
-    write_spaced_decimal,
+    close_line, write_first, write_refused, write_silent, write_spaced, write_spaced_decimal,
 };
 
 // A part of a protein; what lies behind its end isn't there.
 fn part_of(p: Part, protein: &[u8]) -> &[u8]
     ensures { result.now ≡ part_of p protein.now }
 {
-    let at = p.at;
-    let len = p.len;
-    if protein.len() <= at {
-        return &protein[0..0];
-    }
-    if protein.len() - at <= len {
-        return &protein[at..];
-    }
-    let end = at + len;
-    &protein[at..end]
+    let rest = &protein[p.at.min(protein.len())..];
+    &rest[..p.len.min(rest.len())]
 }
 
 // Deleted and inserted residues, each behind a space, and the first residue of a copy.
@@ -48,14 +40,11 @@ fn write_change(c: Change, r: &[u8], a: &[u8], out: &mut [u8]) -> usize
     ensures value { result ≡ length (change_line c r.now a.now) }
     ensures out_after { out.new ≡ over (change_line c r.now a.now) out.old }
 {
-    let class = c.class;
-    let deleted = c.deleted;
-    let inserted = c.inserted;
-    let n = write_class(class, out);
+    let n = bytewise::copy(c.class.name(), out);
     let m = n + write_spaced_decimal(c.number, &mut out[n..]);
     m + write_parts(
-        part_of(deleted, r),
-        part_of(inserted, a),
+        part_of(c.deleted, r),
+        part_of(c.inserted, a),
         c.first,
         &mut out[m..],
     )
@@ -75,12 +64,12 @@ fn write_record(found: Record, r: &[u8], a: &[u8], out: &mut [u8]) -> usize
 }
 
 // The line of a refusal.
-pub fn print_refused(n: usize, out: &mut [u8]) -> usize
-    requires { length (refused_line n) < length out.old }
-    ensures value { result ≡ length (refused_line n ++ (line_feed ∷ [])) }
-    ensures out_after { out.new ≡ over (refused_line n ++ (line_feed ∷ [])) out.old }
+pub fn print_refused(refusal: Refusal, out: &mut [u8]) -> usize
+    requires { length (refused_line (refusal_number refusal)) < length out.old }
+    ensures value { result ≡ length (refused_line (refusal_number refusal) ++ (line_feed ∷ [])) }
+    ensures out_after { out.new ≡ over (refused_line (refusal_number refusal) ++ (line_feed ∷ [])) out.old }
 {
-    let size = write_refused(n, out);
+    let size = write_refused(refusal.number(), out);
     close_line(size, out)
 }
 

@@ -1,10 +1,8 @@
 // The words that lines are made of.
 ghost use Rattle.std.specs.Prelude.{◌≡◌, ◌++◌, ◌+◌, ◌≤◌, ◌<◌, length, set};
 ghost use Rattle.rules.specs.Bytes.{bytes, over};
-ghost use Rattle.rules.specs.Run.{decimal_of, decimal, shown, class_name, refused_line, shown_first, line_feed};
+ghost use Rattle.rules.specs.Run.{decimal_of, decimal, shown, refused_line, shown_first, line_feed};
 ghost use Rattle.text_prints.specs.Words.{silent_line};
-
-use rules::Class;
 
 // The last `left` decimal digits of a number, no leading zero.
 fn write_digits(left: usize, n: usize, out: &mut [u8]) -> usize
@@ -57,24 +55,6 @@ pub(crate) fn write_first(first: usize, out: &mut [u8]) -> usize
         return 0;
     }
     write_spaced_decimal(first, out)
-}
-
-pub(crate) fn write_class(class: Class, out: &mut [u8]) -> usize
-    requires { length (class_name class) ≤ length out.old }
-    ensures value { result ≡ length (class_name class) }
-    ensures out_after { out.new ≡ over (class_name class) out.old }
-{
-    match class {
-        Class::StartLost => bytewise::copy(b"start-lost", out),
-        Class::Extension => bytewise::copy(b"extension", out),
-        Class::StopGained => bytewise::copy(b"stop-gained", out),
-        Class::Frameshift => bytewise::copy(b"frameshift", out),
-        Class::Substitution => bytewise::copy(b"substitution", out),
-        Class::Deletion => bytewise::copy(b"deletion", out),
-        Class::Duplication => bytewise::copy(b"duplication", out),
-        Class::Insertion => bytewise::copy(b"insertion", out),
-        Class::Delins => bytewise::copy(b"delins", out),
-    }
 }
 
 pub(crate) fn write_refused(n: usize, out: &mut [u8]) -> usize

@@ -1,5 +1,8 @@
 -- Laws of a run that is counted, and of one that is written in one step.
 -- Assumes nothing.
+use Rattle.std.specs.Prelude.{Ok, Err}
+use Rattle.std.specs.Prelude.{Result as Returned}
+use Rattle.std.specs.Result.{result_unwrap_or}
 use mathlib.Core.Path.{◌≡◌, refl, sym, ap, ◌∙◌}
 use mathlib.Core.Bool.{Bool, true, false}
 use mathlib.Core.List.{List, ◌++◌}
@@ -10,9 +13,9 @@ use lib.ListN.{length, take, drop, length-append, length-drop}
 use lib.Seq.{length-take-le, take-length}
 use borrow.Rule.Slice.PartMut.{put_mid}
 use borrow.Author.Tests.{leb-true, leb-false}
-use Rattle.rules.specs.declared.Written.{Written}
-use Rattle.rules.specs.declared.Written.TheVariants.{Refused, Bytes}
-use Rattle.rules.specs.Bytes.{over}
+use Rattle.rules.specs.declared.Refusal.{Refusal}
+use Rattle.rules.specs.Refusals.{told}
+use Rattle.rules.specs.Bytes.{given, refused, over}
 use Rattle.rules.specs.Answer.{written_of, bytes_of}
 use Rattle.rules.specs.Run.{run}
 use Rattle.rules.proofs.Over.{lent_on_by, tail-is, length_over}
@@ -35,12 +38,6 @@ run_is : (input : List ℕ) → run input ≡ printed start input ++ printed_las
 unfolding printed_all
 run_is input = whole input
 
-pub not_within : false ≡ true → ⊥
-not_within e = let z : ◌≡◌ {A = ℕ} 0 1 = cc in omega arith
-
-pub not_above : true ≡ false → ⊥
-not_above e = let z : ◌≡◌ {A = ℕ} 0 1 = cc in omega arith
-
 -- before the first byte
 pub counted : (s : State) (input line letters protein : List ℕ) (most : ℕ) → s ≡ fresh → Rooms line letters protein → most < 2 ^ 64 → Counted s input line letters protein 0 0 most
 unfolding after printed
@@ -60,13 +57,13 @@ run_above input n h =
     let all = ap length (all-taken start input (length input) refl) in
     omega (arith, printed_grows start input n (length input) h, run-size input)
 
-pub unfit : (input : List ℕ) (most : ℕ) → most < length (run input) → Refused 15 ≡ written_of (run_within input most)
+pub unfit : (input : List ℕ) (most : ℕ) → most < length (run input) → refused 15 ≡ written_of (run_within input most)
 unfolding run_within written_of
 unfit input most h = rw (within-not (run input) most h)
 
-fit : (input : List ℕ) (most n : ℕ) → n ≡ length (run input) → n ≤ most → Bytes n ≡ written_of (run_within input most)
+fit : (input : List ℕ) (most n : ℕ) → n ≡ length (run input) → n ≤ most → given n ≡ written_of (run_within input most)
 unfolding run_within written_of
-fit input most n e h = rw (within-fits (run input) most (omega arith)) (ap Bytes e)
+fit input most n e h = rw (within-fits (run input) most (omega arith)) (ap given e)
 
 -- at the head of a turn: the buffers have the lengths that they came with
 pub record Turning (input piece line₀ letters₀ protein₀ line letters protein : List ℕ) : Type 0 where
@@ -115,18 +112,19 @@ module _ (s : State) (input line letters protein : List ℕ) (at total most : �
   pub counted-all : length input ≤ at → Counted s input line letters protein (length input) total most
   counted-all q = let done : at ≡ length input = omega (arith, g.inside) in rw done at g
 
+value_told : (r : Returned ℕ Refusal) (n : ℕ) → told r ≡ given n → result_unwrap_or r 0 ≡ n
+value_told (Ok m) n e = cc
+value_told (Err x) n e = cc
+
 -- what `finish` answers where there is room for any answer
-module _ (s : State) (line letters protein : List ℕ) (h : Keeps s letters protein) (r : Written) (piece : List ℕ) (room : length piece ≡ answer_room)
-    (k : r ≡ written_of (last (stage_of s line letters) (length piece))) where
-  finished : r ≡ Bytes (length (printed_last (stage_of s line letters)))
+module _ (s : State) (line letters protein : List ℕ) (h : Keeps s letters protein) (r : Returned ℕ Refusal) (piece : List ℕ) (room : length piece ≡ answer_room)
+    (k : told r ≡ written_of (last (stage_of s line letters) (length piece))) where
+  finished : told r ≡ given (length (printed_last (stage_of s line letters)))
   unfolding written_of
   finished = k ∙ ap written_of (last_fits (stage_of s line letters) (length piece) (omega (arith, last-size s line letters protein h)))
 
-  pub always : (n : ℕ) → r ≡ Refused n → ⊥
-  always n e = let z : ◌≡◌ {A = ℕ} 0 1 = cc finished in omega arith
-
-  pub last-is : (n : ℕ) → r ≡ Bytes n → n ≡ length (printed_last (stage_of s line letters))
-  last-is n e = cc finished
+  pub last-is : result_unwrap_or r 0 ≡ length (printed_last (stage_of s line letters))
+  last-is = value_told r (length (printed_last (stage_of s line letters))) finished
 
 -- behind the last byte
 module _ (s : State) (input line letters protein : List ℕ) (total most : ℕ) (g : Counted s input line letters protein (length input) total most) (n : ℕ)
@@ -137,10 +135,10 @@ module _ (s : State) (input line letters protein : List ℕ) (total most : ℕ) 
   all : total + n ≡ length (run input)
   all = omega (arith, run-size input, ap (λ (x : Stage). length (printed_last x)) stands, g.counts, ap length (all-taken start input (length input) refl))
 
-  pub ends_above : most - total < n → Refused 15 ≡ written_of (run_within input most)
+  pub ends_above : most - total < n → refused 15 ≡ written_of (run_within input most)
   ends_above h = unfit input most (omega (arith, all, g.fits))
 
-  pub ends-within : n ≤ most - total → Bytes (total + n) ≡ written_of (run_within input most)
+  pub ends-within : n ≤ most - total → given (total + n) ≡ written_of (run_within input most)
   ends-within h = fit input most (total + n) all (omega (arith, g.fits))
 
 -- one step where there is room for the whole run
@@ -191,15 +189,16 @@ module _ (x : Stage) (input : List ℕ) (u : ℕ) (out out' : List ℕ) (w : Wro
       ∙ ap (λ (l : List ℕ). over l out) (rw w.reaches (sym (run_is input)))
 
 -- what the count tells of the run
-module _ (input out : List ℕ) (r : Written) (n : ℕ) (is : r ≡ written_of (run_within input (length out))) where
-  pub leaves_all : r ≡ Refused n → out ≡ over (bytes_of (run_within input (length out))) out
+module _ (input out : List ℕ) (n : ℕ) where
+  pub leaves_all : refused n ≡ written_of (run_within input (length out)) → out ≡ over (bytes_of (run_within input (length out))) out
   unfolding run_within
-  leaves_all h = sym (over_none (bytes_of (run_within input (length out))) out (put-none (run input) (length out) r n is h).1)
+  leaves_all is = sym (over_none (bytes_of (run_within input (length out))) out (put-none (run input) (length out) n is).1)
 
-  pub has_room : r ≡ Bytes n → length (run input) ≤ length out
-  unfolding run_within
-  has_room h = let all = put-bytes (run input) (length out) r n is h in omega (arith, all.0, all.1)
+  module _ (is : given n ≡ written_of (run_within input (length out))) where
+    pub has_room : length (run input) ≤ length out
+    unfolding run_within
+    has_room = let all = put-bytes (run input) (length out) n is in omega (arith, all.0, all.1)
 
-  pub holds-run : r ≡ Bytes n → (out' : List ℕ) → out' ≡ over (run input) out → out' ≡ over (bytes_of (run_within input (length out))) out
-  unfolding run_within
-  holds-run h out' q = q ∙ ap (λ (l : List ℕ). over l out) (sym (put-bytes (run input) (length out) r n is h).2)
+    pub holds-run : (out' : List ℕ) → out' ≡ over (run input) out → out' ≡ over (bytes_of (run_within input (length out))) out
+    unfolding run_within
+    holds-run out' q = q ∙ ap (λ (l : List ℕ). over l out) (sym (put-bytes (run input) (length out) n is).2)

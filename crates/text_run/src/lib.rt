@@ -1,8 +1,9 @@
 // The text program over memory.
 #![tactic(auto)]
 
-ghost use Rattle.std.specs.Prelude.{◌≡◌, true, false, ◌≤◌, ◌<◌, length};
+ghost use Rattle.std.specs.Prelude.{◌≡◌, ◌≤◌, ◌<◌, length, IfSome, IfNone};
 ghost use Rattle.rules.specs.Bytes.{over};
+ghost use Rattle.rules.specs.Refusals.{told};
 ghost use Rattle.rules.specs.Answer.{written_of, bytes_of};
 ghost use Rattle.rules.specs.Run.{run};
 ghost use Rattle.text_answers.specs.Rooms.{answer_room};
@@ -10,19 +11,18 @@ ghost use Rattle.text_gather.specs.Steps.{printed_last};
 ghost use Rattle.text_lines.specs.Memory.{stage_of, Rooms, Keeps};
 ghost use Rattle.text_run.specs.Runs.{run_within, Counted, Wrote};
 
-use rules::Written;
+use rules::Refusal;
 use text_answers::{ANSWER, LETTERS, LINE, PROTEIN};
 use text_lines::{State, Stepped, finish, start, step};
 
-// The state behind the last byte, and how many bytes were printed for the lines that ended; `within` is false once these are too many.
+// The state behind the last byte, and how many bytes were printed for the lines that ended.
 #[derive(Clone, Copy)]
 struct Count {
     state: State,
     total: usize,
-    within: bool,
 }
 
-// Counts what the lines of an input print that end in it. They are printed to `piece`, a part at a time.
+// Counts what the lines of an input print that end in it; None once that is too much. They are printed to `piece`, a part at a time.
 fn count_lines(
     line: &mut [u8],
     letters: &mut [u8],
@@ -30,12 +30,12 @@ fn count_lines(
     piece: &mut [u8],
     input: &[u8],
     most: usize,
-) -> Count
+) -> Option<Count>
     requires rooms { Rooms line.old letters.old protein.old }
     requires piece_len { length piece.old ≡ answer_room }
-    ensures counted { result.within ≡ true → Counted result.state input.now line.new letters.new protein.new (length input.now) result.total most }
-    ensures most_in_bounds { result.within ≡ false → most < length (run input.now) }
-    ensures piece_len_2 { length piece.new ≡ answer_room }
+    ensures counted { IfSome result (λ k. Counted k.state input.now line.new letters.new protein.new (length input.now) k.total most) }
+    ensures too_many { IfNone result (most < length (run input.now)) }
+    ensures piece_stays { length piece.new ≡ answer_room }
 {
     let mut state = start();
     let mut at = 0;
@@ -43,21 +43,13 @@ fn count_lines(
     while at < input.len() {
         let stepped = step(state, line, letters, protein, &input[at..], piece);
         state = stepped.state;
-        at = at + stepped.taken;
+        at += stepped.taken;
         if most - total < stepped.used {
-            return Count {
-                state,
-                total,
-                within: false,
-            };
+            return None;
         }
-        total = total + stepped.used;
+        total += stepped.used;
     }
-    Count {
-        state,
-        total,
-        within: true,
-    }
+    Some(Count { state, total })
 }
 
 // How many bytes are printed at the input's end: any answer has room in `piece`.
@@ -73,38 +65,38 @@ fn last_size(
     requires piece_len { length piece.old ≡ answer_room }
     ensures { result ≡ length (printed_last (stage_of state line.old letters.old)) }
 {
-    match finish(state, line, letters, protein, piece) {
-        Written::Refused(_) => 0,
-        Written::Bytes(n) => n,
-    }
+    finish(state, line, letters, protein, piece).unwrap_or(0)
 }
 
 // How many bytes the run of an input prints, or 15 if they are more than `most`.
-fn run_size(input: &[u8], most: usize) -> Written
-    ensures { result ≡ written_of (run_within input.now most) }
+fn run_size(input: &[u8], most: usize) -> Result<usize, Refusal>
+    ensures { told result ≡ written_of (run_within input.now most) }
 {
     let mut line = [0u8; LINE];
     let mut letters = [0u8; LETTERS];
     let mut protein = [0u8; PROTEIN];
     let mut piece = [0u8; ANSWER];
-    let counted = count_lines(
+    let Some(counted) = count_lines(
         &mut line,
         &mut letters,
         &mut protein,
         &mut piece,
         input,
         most,
+    ) else {
+        return Err(Refusal::Output);
+    };
+    let last = last_size(
+        counted.state,
+        &mut line,
+        &mut letters,
+        &mut protein,
+        &mut piece,
     );
-    if !counted.within {
-        return Written::Refused(15);
+    if most - counted.total < last {
+        return Err(Refusal::Output);
     }
-    let state = counted.state;
-    let total = counted.total;
-    let last = last_size(state, &mut line, &mut letters, &mut protein, &mut piece);
-    if most - total < last {
-        return Written::Refused(15);
-    }
-    Written::Bytes(total + last)
+    Ok(counted.total + last)
 }
 
 // The answers to the lines that end in an input. One step takes all, since there is room for the whole run.
@@ -131,10 +123,9 @@ fn write_run(input: &[u8], out: &mut [u8])
     let mut letters = [0u8; LETTERS];
     let mut protein = [0u8; PROTEIN];
     let stepped = write_lines(&mut line, &mut letters, &mut protein, input, out);
-    let state = stepped.state;
     let used = stepped.used;
-    finish(
-        state,
+    let _ = finish(
+        stepped.state,
         &mut line,
         &mut letters,
         &mut protein,
@@ -143,15 +134,11 @@ fn write_run(input: &[u8], out: &mut [u8])
 }
 
 // The whole run of an input, or 15 if what it prints doesn't fit; then the buffer is as it was.
-pub fn run(input: &[u8], out: &mut [u8]) -> Written
-    ensures value { result ≡ written_of (run_within input.now (length out.old)) }
+pub fn run(input: &[u8], out: &mut [u8]) -> Result<usize, Refusal>
+    ensures value { told result ≡ written_of (run_within input.now (length out.old)) }
     ensures out_after { out.new ≡ over (bytes_of (run_within input.now (length out.old))) out.old }
 {
-    match run_size(input, out.len()) {
-        Written::Refused(n) => Written::Refused(n),
-        Written::Bytes(n) => {
-            write_run(input, out);
-            Written::Bytes(n)
-        }
-    }
+    let size = run_size(input, out.len())?;
+    write_run(input, out);
+    Ok(size)
 }

@@ -1,36 +1,63 @@
--- Laws of `starts_with`, `are_capitals` and `is_arrow`, and `verb` from what the parsers below answer.
+-- Laws of `starts_with` and `is_arrow`, and `verb` from what the parsers below answer.
 -- Assumes nothing.
+use Rattle.std.specs.Prelude.{if◌then◌else◌, None, Some}
+use Rattle.std.specs.Prelude.{Option as Returned}
+use Rattle.std.proofs.lemmas.Bool.Decides.{nat_tests}
+use Rattle.std.specs.Cmp.Lexicographic.{pointwise}
 use mathlib.Core.Path.{◌≡◌, refl, sym, ap, ◌∙◌}
 use mathlib.Core.Bool.{Bool, true, false, ◌&&◌}
 use mathlib.Core.List.{List, [], ◌∷◌}
 use mathlib.Core.Option.{none}
-use Prim.Native.Nat.{ℕ, ◌+◌, ◌-◌, ◌≤◌, ◌<◌}
+use Prim.Native.Nat.{ℕ, ◌+◌, ◌-◌, ◌≤◌}
 use native.Mathlib.Omega.{arith}
-use borrow.Author.Tests.{le-leb, lt-leb}
 use lib.Dec.{eqb}
 use lib.ListN.{length, take, drop, get_or, length-drop}
-use lib.Seq.{take_all, drop-length, drop-drop}
+use lib.Seq.{drop-length, drop-drop}
+use Rattle.rules.specs.declared.Kind.{Kind}
 use Rattle.rules.specs.declared.Kind.TheVariants.{Substitution, Deletion, Delins, Insertion, Duplication, Inversion, Identity}
-use Rattle.rules.specs.Bytes.{bytes, same, all, is_capital}
-use Rattle.rules.specs.Line.{are_capitals, starts_with, is_arrow, base_verb, verb}
+use Rattle.rules.specs.Bytes.{bytes, same, is_capital}
+use Rattle.rules.specs.Line.{are_capitals, starts_with, is_arrow, verb_of, base_verb, verb}
 use Rattle.rules.proofs.Over.{tail-is}
 use Rattle.rules.proofs.Tests.{and_left, and_right}
-use Rattle.rules.proofs.Trims.{same_lengths}
-use Rattle.text_verbs.specs.declared.VerbAt.{VerbAt}
-use Rattle.text_verbs.specs.declared.VerbAt.TheVariants.{Found}
-use Rattle.text_verbs.specs.Views.{verb_in}
+use Rattle.text_verbs.specs.Views.{word_kind, verb_in}
 
-pub capitals_none : (s : List ℕ) → length s < 1 → false ≡ are_capitals s
-unfolding are_capitals
-capitals_none s h = simp (lt-leb 1 (length s) h)
+eqb_swap : (x y : ℕ) → eqb x y ≡ eqb y x
+eqb_swap x y = grind (arith, nat_tests)
 
-pub capitals_some : (s : List ℕ) → 1 ≤ length s → all is_capital s ≡ are_capitals s
-unfolding are_capitals
-capitals_some s h = simp (le-leb 1 (length s) h)
+-- std's test of a prefix is the same as of the first bytes
+same-pointwise : (t s : List ℕ) → pointwise eqb t s ≡ same s t
+unfolding same
+same-pointwise [] [] = refl
+same-pointwise [] (y ∷ s) = refl
+same-pointwise (x ∷ t) [] = refl
+same-pointwise (x ∷ t) (y ∷ s) = rw (same-pointwise t s, eqb_swap x y)
 
-pub starts_short : (t s : List ℕ) → length s < length t → false ≡ starts_with t s
+pub starts-pointwise : (t s : List ℕ) → pointwise eqb t (take (length t) s) ≡ starts_with t s
 unfolding starts_with
-starts_short t s h = rw (take_all (length t) s (omega arith)) (sym (same_lengths s t (λ e. omega arith)))
+starts-pointwise t s = same-pointwise t (take (length t) s)
+
+-- a short word, byte by byte
+pub same_one : (s : List ℕ) (a : ℕ) → same s (a ∷ []) ≡ (eqb (length s) 1 && eqb (get_or s 0 0) a)
+unfolding same
+same_one [] a = refl
+same_one (x ∷ []) a = grind (arith, nat_tests)
+same_one (x ∷ y ∷ s) a = grind (arith, nat_tests)
+
+pub same_three : (s : List ℕ) (a b c : ℕ) → same s (a ∷ b ∷ c ∷ []) ≡ (eqb (length s) 3 && (eqb (get_or s 0 0) a && (eqb (get_or s 1 0) b && eqb (get_or s 2 0) c)))
+unfolding same
+same_three [] a b c = refl
+same_three (x ∷ []) a b c = grind (arith, nat_tests)
+same_three (x ∷ y ∷ []) a b c = grind (arith, nat_tests)
+same_three (x ∷ y ∷ z ∷ []) a b c = grind (arith, nat_tests)
+same_three (x ∷ y ∷ z ∷ w ∷ s) a b c = grind (arith, nat_tests)
+
+pub arrow_by : (s : List ℕ) → is_arrow s ≡ (eqb (length s) 3 && (eqb (get_or s 1 0) 62 && is_capital (get_or s 0 0) && is_capital (get_or s 2 0)))
+unfolding is_arrow
+arrow_by [] = refl
+arrow_by (a ∷ []) = refl
+arrow_by (a ∷ b ∷ []) = refl
+arrow_by (a ∷ b ∷ c ∷ []) = refl
+arrow_by (a ∷ b ∷ c ∷ d ∷ s) = grind (arith, nat_tests)
 
 never : false ≡ true → ⊥
 never e = let z : ◌≡◌ {A = ℕ} 0 1 = cc in omega arith
@@ -64,15 +91,8 @@ arrow_long (a ∷ []) e = absurd (never e)
 arrow_long (a ∷ b ∷ s) e = omega arith
 
 -- a word with bases behind it
-abbrev pub based : List ℕ → List ℕ → Bool
+abbrev based : List ℕ → List ℕ → Bool
 based w s = starts_with w s && are_capitals (drop (length w) s)
-
-module _ (w s : List ℕ) (u : Bool) (q : u ≡ starts_with w s) where
-  pub based-not : u ≡ false → false ≡ based w s
-  based-not e = rw (← q, e)
-
-  pub based-by : u ≡ true → (v : Bool) → v ≡ are_capitals (take (length s - length w) (drop (length w) s)) → v ≡ based w s
-  based-by e v k = k ∙ rw (← q, e, tail-is (length w) s)
 
 -- the verb, from the tests of the part behind the positions
 module _ (line : List ℕ) (at : ℕ) where
@@ -88,21 +108,21 @@ module _ (line : List ℕ) (at : ℕ) where
   word-within n h k = omega (arith, length-drop at line)
 
   module _ (u : Bool) (q : u ≡ based (bytes "delins") part) where
-    pub base-delins : at ≤ length line → u ≡ true → (verb_in line (Found Delins (at + 6)) ≡ base_verb (drop at line)) × (at + 6 ≤ length line)
+    pub base-delins : at ≤ length line → u ≡ true → (verb_in line (Some (record { kind = Delins; at = at + 6 })) ≡ base_verb (drop at line)) × (at + 6 ≤ length line)
     unfolding base_verb
     base-delins h e =
         let t : based (bytes "delins") (drop at line) ≡ true = test (based (bytes "delins")) u true q e in
         (simp t (rw drop-drop), word-within 6 h (starts_long (bytes "delins") (drop at line) (and_left _ _ t)))
 
     module _ (e : u ≡ false) (u₂ : Bool) (q₂ : u₂ ≡ based (bytes "ins") part) where
-      pub base-ins : at ≤ length line → u₂ ≡ true → (verb_in line (Found Insertion (at + 3)) ≡ base_verb (drop at line)) × (at + 3 ≤ length line)
+      pub base-ins : at ≤ length line → u₂ ≡ true → (verb_in line (Some (record { kind = Insertion; at = at + 3 })) ≡ base_verb (drop at line)) × (at + 3 ≤ length line)
       unfolding base_verb
       base-ins h e₂ =
           let t : based (bytes "ins") (drop at line) ≡ true = test (based (bytes "ins")) u₂ true q₂ e₂ in
           (simp (test (based (bytes "delins")) u false q e, t) (rw drop-drop), word-within 3 h (starts_long (bytes "ins") (drop at line) (and_left _ _ t)))
 
       module _ (e₂ : u₂ ≡ false) (u₃ : Bool) (q₃ : u₃ ≡ is_arrow part) where
-        pub base-arrow : at ≤ length line → u₃ ≡ true → (verb_in line (Found Substitution (at + 2)) ≡ base_verb (drop at line)) × (at + 2 ≤ length line)
+        pub base-arrow : at ≤ length line → u₃ ≡ true → (verb_in line (Some (record { kind = Substitution; at = at + 2 })) ≡ base_verb (drop at line)) × (at + 2 ≤ length line)
         unfolding base_verb
         base-arrow h e₃ =
             let t : is_arrow (drop at line) ≡ true = test is_arrow u₃ true q₃ e₃ in
@@ -112,33 +132,35 @@ module _ (line : List ℕ) (at : ℕ) where
         unfolding base_verb
         base-none e₃ = simp (test (based (bytes "delins")) u false q e, test (based (bytes "ins")) u₂ false q₂ e₂, test is_arrow u₃ false q₃ e₃)
 
-  abbrev word : List ℕ → List ℕ → Bool
-  word w s = same s w
+  -- a word that is a kind by itself has no new bases
+  module _ (r : Returned Kind) (q : r ≡ word_kind part) where
+    of-word : word_kind (drop at line) ≡ r
+    of-word = sym (q ∙ ap word_kind (tail-is at line))
 
-  -- no new bases: what stands behind the line's end
-  no-bases : drop (length line) line ≡ []
-  no-bases = drop-length line
-
-  module _ (u : Bool) (q : u ≡ word (bytes "del") part) where
-    pub verb-del : u ≡ true → verb_in line (Found Deletion (length line)) ≡ verb (drop at line)
+    pub verb-word : (k : Kind) → r ≡ Some k → verb_in line (Some (record { kind = k; at = length line })) ≡ verb (drop at line)
     unfolding verb
-    verb-del e = simp (test (word (bytes "del")) u true q e) (rw no-bases)
+    verb-word k e = rw (drop-length line) (by (same (drop at line) (bytes "del")) (same (drop at line) (bytes "dup")) (same (drop at line) (bytes "inv")) (same (drop at line) (bytes "=")) (of-word ∙ e))
+      where
+        by : (t u v w : Bool)
+            → (if t then Some Deletion else if u then Some Duplication else if v then Some Inversion else if w then Some Identity else None) ≡ Some k
+            → verb_of k []
+            ≡ (if t then verb_of Deletion [] else if u then verb_of Duplication [] else if v then verb_of Inversion [] else if w then verb_of Identity [] else base_verb (drop at line))
+        by true u v w h = cc
+        by false true v w h = cc
+        by false false true w h = cc
+        by false false false true h = cc
+        by false false false false h = cc
 
-    module _ (e : u ≡ false) (u₂ : Bool) (q₂ : u₂ ≡ word (bytes "dup") part) where
-      pub verb-dup : u₂ ≡ true → verb_in line (Found Duplication (length line)) ≡ verb (drop at line)
-      unfolding verb
-      verb-dup e₂ = simp (test (word (bytes "del")) u false q e, test (word (bytes "dup")) u₂ true q₂ e₂) (rw no-bases)
-
-      module _ (e₂ : u₂ ≡ false) (u₃ : Bool) (q₃ : u₃ ≡ word (bytes "inv") part) where
-        pub verb-inv : u₃ ≡ true → verb_in line (Found Inversion (length line)) ≡ verb (drop at line)
-        unfolding verb
-        verb-inv e₃ = simp (test (word (bytes "del")) u false q e, test (word (bytes "dup")) u₂ false q₂ e₂, test (word (bytes "inv")) u₃ true q₃ e₃) (rw no-bases)
-
-        module _ (e₃ : u₃ ≡ false) (u₄ : Bool) (q₄ : u₄ ≡ word (bytes "=") part) where
-          pub verb-same : u₄ ≡ true → verb_in line (Found Identity (length line)) ≡ verb (drop at line)
-          unfolding verb
-          verb-same e₄ = simp (test (word (bytes "del")) u false q e, test (word (bytes "dup")) u₂ false q₂ e₂, test (word (bytes "inv")) u₃ false q₃ e₃, test (word (bytes "=")) u₄ true q₄ e₄) (rw no-bases)
-
-          pub verb-based : u₄ ≡ false → (r : VerbAt) → verb_in line r ≡ base_verb (drop at line) → verb_in line r ≡ verb (drop at line)
-          unfolding verb
-          verb-based e₄ r z = z ∙ simp (test (word (bytes "del")) u false q e, test (word (bytes "dup")) u₂ false q₂ e₂, test (word (bytes "inv")) u₃ false q₃ e₃, test (word (bytes "=")) u₄ false q₄ e₄)
+    pub verb-based : r ≡ None → base_verb (drop at line) ≡ verb (drop at line)
+    unfolding verb
+    verb-based e = by (same (drop at line) (bytes "del")) (same (drop at line) (bytes "dup")) (same (drop at line) (bytes "inv")) (same (drop at line) (bytes "=")) (of-word ∙ e)
+      where
+        by : (t u v w : Bool)
+            → (if t then Some Deletion else if u then Some Duplication else if v then Some Inversion else if w then Some Identity else None) ≡ None
+            → base_verb (drop at line)
+            ≡ (if t then verb_of Deletion [] else if u then verb_of Duplication [] else if v then verb_of Inversion [] else if w then verb_of Identity [] else base_verb (drop at line))
+        by true u v w h = cc
+        by false true v w h = cc
+        by false false true w h = cc
+        by false false false true h = cc
+        by false false false false h = refl

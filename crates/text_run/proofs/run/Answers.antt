@@ -1,23 +1,16 @@
 -- `text_run::run` meets its contract. Assumes nothing.
-use mathlib.Core.Path.{sym, ◌∙◌}
+use borrow.Author.Rules.{rules}
 use Rattle.text_run.proofs.Counting.{leaves_all, has_room, holds-run}
 use Rattle.text_run.proofs.run.Goals as goal
 
+pub returns-in_err-size : goal.returns-in_err-size
+returns-in_err-size c =
+    let e = c.in_err-size.ensures in
+    let kept = leaves_all c.args.input.now c.args.out.now _ c.in_err-size.ensures in
+    record { value = search rules; out_after = search rules }
+
 pub write_run-requires : goal.write_run-requires
-write_run-requires c =
-    let args = c.args in
-    let run-size = c.run_size in
-    has_room args.input.now args.out.now run-size.result c.in-Bytes.n run-size.ensures c.in-Bytes.is
+write_run-requires c = has_room c.args.input.now c.args.out.now _ c.in_ok-size.ensures
 
-pub returns-in-Refused : goal.returns-in-Refused
-returns-in-Refused c =
-    let args = c.args in
-    let run-size = c.run_size in
-    record { value = sym c.in-Refused.is ∙ run-size.ensures; out_after = leaves_all args.input.now args.out.now run-size.result c.in-Refused.n run-size.ensures c.in-Refused.is }
-
-pub returns-in-Bytes : goal.returns-in-Bytes
-returns-in-Bytes c =
-    let args = c.args in
-    let run-size = c.run_size in
-    let write-run = c.write_run in
-    record { value = sym c.in-Bytes.is ∙ run-size.ensures; out_after = holds-run args.input.now args.out.now run-size.result c.in-Bytes.n run-size.ensures c.in-Bytes.is _ write-run.ensures }
+pub returns : goal.returns
+returns c = record { value = c.in_ok-size.ensures; out_after = holds-run c.args.input.now c.args.out.now _ c.in_ok-size.ensures _ c.write_run.ensures }

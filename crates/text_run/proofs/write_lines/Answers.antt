@@ -6,4 +6,4 @@ pub returns : goal.returns
 returns c =
     let args = c.args in
     let step = c.step in
-    record { keeps = step.ensures.keeps_2; wrote = wrote _ args.line.now args.letters.now c.start.ensures _ _ _ c.requires.input_in_bounds _ _ _ step.ensures.steps }
+    record { keeps = step.ensures.still_keeps; wrote = wrote _ args.line.now args.letters.now c.start.ensures _ _ _ c.requires.input_in_bounds _ _ _ step.ensures.steps }

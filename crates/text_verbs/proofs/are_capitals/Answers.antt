@@ -1,10 +1,15 @@
 -- `text_verbs::are_capitals` meets its contract. Assumes nothing.
-use mathlib.Core.Path.{◌∙◌}
-use Rattle.text_verbs.proofs.Verbs.{capitals_none, capitals_some}
+use native.Mathlib.Omega.{arith}
+use borrow.Author.Rules.{rules}
+use Rattle.std.proofs.lemmas.Bool.Decides.{nat_tests}
+use Rattle.rules.specs.Bytes.{is_capital}
+use Rattle.rules.specs.Line.{are_capitals}
 use Rattle.text_verbs.proofs.are_capitals.Goals as goal
 
-pub returns-then-s-lt1 : goal.returns-then-s-lt1
-returns-then-s-lt1 c = capitals_none _ c.if-s-lt1.true
+pub returns-then-not-is_empty : goal.returns-then-not-is_empty
+unfolding are_capitals
+returns-then-not-is_empty c = let e = c.all_bytes.ensures.value is_capital (search rules) in grind (arith, nat_tests, e)
 
-pub returns : goal.returns
-returns c = c.all_capitals.ensures ∙ capitals_some _ c.if-s-lt1.false
+pub returns-else-not-is_empty : goal.returns-else-not-is_empty
+unfolding are_capitals
+returns-else-not-is_empty c = grind (arith, nat_tests)
