@@ -4,11 +4,11 @@
 ghost use Rattle.std.specs.Prelude.{◌≡◌};
 ghost use Rattle.rules.specs.Bytes.{given};
 ghost use Rattle.rules.specs.Refusals.{told};
-ghost use Rattle.rules.specs.Values.{told_by};
+ghost use Rattle.rules.specs.Values.{class_number, told_by};
 ghost use Rattle.host_told.specs.Told.{length_of, alone_of, told_of, answer_of, checked_of, paired_of, transcribed_of};
 
 use altseq::Transcribed;
-use rules::{PairReport, Record, Refusal, Report, Verdict};
+use rules::{Class, PairReport, Record, Refusal, Report, Verdict};
 
 // A refusal's number and 0, or 0 and the bytes written from the buffer's start.
 #[repr(C)]
@@ -99,6 +99,12 @@ fn alone(answer: u64, refusal: u64) -> GarumbottAnswer
     }
 }
 
+fn class_number(class: Class) -> u64
+    ensures { result ≡ class_number class }
+{
+    class as u64
+}
+
 // What a record tells.
 fn told_by(found: Record) -> GarumbottAnswer
     ensures { result ≡ told_of (told_by found) }
@@ -118,7 +124,7 @@ fn told_by(found: Record) -> GarumbottAnswer
             }
         }
         Record::Changed(change) => GarumbottAnswer {
-            change: change.class as u64,
+            change: class_number(change.class),
             number: change.number as u64,
             deleted_at: change.deleted.at as u64,
             deleted_len: change.deleted.len as u64,
@@ -202,10 +208,10 @@ impl From<Result<PairReport, Refusal>> for GarumbottPaired {
 
     fn from(answer: Result<PairReport, Refusal>) -> GarumbottPaired {
         match answer {
-            Ok(report) => GarumbottPaired {
+            Ok(pair) => GarumbottPaired {
                 refusal: 0,
-                transcript_len: report.transcript as u64,
-                altered_len: report.altered as u64,
+                transcript_len: pair.transcript as u64,
+                altered_len: pair.altered as u64,
             },
             Err(refusal) => GarumbottPaired {
                 refusal: refusal.number() as u64,
