@@ -1,14 +1,13 @@
 // The settings of a bench.
 ghost use Rattle.std.specs.Prelude.{◌≡◌, length};
 ghost use Rattle.rules.specs.Bytes.{over};
-ghost use Rattle.rules.specs.Settings.{store_values, stored_settings, written_settings};
-ghost use Rattle.rules.specs.declared.Store.TheVariants as store;
+ghost use Rattle.rules.specs.Settings.{store_told, store_values, stored_settings, written_settings};
 ghost use Rattle.rules.specs.Answer.{written_of, bytes_of};
 ghost use Rattle.host_told.specs.Told.{length_of};
 ghost use Rattle.garumbott.specs.Kept.{settings_numbers, host_settings};
 
-use host_told::{GarumbottLength, length_of, wide};
-use rules::{Settings, Store};
+use host_told::GarumbottLength;
+use rules::{Refusal, Settings, Unread};
 use settings::{read_settings, write_settings};
 
 // Document 02's number and values for each case of a store that is read.
@@ -39,27 +38,23 @@ fn unread(refusal: u64, newer: u64) -> GarumbottSettings
     }
 }
 
-fn held(x: Settings) -> GarumbottSettings
-    ensures { result ≡ settings_numbers (store_values (store.Held x)) }
-{
-    GarumbottSettings {
-        refusal: 0,
-        newer: 0,
-        version: wide(x.version),
-        table: wide(x.table),
-        profile: wide(x.profile),
-        width: wide(x.width),
-        longest: wide(x.longest),
-    }
-}
+impl From<Result<Settings, Unread>> for GarumbottSettings {
+    ghost from_gives = { λ read numbers. numbers ≡ settings_numbers (store_values (store_told read)) };
 
-fn settings_of(s: Store) -> GarumbottSettings
-    ensures { result ≡ settings_numbers (store_values s) }
-{
-    match s {
-        Store::Refused(n) => unread(wide(n), 0),
-        Store::Newer => unread(60, 1),
-        Store::Held(x) => held(x),
+    fn from(read: Result<Settings, Unread>) -> GarumbottSettings {
+        match read {
+            Ok(settings) => GarumbottSettings {
+                refusal: 0,
+                newer: 0,
+                version: settings.version as u64,
+                table: settings.table as u64,
+                profile: settings.profile as u64,
+                width: settings.width as u64,
+                longest: settings.longest as u64,
+            },
+            Err(Unread::Refused(refusal)) => unread(refusal.number() as u64, 0),
+            Err(Unread::Newer) => unread(Refusal::Version.number() as u64, 1),
+        }
     }
 }
 
@@ -67,7 +62,7 @@ fn settings_of(s: Store) -> GarumbottSettings
 pub extern "C" fn garumbott_read_settings(newest: u64, data: &[u8]) -> GarumbottSettings
     ensures { result ≡ settings_numbers (store_values (stored_settings newest «data».now)) }
 {
-    settings_of(read_settings(newest as usize, data))
+    GarumbottSettings::from(read_settings(newest as usize, data))
 }
 
 #[unsafe(no_mangle)]
@@ -89,5 +84,5 @@ pub extern "C" fn garumbott_write_settings(
         width: width as usize,
         longest: longest as usize,
     };
-    length_of(write_settings(x, out))
+    GarumbottLength::from(write_settings(x, out))
 }

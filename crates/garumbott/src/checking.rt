@@ -7,7 +7,7 @@ ghost use Rattle.garumbott.specs.Host.{host_reference, host_asked, Judges};
 
 use checks::Proposed;
 use host_given::{cds_at, edit_at, form_at};
-use host_told::{GarumbottChecked, checked_of};
+use host_told::GarumbottChecked;
 use rules::Question;
 use stored_fields::exceptions_in;
 use within::{Claim, check_within};
@@ -57,7 +57,7 @@ pub extern "C" fn garumbott_check(
         proposed,
         longest: longest as usize,
     };
-    checked_of(check_within(
+    GarumbottChecked::from(check_within(
         letters, claim, bases, deleted, inserted, transcript, reference, altered,
     ))
 }

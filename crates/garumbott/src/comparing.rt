@@ -4,13 +4,30 @@ ghost use Rattle.rules.specs.Bytes.{over};
 ghost use Rattle.rules.specs.Refusal.{limits};
 ghost use Rattle.rules.specs.Editions.{compared};
 ghost use Rattle.rules.specs.Answer.{written_of, bytes_of};
+ghost use Rattle.editions.specs.Uncompared.{compared_told};
 ghost use Rattle.host_told.specs.Told.{length_of};
 ghost use Rattle.garumbott.specs.Host.{host_reference};
 
-use editions::{Edition, compare};
+use editions::{Edition, Uncompared, compare};
 use host_given::{cds_at, form_at};
-use host_told::{GarumbottLength, length_of};
+use host_told::GarumbottLength;
 use stored_fields::exceptions_in;
+
+// What a comparison answers; its refusals have numbers of their own.
+fn compared(written: Result<usize, Uncompared>) -> GarumbottLength
+    ensures { result ≡ length_of (compared_told written) }
+{
+    match written {
+        Ok(n) => GarumbottLength {
+            refusal: 0,
+            len: n as u64,
+        },
+        Err(uncompared) => GarumbottLength {
+            refusal: uncompared.number() as u64,
+            len: 0,
+        },
+    }
+}
 
 #[unsafe(no_mangle)]
 pub extern "C" fn garumbott_compare(
@@ -49,5 +66,5 @@ pub extern "C" fn garumbott_compare(
         cds: second_cds,
         e: second_e,
     };
-    length_of(compare(letters, first, second_letters, second, out))
+    compared(compare(letters, first, second_letters, second, out))
 }

@@ -5,7 +5,7 @@ ghost use Rattle.pairs.specs.Carrying.{pair_room_of};
 ghost use Rattle.garumbott.specs.Host.{host_reference, host_asked, Joins};
 
 use host_given::{cds_at, edit_at, form_at};
-use host_told::{GarumbottPaired, paired_of};
+use host_told::GarumbottPaired;
 use pairs::Question;
 use stored_fields::exceptions_in;
 use within::pair_within;
@@ -58,7 +58,7 @@ pub extern "C" fn garumbott_pair(
         first,
         second,
     };
-    paired_of(pair_within(
+    GarumbottPaired::from(pair_within(
         letters,
         asks,
         longest as usize,

@@ -4,7 +4,7 @@ ghost use Rattle.rules.specs.Views.{room_of};
 ghost use Rattle.garumbott.specs.Host.{host_reference, host_asked, Tells};
 
 use host_given::{cds_at, edit_at, form_at};
-use host_told::{GarumbottAnswer, answer_of};
+use host_told::GarumbottAnswer;
 use rules::Question;
 use stored_fields::exceptions_in;
 use within::panel_within;
@@ -44,7 +44,7 @@ pub extern "C" fn garumbott_panel(
         e,
         edit,
     };
-    answer_of(panel_within(
+    GarumbottAnswer::from(panel_within(
         letters,
         asks,
         named as usize,

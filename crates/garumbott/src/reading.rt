@@ -2,12 +2,13 @@
 ghost use Rattle.std.specs.Prelude.{◌≡◌, ◌+◌, ◌≤◌, length, if◌then◌else◌};
 ghost use Rattle.rules.specs.Bytes.{over};
 ghost use Rattle.rules.specs.Refusal.{limits};
+ghost use Rattle.rules.specs.Refusals.{refusal_number};
 ghost use Rattle.rules.specs.Stored.{written_joined};
 ghost use Rattle.garumbott.specs.Keeping.{placed_numbers, refused_numbers, stored_numbers};
 
-use host_told::flag_number;
+use rules::Refusal;
 use stored::{is_joined, read_stored};
-use stored_fields::{Stored, StoredAt};
+use stored_fields::StoredAt;
 
 // A reference's numbers, and where its letters and its exceptions stand in the host's bytes, or joined letters in the buffer that it lent; or a
 // refusal's number.
@@ -39,7 +40,6 @@ fn placed(p: StoredAt) -> GarumbottStored
 {
     let joined = is_joined(p);
     let letters_at = letters_place(joined, p.letters.at);
-    let flag = flag_number(joined);
     GarumbottStored {
         refusal: 0,
         cs: p.cds.cs as u64,
@@ -50,15 +50,15 @@ fn placed(p: StoredAt) -> GarumbottStored
         exceptions_at: p.exceptions.at as u64,
         exceptions_len: p.exceptions.len as u64,
         end: p.cds.end as u64,
-        joined: flag,
+        joined: joined as u64,
     }
 }
 
-fn refused(n: usize) -> GarumbottStored
-    ensures { result ≡ refused_numbers n }
+fn refused(refusal: Refusal) -> GarumbottStored
+    ensures { result ≡ refused_numbers (refusal_number refusal) }
 {
     GarumbottStored {
-        refusal: n as u64,
+        refusal: refusal.number() as u64,
         cs: 0,
         ce: 0,
         table: 0,
@@ -77,7 +77,7 @@ pub extern "C" fn garumbott_read_stored(data: &[u8], joined: &mut [u8]) -> Garum
     ensures joined_after { joined.new ≡ over (written_joined limits.longest (length joined.old) «data».now) joined.old }
 {
     match read_stored(data, joined) {
-        Stored::Refused(n) => refused(n),
-        Stored::At(p) => placed(p),
+        Ok(p) => placed(p),
+        Err(refusal) => refused(refusal),
     }
 }

@@ -8,7 +8,7 @@ ghost use Rattle.host_told.specs.Told.{transcribed_of};
 ghost use Rattle.garumbott.specs.Host.{host_reference, host_asked, Tells};
 
 use host_given::{cds_at, edit_at, form_at};
-use host_told::{GarumbottAnswer, answer_of, transcribed_of};
+use host_told::GarumbottAnswer;
 use rules::Question;
 use stored_fields::exceptions_in;
 use within::{record_within, transcript_within};
@@ -44,7 +44,13 @@ pub extern "C" fn garumbott_edit(
         e,
         edit,
     };
-    transcribed_of(transcript_within(letters, asks, longest as usize, bases, transcript))
+    GarumbottAnswer::from(transcript_within(
+        letters,
+        asks,
+        longest as usize,
+        bases,
+        transcript,
+    ))
 }
 
 #[unsafe(no_mangle)]
@@ -81,7 +87,7 @@ pub extern "C" fn garumbott_record(
         e,
         edit,
     };
-    answer_of(record_within(
+    GarumbottAnswer::from(record_within(
         letters,
         asks,
         longest as usize,

@@ -8,7 +8,7 @@ ghost use Rattle.host_told.specs.Told.{length_of};
 ghost use Rattle.garumbott.specs.Host.{host_reference};
 
 use host_given::{cds_at, form_at};
-use host_told::{GarumbottLength, length_of};
+use host_told::GarumbottLength;
 use stored_fields::exceptions_in;
 use storing::write_stored;
 
@@ -29,5 +29,5 @@ pub extern "C" fn garumbott_write_stored(
 {
     let cds = cds_at(cs, ce, table, cds_end);
     let e = exceptions_in(exceptions);
-    length_of(write_stored(letters, form_at(form, size), cds, e, out))
+    GarumbottLength::from(write_stored(letters, form_at(form, size), cds, e, out))
 }

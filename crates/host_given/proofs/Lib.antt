@@ -1,3 +1,2 @@
--- Laws of the numbers that a host gives, which the functions' proofs and the crates above cite.
-pub mod Signed
+-- What the crate above cites.
 pub mod Given

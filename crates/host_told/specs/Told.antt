@@ -1,24 +1,20 @@
 -- The numbers that a host gets.
-use Rattle.std.specs.Prelude.{ℕ}
-use Rattle.rules.specs.declared.Written.{Written}
-use Rattle.rules.specs.declared.Written.TheVariants as written
-use Rattle.rules.specs.declared.Answer.{Answer}
-use Rattle.rules.specs.declared.Check.{Check}
-use Rattle.rules.specs.declared.Check.TheVariants as check
-use Rattle.rules.specs.declared.Paired.{Paired}
-use Rattle.rules.specs.declared.Paired.TheVariants as paired
+use Rattle.std.specs.Prelude.{ℕ, Option, None, Some}
+use Rattle.rules.specs.declared.Report.{Report}
+use Rattle.rules.specs.declared.Verdict.{Verdict}
+use Rattle.rules.specs.declared.PairReport.{PairReport}
+use Rattle.rules.specs.Bytes.{Result, given, refused}
 use Rattle.rules.specs.Values.{flag_number, Told, Values, values_of}
 use Rattle.altseq.specs.declared.alone.Transcribed.{Transcribed}
-use Rattle.altseq.specs.declared.alone.Transcribed.TheVariants as transcribed
 use Rattle.host_told.specs.declared.GarumbottLength.{GarumbottLength}
 use Rattle.host_told.specs.declared.GarumbottAnswer.{GarumbottAnswer}
 use Rattle.host_told.specs.declared.GarumbottChecked.{GarumbottChecked}
 use Rattle.host_told.specs.declared.GarumbottPaired.{GarumbottPaired}
 
 -- what a function that fills one buffer answers
-abbrev pub length_of : Written → GarumbottLength
-length_of (written.Refused n) = record { refusal = n; len = 0 }
-length_of (written.Bytes n) = record { refusal = 0; len = n }
+abbrev pub length_of : Result ℕ → GarumbottLength
+length_of (refused n) = record { refusal = n; len = 0 }
+length_of (given n) = record { refusal = 0; len = n }
 
 -- an answer's number, a refusal's number, and nothing else
 abbrev pub alone_of : ℕ → ℕ → GarumbottAnswer
@@ -60,7 +56,7 @@ numbers_of v =
       codons = v.codons;
     }
 
-abbrev pub answer_of : Answer → GarumbottAnswer
+abbrev pub answer_of : Result Report → GarumbottAnswer
 answer_of a = numbers_of (values_of a)
 
 -- what a record tells, with no flag, no lengths and no codon looked up
@@ -68,15 +64,15 @@ abbrev pub told_of : Told → GarumbottAnswer
 told_of t = numbers_of (record { refusal = 0; frameshift = 0; transcript = 0; reference = 0; altered = 0; told = t; codons = 0 })
 
 -- the altered transcript alone: answer 4 where it was written
-abbrev pub transcribed_of : Transcribed → GarumbottAnswer
-transcribed_of (transcribed.Refused n) = alone_of 0 n
-transcribed_of transcribed.Unknown = alone_of 1 0
-transcribed_of (transcribed.Written n flag) =
+abbrev pub transcribed_of : Result (Option Transcribed) → GarumbottAnswer
+transcribed_of (refused n) = alone_of 0 n
+transcribed_of (given None) = alone_of 1 0
+transcribed_of (given (Some x)) =
     record {
       answer = 4;
       refusal = 0;
-      frameshift = flag_number flag;
-      transcript_len = n;
+      frameshift = flag_number x.frameshift;
+      transcript_len = x.length;
       reference_len = 0;
       altered_len = 0;
       change = 0;
@@ -90,10 +86,10 @@ transcribed_of (transcribed.Written n flag) =
     }
 
 -- what a proposed record is answered
-abbrev pub checked_of : Check → GarumbottChecked
-checked_of (check.Refused n) =
+abbrev pub checked_of : Result Verdict → GarumbottChecked
+checked_of (refused n) =
     record { refusal = n; replays = 0; shortest = 0; transcript_len = 0; reference_len = 0; altered_len = 0 }
-checked_of (check.Judged v) =
+checked_of (given v) =
     record {
       refusal = 0;
       replays = flag_number v.replays;
@@ -104,6 +100,6 @@ checked_of (check.Judged v) =
     }
 
 -- what a pair is answered: a refusal's number and no lengths, or the bytes written to each of the two buffers
-abbrev pub paired_of : Paired → GarumbottPaired
-paired_of (paired.Refused n) = record { refusal = n; transcript_len = 0; altered_len = 0 }
-paired_of (paired.Carried t a) = record { refusal = 0; transcript_len = t; altered_len = a }
+abbrev pub paired_of : Result PairReport → GarumbottPaired
+paired_of (refused n) = record { refusal = n; transcript_len = 0; altered_len = 0 }
+paired_of (given x) = record { refusal = 0; transcript_len = x.transcript; altered_len = x.altered }

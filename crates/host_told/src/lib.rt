@@ -1,14 +1,14 @@
 // The numbers that a host gets: lengths, and the values of each case of an answer.
 #![tactic(auto)]
 
-ghost use Rattle.std.specs.Prelude.{◌≡◌, ◌-◌};
-ghost use Rattle.rules.specs.declared.Answer.TheVariants as answer;
-ghost use Rattle.rules.specs.declared.Check.TheVariants as check;
-ghost use Rattle.rules.specs.Values.{class_number, flag_number, told_by};
+ghost use Rattle.std.specs.Prelude.{◌≡◌};
+ghost use Rattle.rules.specs.Bytes.{given};
+ghost use Rattle.rules.specs.Refusals.{told};
+ghost use Rattle.rules.specs.Values.{class_number, told_by};
 ghost use Rattle.host_told.specs.Told.{length_of, alone_of, told_of, answer_of, checked_of, paired_of, transcribed_of};
 
 use altseq::Transcribed;
-use rules::{Answer, Check, Class, Paired, Record, Report, Verdict, Written};
+use rules::{Class, PairReport, Record, Refusal, Report, Verdict};
 
 // A refusal's number and 0, or 0 and the bytes written from the buffer's start.
 #[repr(C)]
@@ -59,62 +59,26 @@ pub struct GarumbottPaired {
     pub altered_len: u64,
 }
 
-pub fn wide(n: usize) -> u64
-    ensures { result ≡ n }
-{
-    n as u64
-}
-
 // The answer of a function that fills one buffer.
-pub fn length_of(w: Written) -> GarumbottLength
-    ensures { result ≡ length_of w }
-{
-    match w {
-        Written::Refused(n) => GarumbottLength {
-            refusal: wide(n),
-            len: 0,
-        },
-        Written::Bytes(n) => GarumbottLength {
-            refusal: 0,
-            len: wide(n),
-        },
-    }
-}
+impl From<Result<usize, Refusal>> for GarumbottLength {
+    ghost from_gives = { λ written length. length ≡ length_of (told written) };
 
-fn class_number(c: Class) -> u64
-    ensures { result ≡ class_number c }
-{
-    match c {
-        Class::StartLost => 1,
-        Class::Extension => 2,
-        Class::StopGained => 3,
-        Class::Frameshift => 4,
-        Class::Substitution => 5,
-        Class::Deletion => 6,
-        Class::Duplication => 7,
-        Class::Insertion => 8,
-        Class::Delins => 9,
+    fn from(written: Result<usize, Refusal>) -> GarumbottLength {
+        match written {
+            Ok(n) => GarumbottLength {
+                refusal: 0,
+                len: n as u64,
+            },
+            Err(refusal) => GarumbottLength {
+                refusal: refusal.number() as u64,
+                len: 0,
+            },
+        }
     }
-}
-
-pub fn flag_number(flag: bool) -> u64
-    ensures { result ≡ flag_number flag }
-{
-    if flag { 1 } else { 0 }
-}
-
-// The place of the residue with a number.
-fn residue_place(number: usize) -> u64
-    ensures { result ≡ number - 1 }
-{
-    if number == 0 {
-        return 0;
-    }
-    wide(number - 1)
 }
 
 // An answer's number, a refusal's number, and nothing else.
-pub fn alone(answer: u64, refusal: u64) -> GarumbottAnswer
+fn alone(answer: u64, refusal: u64) -> GarumbottAnswer
     ensures { result ≡ alone_of answer refusal }
 {
     GarumbottAnswer {
@@ -135,6 +99,12 @@ pub fn alone(answer: u64, refusal: u64) -> GarumbottAnswer
     }
 }
 
+fn class_number(class: Class) -> u64
+    ensures { result ≡ class_number class }
+{
+    class as u64
+}
+
 // What a record tells.
 fn told_by(found: Record) -> GarumbottAnswer
     ensures { result ≡ told_of (told_by found) }
@@ -143,115 +113,111 @@ fn told_by(found: Record) -> GarumbottAnswer
         Record::Unknown => alone(1, 0),
         Record::NoProtein => alone(2, 0),
         Record::Silent { number, residue: _ } => {
-            let mut r = alone(3, 0);
-            let at = residue_place(number);
-            r.number = wide(number);
-            r.deleted_at = at;
-            r.deleted_len = 1;
-            r.inserted_at = at;
-            r.inserted_len = 1;
-            r
+            let at = number.saturating_sub(1) as u64;
+            GarumbottAnswer {
+                number: number as u64,
+                deleted_at: at,
+                deleted_len: 1,
+                inserted_at: at,
+                inserted_len: 1,
+                ..alone(3, 0)
+            }
         }
-        Record::Changed(c) => {
-            let class = c.class;
-            let mut r = alone(4, 0);
-            r.change = class_number(class);
-            r.number = wide(c.number);
-            r.deleted_at = wide(c.deleted.at);
-            r.deleted_len = wide(c.deleted.len);
-            r.inserted_at = wide(c.inserted.at);
-            r.inserted_len = wide(c.inserted.len);
-            r.first = wide(c.first);
-            r
-        }
+        Record::Changed(change) => GarumbottAnswer {
+            change: class_number(change.class),
+            number: change.number as u64,
+            deleted_at: change.deleted.at as u64,
+            deleted_len: change.deleted.len as u64,
+            inserted_at: change.inserted.at as u64,
+            inserted_len: change.inserted.len as u64,
+            first: change.first as u64,
+            ..alone(4, 0)
+        },
     }
 }
 
 // A report's record, flag, lengths and codons looked up.
-fn reported(p: Report) -> GarumbottAnswer
-    ensures { result ≡ answer_of (answer.Reported p) }
+fn reported(report: Report) -> GarumbottAnswer
+    ensures { result ≡ answer_of (given report) }
 {
-    let found = p.found;
-    let mut r = told_by(found);
-    r.frameshift = flag_number(p.frameshift);
-    r.transcript_len = wide(p.transcript);
-    r.reference_len = wide(p.reference);
-    r.altered_len = wide(p.altered);
-    r.codons = wide(p.codons);
-    r
-}
-
-pub fn answer_of(a: Answer) -> GarumbottAnswer
-    ensures { result ≡ answer_of a }
-{
-    match a {
-        Answer::Refused(n) => alone(0, wide(n)),
-        Answer::Reported(p) => reported(p),
+    GarumbottAnswer {
+        frameshift: report.frameshift as u64,
+        transcript_len: report.transcript as u64,
+        reference_len: report.reference as u64,
+        altered_len: report.altered as u64,
+        codons: report.codons as u64,
+        ..told_by(report.found)
     }
 }
 
-// The answer where the altered transcript alone is asked for: 4 where it was written.
-pub fn transcribed_of(t: Transcribed) -> GarumbottAnswer
-    ensures { result ≡ transcribed_of t }
-{
-    match t {
-        Transcribed::Refused(n) => alone(0, wide(n)),
-        Transcribed::Unknown => alone(1, 0),
-        Transcribed::Written { length, frameshift } => {
-            let mut r = alone(4, 0);
-            r.frameshift = flag_number(frameshift);
-            r.transcript_len = wide(length);
-            r
+impl From<Result<Report, Refusal>> for GarumbottAnswer {
+    ghost from_gives = { λ answer numbers. numbers ≡ answer_of (told answer) };
+
+    fn from(answer: Result<Report, Refusal>) -> GarumbottAnswer {
+        match answer {
+            Ok(report) => reported(report),
+            Err(refusal) => alone(0, refusal.number() as u64),
         }
     }
 }
 
-// A verdict's two answers and lengths.
-fn judged(v: Verdict) -> GarumbottChecked
-    ensures { result ≡ checked_of (check.Judged v) }
-{
-    GarumbottChecked {
-        refusal: 0,
-        replays: flag_number(v.replays),
-        shortest: flag_number(v.shortest),
-        transcript_len: wide(v.transcript),
-        reference_len: wide(v.reference),
-        altered_len: wide(v.altered),
+// The answer where the altered transcript alone is asked for: 4 where it was written.
+impl From<Result<Option<Transcribed>, Refusal>> for GarumbottAnswer {
+    ghost from_gives = { λ answer numbers. numbers ≡ transcribed_of (told answer) };
+
+    fn from(answer: Result<Option<Transcribed>, Refusal>) -> GarumbottAnswer {
+        match answer {
+            Ok(Some(written)) => GarumbottAnswer {
+                frameshift: written.frameshift as u64,
+                transcript_len: written.length as u64,
+                ..alone(4, 0)
+            },
+            Ok(None) => alone(1, 0),
+            Err(refusal) => alone(0, refusal.number() as u64),
+        }
     }
 }
 
-pub fn checked_of(c: Check) -> GarumbottChecked
-    ensures { result ≡ checked_of c }
-{
-    match c {
-        Check::Refused(n) => GarumbottChecked {
-            refusal: wide(n),
-            replays: 0,
-            shortest: 0,
-            transcript_len: 0,
-            reference_len: 0,
-            altered_len: 0,
-        },
-        Check::Judged(v) => judged(v),
+impl From<Result<Verdict, Refusal>> for GarumbottChecked {
+    ghost from_gives = { λ answer numbers. numbers ≡ checked_of (told answer) };
+
+    fn from(answer: Result<Verdict, Refusal>) -> GarumbottChecked {
+        match answer {
+            Ok(verdict) => GarumbottChecked {
+                refusal: 0,
+                replays: verdict.replays as u64,
+                shortest: verdict.shortest as u64,
+                transcript_len: verdict.transcript as u64,
+                reference_len: verdict.reference as u64,
+                altered_len: verdict.altered as u64,
+            },
+            Err(refusal) => GarumbottChecked {
+                refusal: refusal.number() as u64,
+                replays: 0,
+                shortest: 0,
+                transcript_len: 0,
+                reference_len: 0,
+                altered_len: 0,
+            },
+        }
     }
 }
 
-pub fn paired_of(p: Paired) -> GarumbottPaired
-    ensures { result ≡ paired_of p }
-{
-    match p {
-        Paired::Refused(n) => GarumbottPaired {
-            refusal: wide(n),
-            transcript_len: 0,
-            altered_len: 0,
-        },
-        Paired::Carried {
-            transcript,
-            altered,
-        } => GarumbottPaired {
-            refusal: 0,
-            transcript_len: wide(transcript),
-            altered_len: wide(altered),
-        },
+impl From<Result<PairReport, Refusal>> for GarumbottPaired {
+    ghost from_gives = { λ answer numbers. numbers ≡ paired_of (told answer) };
+
+    fn from(answer: Result<PairReport, Refusal>) -> GarumbottPaired {
+        match answer {
+            Ok(pair) => GarumbottPaired {
+                refusal: 0,
+                transcript_len: pair.transcript as u64,
+                altered_len: pair.altered as u64,
+            },
+            Err(refusal) => GarumbottPaired {
+                refusal: refusal.number() as u64,
+                transcript_len: 0,
+                altered_len: 0,
+            },
+        }
     }
 }

@@ -59,14 +59,12 @@ pub fn end_of(s: &[u8], from: usize, b: u8) -> usize
     ensures value { result ≡ from + before b (drop from s.now) }
     ensures within { result ≤ length s.now }
 {
-    let mut i = from;
-    while i < s.len() {
+    for i in from..s.len() {
         if s[i] == b {
             return i;
         }
-        i += 1;
     }
-    i
+    s.len()
 }
 
 // The place behind another, but not behind the end.
@@ -82,10 +80,8 @@ fn field_start(s: &[u8], k: usize) -> usize
     ensures within { result ≤ length s.now }
 {
     let mut at = 0;
-    let mut left = k;
-    while 0 < left {
+    for _ in 0..k {
         at = behind(end_of(s, at, b' '), s.len());
-        left -= 1;
     }
     at
 }
@@ -110,10 +106,7 @@ pub fn word(s: &[u8], k: usize) -> &[u8]
 fn is_digit(b: u8) -> bool
     ensures { result ≡ is_digit b }
 {
-    match b {
-        b'0'..=b'9' => true,
-        _ => false,
-    }
+    matches!(b, b'0'..=b'9')
 }
 
 // The number with a digit behind it. Above 18446744073709551609 it is the largest number.
@@ -133,14 +126,12 @@ fn number_from(s: &[u8], from: usize) -> usize
     ensures { result ≡ number_in (drop from s.now) }
 {
     let mut n = 0;
-    let mut i = from;
-    while i < s.len() {
+    for i in from..s.len() {
         let b = s[i];
         if !is_digit(b) {
             return n;
         }
         n = with_digit(n, wide(b - b'0'));
-        i += 1;
     }
     n
 }
@@ -156,8 +147,7 @@ fn signs_of(b: u8) -> usize
     ensures { result ≡ signs b }
 {
     match b {
-        b'-' => 1,
-        b'*' => 1,
+        b'-' | b'*' => 1,
         _ => 0,
     }
 }

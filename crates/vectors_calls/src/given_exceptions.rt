@@ -60,15 +60,9 @@ pub fn exceptions_of(line: &[u8], first: usize, count: usize) -> Exceptions
     requires { first ≤ 18 }
     ensures { result ≡ exceptions_of line.now first count }
 {
-    let mut all = [Exception {
-        codon: 0,
-        residue: 0,
-    }; 16];
-    let stored = least(count, 16);
-    let mut i = 0;
-    while i < stored {
+    let mut all = Exceptions::none().all;
+    for i in 0..least(count, 16) {
         all[i] = exception_at(line, first, count, i);
-        i += 1;
     }
     Exceptions { all, count }
 }

@@ -32,11 +32,9 @@ fn fill(out: &mut [u8], a: u8, b: u8)
     ensures { out.new ≡ filled a b 1 (length out.old) }
 {
     let mut x = 1;
-    let mut i = 0;
-    while i < out.len() {
+    for i in 0..out.len() {
         out[i] = pick(x, a, b);
         x = next(x);
-        i += 1;
     }
 }
 
@@ -52,11 +50,9 @@ fn lay(out: &mut [u8], letters: &[u8])
     ensures { out.new ≡ laid letters.now out.old }
 {
     let n = least(out.len(), letters.len());
-    let mut i = 0;
-    while i < n {
+    for i in 0..n {
         let kept = out[i];
         out[i] = letter_or(letters[i], kept);
-        i += 1;
     }
 }
 

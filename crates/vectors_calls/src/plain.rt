@@ -1,11 +1,11 @@
 // A call of a function that stands alone: its arguments are fields behind the word that names it, the last one with all that follows.
 use crate::fields::{field, number, word};
 use crate::given_exceptions::exceptions_of;
-use crate::printing::{print, print_next, print_record};
+use crate::printing::{print, print_next, print_record, print_refusal};
 use names::{aa1_to_aa3, aa3_to_aa1};
 use numbers::least;
 use record::record_from;
-use rules::Written;
+use rules::Refusal;
 use sequences::{common_prefix_len, common_suffix_len, revcomp};
 use std::io;
 use std::io::Stdout;
@@ -30,16 +30,13 @@ fn print_lent(stdout: &mut Stdout, out: &[u8], room: usize) -> io::Result<()> {
 // The answer, and what the buffer of the marker holds.
 fn print_written(
     stdout: &mut Stdout,
-    answer: Written,
+    answer: Result<usize, Refusal>,
     out: &[u8; ROOM],
     room: usize,
 ) -> io::Result<()> {
     match answer {
-        Written::Bytes(n) => print_next(stdout, n)?,
-        Written::Refused(n) => {
-            print(stdout, b" refused")?;
-            print_next(stdout, n)?;
-        }
+        Ok(n) => print_next(stdout, n)?,
+        Err(refusal) => print_refusal(stdout, refusal)?,
     }
     print(stdout, b" ")?;
     print_lent(stdout, out, room)

@@ -3,7 +3,7 @@ ghost use Rattle.std.specs.Prelude.{◌≡◌, drop};
 ghost use Rattle.vectors_calls.specs.Printed.{check_value, are_markers};
 
 use numbers::wide;
-use rules::{Answer, Change, Class, Part, Record, Report};
+use rules::{Change, Part, Record, Refusal, Report};
 use std::io;
 use std::io::{Stdout, Write};
 
@@ -28,18 +28,9 @@ pub fn print_next(stdout: &mut Stdout, n: usize) -> io::Result<()> {
     print_number(stdout, n)
 }
 
-fn print_class(stdout: &mut Stdout, class: Class) -> io::Result<()> {
-    match class {
-        Class::StartLost => print(stdout, b" start-lost"),
-        Class::Extension => print(stdout, b" extension"),
-        Class::StopGained => print(stdout, b" stop-gained"),
-        Class::Frameshift => print(stdout, b" frameshift"),
-        Class::Substitution => print(stdout, b" substitution"),
-        Class::Deletion => print(stdout, b" deletion"),
-        Class::Duplication => print(stdout, b" duplication"),
-        Class::Insertion => print(stdout, b" insertion"),
-        Class::Delins => print(stdout, b" delins"),
-    }
+pub fn print_refusal(stdout: &mut Stdout, refusal: Refusal) -> io::Result<()> {
+    print(stdout, b" refused")?;
+    print_next(stdout, refusal.number())
 }
 
 fn print_part(stdout: &mut Stdout, part: Part) -> io::Result<()> {
@@ -48,8 +39,8 @@ fn print_part(stdout: &mut Stdout, part: Part) -> io::Result<()> {
 }
 
 fn print_change(stdout: &mut Stdout, change: Change) -> io::Result<()> {
-    let class = change.class;
-    print_class(stdout, class)?;
+    print(stdout, b" ")?;
+    print(stdout, change.class.name())?;
     print_next(stdout, change.number)?;
     print(stdout, b" deleted")?;
     print_part(stdout, change.deleted)?;
@@ -79,10 +70,8 @@ fn value_of(s: &[u8]) -> usize
     ensures { result ≡ check_value s.now }
 {
     let mut x = 0;
-    let mut i = 0;
-    while i < s.len() {
-        x = (x * 31 + wide(s[i])) % 1000003;
-        i += 1;
+    for &b in s {
+        x = (x * 31 + wide(b)) % 1000003;
     }
     x
 }
@@ -91,12 +80,10 @@ fn value_of(s: &[u8]) -> usize
 fn keeps(s: &[u8], from: usize) -> bool
     ensures { result ≡ are_markers (drop from s.now) }
 {
-    let mut i = from;
-    while i < s.len() {
+    for i in from..s.len() {
         if s[i] != b'.' {
             return false;
         }
-        i += 1;
     }
     true
 }
@@ -147,15 +134,14 @@ fn print_buffers(
 
 pub fn print_answer(
     stdout: &mut Stdout,
-    answer: Answer,
+    answer: Result<Report, Refusal>,
     transcript: &[u8; TRANSCRIPT_ROOM],
     reference: &[u8; REFERENCE_ROOM],
     altered: &[u8; ALTERED_ROOM],
 ) -> io::Result<()> {
     match answer {
-        Answer::Refused(n) => {
-            print(stdout, b" refused")?;
-            print_next(stdout, n)?;
+        Err(refusal) => {
+            print_refusal(stdout, refusal)?;
             let none = Lengths {
                 transcript: 0,
                 reference: 0,
@@ -163,7 +149,7 @@ pub fn print_answer(
             };
             print_buffers(stdout, transcript, reference, altered, none)
         }
-        Answer::Reported(report) => {
+        Ok(report) => {
             print_report(stdout, report)?;
             let written = Lengths {
                 transcript: report.transcript,

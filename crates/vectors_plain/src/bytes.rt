@@ -1,6 +1,6 @@
 // Every byte and many numbers: which of them are letters, residues and tables.
 use crate::plain::print_number;
-use rules::{Exception, Exceptions, Written};
+use rules::{Exception, Exceptions};
 use sequences::revcomp;
 use std::io;
 use std::io::{Stdout, Write};
@@ -12,7 +12,7 @@ const TABLES: usize = 300;
 fn print_opposite(stdout: &mut Stdout, b: u8) -> io::Result<()> {
     let one = [b; 1];
     let mut out = [0u8; 1];
-    if let Written::Bytes(_) = revcomp(&one, &mut out) {
+    if revcomp(&one, &mut out).is_ok() {
         stdout.write_all(b" ")?;
         stdout.write_all(&one)?;
         stdout.write_all(&out)?;
@@ -25,7 +25,7 @@ fn print_residue(stdout: &mut Stdout, b: u8) -> io::Result<()> {
     let one = [b; 1];
     let codon = [b; 3];
     let mut out = [0u8; 1];
-    if let Written::Bytes(_) = translate_cds(&codon, 0, true, &mut out) {
+    if translate_cds(&codon, 0, true, &mut out).is_ok() {
         stdout.write_all(b" ")?;
         stdout.write_all(&one)?;
         stdout.write_all(&out)?;
@@ -43,37 +43,31 @@ fn print_exception(stdout: &mut Stdout, b: u8) -> io::Result<()> {
         }; 16],
         count: 1,
     };
-    if let Written::Bytes(_) = translate_cds_with_exceptions(b"ATG", 0, e, true, &mut out) {
+    if translate_cds_with_exceptions(b"ATG", 0, e, true, &mut out).is_ok() {
         stdout.write_all(&out)?;
     }
     Ok(())
 }
 
-// One of the three.
-fn print_one(stdout: &mut Stdout, what: usize, b: u8) -> io::Result<()> {
-    match what {
-        0 => print_opposite(stdout, b),
-        1 => print_residue(stdout, b),
-        _ => print_exception(stdout, b),
-    }
-}
-
-// Every byte, by one of the three.
-fn print_each(stdout: &mut Stdout, name: &[u8], what: usize) -> io::Result<()> {
+// Every byte, as one of the three prints it.
+fn print_each<P: Fn(&mut Stdout, u8) -> io::Result<()>>(
+    stdout: &mut Stdout,
+    name: &[u8],
+    print: P,
+) -> io::Result<()>
+    requires { P.IsAlwaysCallable print }
+{
     stdout.write_all(name)?;
-    let mut b: u8 = 0;
-    while b < 255 {
-        print_one(stdout, what, b)?;
-        b += 1;
+    for b in 0..=255u8 {
+        print(stdout, b)?;
     }
-    print_one(stdout, what, 255)?;
     stdout.write_all(b"\n")
 }
 
 // A number that is a table.
 fn print_table(stdout: &mut Stdout, table: usize) -> io::Result<()> {
     let mut out = [0u8; 1];
-    if let Written::Bytes(_) = translate_cds(b"", table, true, &mut out) {
+    if translate_cds(b"", table, true, &mut out).is_ok() {
         stdout.write_all(b" ")?;
         print_number(stdout, table)?;
     }
@@ -82,17 +76,15 @@ fn print_table(stdout: &mut Stdout, table: usize) -> io::Result<()> {
 
 fn print_tables(stdout: &mut Stdout) -> io::Result<()> {
     stdout.write_all(b"tables")?;
-    let mut table = 0;
-    while table < TABLES {
+    for table in 0..TABLES {
         print_table(stdout, table)?;
-        table += 1;
     }
     stdout.write_all(b"\n")
 }
 
 pub fn print_bytes(stdout: &mut Stdout) -> io::Result<()> {
-    print_each(stdout, b"opposite", 0)?;
-    print_each(stdout, b"thrice", 1)?;
-    print_each(stdout, b"exceptions ", 2)?;
+    print_each(stdout, b"opposite", print_opposite)?;
+    print_each(stdout, b"thrice", print_residue)?;
+    print_each(stdout, b"exceptions ", print_exception)?;
     print_tables(stdout)
 }

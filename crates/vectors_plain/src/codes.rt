@@ -1,5 +1,5 @@
 // The codons of a table: the 64 plain ones, the 3,375 of the fifteen letters, and the table beside the plain reader.
-ghost use Rattle.std.specs.Prelude.{◌≡◌, ◌<◌, length};
+ghost use Rattle.std.specs.Prelude.{◌≡◌, false, ◌<◌, length};
 ghost use Rattle.codons.specs.Tables.{HoldsCode};
 ghost use Rattle.vectors_plain.specs.Rows.{number_at, letters_from};
 
@@ -54,11 +54,9 @@ fn put_codons(seq: &mut [u8])
     ensures { seq.new ≡ letters_from 0 10125 }
 {
     let letters = *b"ACGTRYSWKMBDHVN";
-    let mut j = 0;
-    while j < CODONS_LETTERS {
+    for j in 0..CODONS_LETTERS {
         let k = number_at(j);
         seq[j] = letters[k];
-        j += 1;
     }
 }
 
@@ -76,10 +74,8 @@ fn print_count(stdout: &mut Stdout, residues: &[u8], b: u8) -> io::Result<()> {
 
 // The number of each residue that occurs.
 fn print_counts(stdout: &mut Stdout, residues: &[u8]) -> io::Result<()> {
-    let mut b: u8 = 33;
-    while b < 91 {
+    for b in b'!'..=b'Z' {
         print_count(stdout, residues, b)?;
-        b += 1;
     }
     stdout.write_all(b"\n")
 }
@@ -97,30 +93,19 @@ fn print_ambiguous(stdout: &mut Stdout, table: usize) -> io::Result<()> {
     print_counts(stdout, &out)
 }
 
-// 1 where the table and the plain reader differ at a place of the table, which they never do.
-fn differs(table: usize, residues: &[u8; 4096], k: usize) -> usize
+// Whether the table and the plain reader differ at a place of the table, which they never do.
+fn differs(table: usize, residues: &[u8; 4096], k: usize) -> bool
     requires holds_code { HoldsCode table residues.now }
     requires table_bound { (table < 3) × (k < 4096) }
-    ensures { result ≡ 0 }
+    ensures { result ≡ false }
 {
     let a = k / 256;
     let b = k / 16 % 16;
     let c = k % 16;
-    if a == 0 {
-        return 0;
+    if a == 0 || b == 0 || c == 0 {
+        return false;
     }
-    if b == 0 {
-        return 0;
-    }
-    if c == 0 {
-        return 0;
-    }
-    let x = residue_in(table, residues, a, b, c);
-    let y = read_codon(table, a, b, c);
-    if x == y {
-        return 0;
-    }
-    1
+    residue_in(table, residues, a, b, c) != read_codon(table, a, b, c)
 }
 
 // At how many places they differ.
@@ -130,10 +115,10 @@ fn differing(table: usize) -> usize
 {
     let residues = residues_of(table);
     let mut n = 0;
-    let mut k = 0;
-    while k < PLACES {
-        n += differs(table, &residues, k);
-        k += 1;
+    for k in 0..PLACES {
+        if differs(table, &residues, k) {
+            n += 1;
+        }
     }
     n
 }

@@ -1,10 +1,9 @@
 // Names both ways, the complement, and translations of lengths around each limit.
-ghost use Rattle.std.specs.Prelude.{◌≡◌, replicate};
+ghost use Rattle.std.specs.Prelude.{◌≡◌};
 ghost use Rattle.rules.specs.Bytes.{count as count_of};
-ghost use Rattle.rules.specs.Translation.{no_exception};
 
 use names::{aa1_to_aa3, aa3_to_aa1};
-use rules::{Exception, Exceptions, Written};
+use rules::Refusal;
 use sequences::revcomp;
 use std::io;
 use std::io::{Stdout, Write};
@@ -20,35 +19,28 @@ const NAMED: usize = 25;
 
 const NAMES: usize = 75;
 
-pub fn no_exceptions() -> Exceptions
-    ensures { (result.all ≡ replicate 16 no_exception) × (result.count ≡ 0) }
-{
-    Exceptions {
-        all: [Exception {
-            codon: 0,
-            residue: 0,
-        }; 16],
-        count: 0,
-    }
-}
-
 pub fn print_number(stdout: &mut Stdout, n: usize) -> io::Result<()> {
     write!(stdout, "{n}")
 }
 
+pub fn print_refusal(stdout: &mut Stdout, refusal: Refusal) -> io::Result<()> {
+    write!(stdout, " refused {}", refusal.number())
+}
+
 // What an answer says, behind a space: the bytes that it wrote, or its number.
-pub fn print_answer(stdout: &mut Stdout, answer: Written, out: &[u8]) -> io::Result<()> {
+pub fn print_answer(
+    stdout: &mut Stdout,
+    answer: Result<usize, Refusal>,
+    out: &[u8],
+) -> io::Result<()> {
     match answer {
-        Written::Bytes(n) => {
+        Ok(n) => {
             stdout.write_all(b" ")?;
             if n <= out.len() {
                 stdout.write_all(&out[0..n])?;
             }
         }
-        Written::Refused(n) => {
-            stdout.write_all(b" refused ")?;
-            print_number(stdout, n)?;
-        }
+        Err(refusal) => print_refusal(stdout, refusal)?,
     }
     stdout.write_all(b"\n")
 }
@@ -76,12 +68,10 @@ pub fn count_of(s: &[u8], b: u8) -> usize
     ensures { result ≡ count_of b s.now }
 {
     let mut n = 0;
-    let mut i = 0;
-    while i < s.len() {
-        if s[i] == b {
+    for &x in s {
+        if x == b {
             n += 1;
         }
-        i += 1;
     }
     n
 }
@@ -107,26 +97,19 @@ fn print_length(stdout: &mut Stdout, letters: &[u8], n: usize) -> io::Result<()>
         return Ok(());
     }
     match translate_cds(&letters[0..n], 0, false, &mut out) {
-        Written::Bytes(m) => print_counts(stdout, m, &out)?,
-        Written::Refused(m) => {
-            stdout.write_all(b" refused ")?;
-            print_number(stdout, m)?;
-        }
+        Ok(m) => print_counts(stdout, m, &out)?,
+        Err(refusal) => print_refusal(stdout, refusal)?,
     }
     stdout.write_all(b"\n")
 }
 
 pub fn print_lengths(stdout: &mut Stdout) -> io::Result<()> {
     let letters = [b'A'; LETTERS];
-    print_length(stdout, &letters, 0)?;
-    print_length(stdout, &letters, 1)?;
-    print_length(stdout, &letters, 2)?;
-    print_length(stdout, &letters, 3)?;
-    print_length(stdout, &letters, 4)?;
-    print_length(stdout, &letters, 5)?;
-    print_length(stdout, &letters, 6)?;
-    print_length(stdout, &letters, 16382)?;
-    print_length(stdout, &letters, 16383)?;
-    print_length(stdout, &letters, 16384)?;
-    print_length(stdout, &letters, 16385)
+    for n in 0..7 {
+        print_length(stdout, &letters, n)?;
+    }
+    for n in 16382..16386 {
+        print_length(stdout, &letters, n)?;
+    }
+    Ok(())
 }

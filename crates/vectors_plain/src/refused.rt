@@ -1,25 +1,27 @@
 // Bad input: the refusal's number, and how many bytes of the buffer of eight stayed as they were.
 ghost use Rattle.std.specs.Prelude.{◌≡◌, replicate};
 
-use crate::plain::{count_of, no_exceptions, print_number};
+use crate::plain::{count_of, print_number, print_refusal};
 use names::{aa1_to_aa3, aa3_to_aa1};
-use rules::{Exception, Exceptions, Written};
+use rules::{Exception, Exceptions, Refusal};
 use sequences::revcomp;
 use std::io;
 use std::io::{Stdout, Write};
 use translation::translate_cds_with_exceptions;
 
-fn print_outcome(stdout: &mut Stdout, name: &[u8], answer: Written, out: &[u8]) -> io::Result<()> {
+fn print_outcome(
+    stdout: &mut Stdout,
+    name: &[u8],
+    answer: Result<usize, Refusal>,
+    out: &[u8],
+) -> io::Result<()> {
     stdout.write_all(name)?;
     match answer {
-        Written::Bytes(n) => {
+        Ok(n) => {
             stdout.write_all(b" writes ")?;
             print_number(stdout, n)?;
         }
-        Written::Refused(n) => {
-            stdout.write_all(b" refused ")?;
-            print_number(stdout, n)?;
-        }
+        Err(refusal) => print_refusal(stdout, refusal)?,
     }
     stdout.write_all(b" kept ")?;
     print_number(stdout, count_of(out, b'.'))?;
@@ -50,9 +52,9 @@ fn exceptions(codon: u32, residue: u8, count: usize) -> Exceptions
 }
 
 fn print_tables(stdout: &mut Stdout) -> io::Result<()> {
-    try_translation(stdout, b"table 3", b"ATG", 3, no_exceptions(), false)?;
-    try_translation(stdout, b"table 255", b"ATG", 255, no_exceptions(), false)?;
-    try_translation(stdout, b"table 3, no bases", b"", 3, no_exceptions(), false)
+    try_translation(stdout, b"table 3", b"ATG", 3, Exceptions::none(), false)?;
+    try_translation(stdout, b"table 255", b"ATG", 255, Exceptions::none(), false)?;
+    try_translation(stdout, b"table 3, no bases", b"", 3, Exceptions::none(), false)
 }
 
 fn print_exceptions(stdout: &mut Stdout) -> io::Result<()> {
@@ -108,10 +110,10 @@ fn print_rests(stdout: &mut Stdout) -> io::Result<()> {
         b"a rest, full codons",
         b"ATGA",
         0,
-        no_exceptions(),
+        Exceptions::none(),
         true,
     )?;
-    try_translation(stdout, b"a rest", b"ATGA", 0, no_exceptions(), false)
+    try_translation(stdout, b"a rest", b"ATGA", 0, Exceptions::none(), false)
 }
 
 fn print_lengths(stdout: &mut Stdout) -> io::Result<()> {
@@ -120,7 +122,7 @@ fn print_lengths(stdout: &mut Stdout) -> io::Result<()> {
         b"exactly full",
         b"ATGATGATGATGATGATGATGATG",
         0,
-        no_exceptions(),
+        Exceptions::none(),
         false,
     )?;
     try_translation(
@@ -128,7 +130,7 @@ fn print_lengths(stdout: &mut Stdout) -> io::Result<()> {
         b"one short",
         b"ATGATGATGATGATGATGATGATGA",
         0,
-        no_exceptions(),
+        Exceptions::none(),
         false,
     )?;
     try_translation(
@@ -136,7 +138,7 @@ fn print_lengths(stdout: &mut Stdout) -> io::Result<()> {
         b"one short, a bad byte",
         b"-TGATGATGATGATGATGATGATGA",
         0,
-        no_exceptions(),
+        Exceptions::none(),
         false,
     )
 }
@@ -147,7 +149,7 @@ fn print_codons(stdout: &mut Stdout) -> io::Result<()> {
         b"byte 0 in the last codon",
         b"ATGAT\x00",
         0,
-        no_exceptions(),
+        Exceptions::none(),
         false,
     )?;
     try_translation(
@@ -155,7 +157,7 @@ fn print_codons(stdout: &mut Stdout) -> io::Result<()> {
         b"byte 255 in the last codon",
         b"ATGAT\xff",
         0,
-        no_exceptions(),
+        Exceptions::none(),
         false,
     )
 }
@@ -166,7 +168,7 @@ fn print_ends(stdout: &mut Stdout) -> io::Result<()> {
         b"byte 0 in the rest",
         b"ATGA\x00",
         0,
-        no_exceptions(),
+        Exceptions::none(),
         false,
     )?;
     try_translation(
@@ -174,16 +176,16 @@ fn print_ends(stdout: &mut Stdout) -> io::Result<()> {
         b"byte 255 in the rest",
         b"ATG\xff",
         0,
-        no_exceptions(),
+        Exceptions::none(),
         false,
     )?;
-    try_translation(stdout, b"no bases", b"", 0, no_exceptions(), true)?;
+    try_translation(stdout, b"no bases", b"", 0, Exceptions::none(), true)?;
     try_translation(
         stdout,
         b"either case, U as T",
         b"augUAGtrA",
         0,
-        no_exceptions(),
+        Exceptions::none(),
         true,
     )
 }

@@ -1,13 +1,17 @@
 // What is read, as text.
-use rules::Part;
+use rules::{Part, Refusal};
 use std::io;
 use std::io::{Stdout, Write};
 use stored::read_stored;
-use stored_fields::{Stored, StoredAt};
+use stored_fields::StoredAt;
 
 pub fn print_number(stdout: &mut Stdout, before: &[u8], n: usize) -> io::Result<()> {
     stdout.write_all(before)?;
     write!(stdout, "{n}")
+}
+
+pub fn print_refusal(stdout: &mut Stdout, refusal: Refusal) -> io::Result<()> {
+    print_number(stdout, b": refused ", refusal.number())
 }
 
 fn print_part(stdout: &mut Stdout, before: &[u8], p: Part) -> io::Result<()> {
@@ -31,7 +35,7 @@ fn print_reference(stdout: &mut Stdout, p: StoredAt) -> io::Result<()> {
 pub fn print_stored(stdout: &mut Stdout, s: &[u8]) -> io::Result<()> {
     let mut joined = [0u8; 1];
     match read_stored(s, &mut joined) {
-        Stored::Refused(n) => print_number(stdout, b": refused ", n),
-        Stored::At(p) => print_reference(stdout, p),
+        Ok(p) => print_reference(stdout, p),
+        Err(refusal) => print_refusal(stdout, refusal),
     }
 }

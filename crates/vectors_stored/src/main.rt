@@ -86,12 +86,10 @@ fn main(rt: HostRuntime) -> io::Result<()> {
     let mut name = [0u8; NAME_ROOM];
     let mut form = [0u8; FORM_ROOM];
     let mut edit = [0u8; EDIT_ROOM];
-    let mut left = MOST_CASES;
-    while 0 < left {
+    for _ in 0..MOST_CASES {
         if !print_next(&mut stdin, &mut stdout, &mut name, &mut form, &mut edit)? {
-            return Ok(());
+            break;
         }
-        left -= 1;
     }
     Ok(())
 }

@@ -1,10 +1,9 @@
 // What an edit of a stored reference is answered, as text.
 ghost use Rattle.std.specs.Prelude.{◌≡◌, eqb, if◌then◌else◌};
-ghost use Rattle.rules.specs.Values.{kind_at};
 
-use crate::answers::print_number;
+use crate::answers::{print_number, print_refusal};
 use byte_numbers::two_bytes;
-use rules::{Answer, Change, Edit, Kind, Position, Record};
+use rules::{Change, Edit, Kind, Position, Record, Refusal, Report};
 use std::io;
 use std::io::{Stdout, Write};
 use stored::build_altseq_stored;
@@ -15,21 +14,6 @@ const TRANSCRIPT_ROOM: usize = 32;
 const REFERENCE_ROOM: usize = 8;
 
 const ALTERED_ROOM: usize = 16;
-
-fn kind_of(number: u8) -> Kind
-    ensures { result ≡ kind_at number }
-{
-    match number {
-        1 => Kind::Substitution,
-        2 => Kind::Deletion,
-        3 => Kind::Delins,
-        4 => Kind::Insertion,
-        5 => Kind::Duplication,
-        6 => Kind::Inversion,
-        7 => Kind::Identity,
-        _ => Kind::Other,
-    }
-}
 
 fn position_of(sign: u8, n: usize) -> Position
     ensures { result ≡ (if eqb sign 45 then Position.Minus n else if eqb sign 42 then Position.Star n else Position.Plus n) }
@@ -57,13 +41,10 @@ fn print_record(stdout: &mut Stdout, found: Record) -> io::Result<()> {
     }
 }
 
-fn print_answer(stdout: &mut Stdout, answer: Answer) -> io::Result<()> {
+fn print_answer(stdout: &mut Stdout, answer: Result<Report, Refusal>) -> io::Result<()> {
     match answer {
-        Answer::Refused(n) => print_number(stdout, b": refused ", n),
-        Answer::Reported(p) => {
-            let found = p.found;
-            print_record(stdout, found)
-        }
+        Ok(report) => print_record(stdout, report.found),
+        Err(refusal) => print_refusal(stdout, refusal),
     }
 }
 
@@ -90,7 +71,7 @@ pub fn print_edit(stdout: &mut Stdout, s: &[u8], e: &[u8]) -> io::Result<()> {
         return Ok(());
     }
     let edit = Edit {
-        kind: kind_of(e[0]),
+        kind: Kind::from(e[0] as u64),
         start: position_of(e[1], two_bytes(e, 2)),
         end: position_of(e[4], two_bytes(e, 5)),
     };
