@@ -46,6 +46,7 @@ pub(crate) fn part_prefix_len(
 }
 
 // How many last letters, up to a place, are equal to a block's.
+// Kept: it differs from block_prefix in the comparison that it calls, and a function of a comparison of two slices would say no less than both.
 fn block_suffix(packed: &[u8], at: usize, pairs: &[u16; 256], new: &[u8]) -> usize
     requires holds_pairs { HoldsPairs pairs.now }
     requires len_bound { length new.now ≤ 64 }
