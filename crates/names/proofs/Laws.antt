@@ -12,7 +12,7 @@ use lib.Seq.{drop-cons, drop-drop}
 use borrow.Author.Tests.{eq-eqb, ne_eqb, lt-ltb, le-ltb, ltb-true, ltb-false}
 use Rattle.rules.specs.Bytes.{same, is_none, all, each, first_number, given, refused, unless}
 use Rattle.rules.specs.Names.{names, three_in, one_in, three_of, one_of, threes, three_letters, one_letters}
-use Rattle.rules.proofs.Lists.{all_more, all-stop, all_at, each_more, each-end, length-each}
+use Rattle.rules.proofs.Lists.{each_more, each-end, length-each}
 use Rattle.rules.proofs.Over.{over_from, from_end, from_turn}
 use Rattle.names.specs.Rows.{table, three_at, one_at, is_one, is_three}
 

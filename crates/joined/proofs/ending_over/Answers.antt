@@ -21,7 +21,7 @@ overflow_sub-most c = let args = c.args in
 
 pub returns-then-most-behind : goal.returns-then-most-behind
 returns-then-most-behind c = let args = c.args in
-    rw c.if-flag.false (ending-most args.head args.back args.r.now args.m.now c.requires.joins args.s c.requires.s_value _ (ap (◌- args.s) c.least.ensures) c.if-most-behind.true)
+    rw c.if-flag.false (ending-most args.head args.back args.r.now args.m.now c.requires.joins args.s c.requires.s_value _ (ap (◌- args.s) c.min.ensures) c.if-most-behind.true)
 
 pub overflow_sub-from : goal.overflow_sub-from
 overflow_sub-from c = let args = c.args in
@@ -29,26 +29,26 @@ overflow_sub-from c = let args = c.args in
 
 pub slice_bounds-common_suffix_len-count : goal.slice_bounds-common_suffix_len-count
 slice_bounds-common_suffix_len-count c = let args = c.args in
-    (ending-some args.head args.back args.r.now args.m.now c.requires.joins args.s c.requires.s_value _ (ap (◌- args.s) c.least.ensures) c.if-most-behind.false).0
+    (ending-some args.head args.back args.r.now args.m.now c.requires.joins args.s c.requires.s_value _ (ap (◌- args.s) c.min.ensures) c.if-most-behind.false).0
 
 pub slice_bounds-common_suffix_len-start : goal.slice_bounds-common_suffix_len-start
 slice_bounds-common_suffix_len-start c = let args = c.args in
-    (ending-some args.head args.back args.r.now args.m.now c.requires.joins args.s c.requires.s_value _ (ap (◌- args.s) c.least.ensures) c.if-most-behind.false).0
+    (ending-some args.head args.back args.r.now args.m.now c.requires.joins args.s c.requires.s_value _ (ap (◌- args.s) c.min.ensures) c.if-most-behind.false).0
 
 pub slice_bounds-common_suffix_len-count-2 : goal.slice_bounds-common_suffix_len-count-2
 slice_bounds-common_suffix_len-count-2 c = let args = c.args in
-    (ending-some args.head args.back args.r.now args.m.now c.requires.joins args.s c.requires.s_value _ (ap (◌- args.s) c.least.ensures) c.if-most-behind.false).1
+    (ending-some args.head args.back args.r.now args.m.now c.requires.joins args.s c.requires.s_value _ (ap (◌- args.s) c.min.ensures) c.if-most-behind.false).1
 
 pub slice_bounds-common_suffix_len-start-2 : goal.slice_bounds-common_suffix_len-start-2
 slice_bounds-common_suffix_len-start-2 c = let args = c.args in
-    (ending-some args.head args.back args.r.now args.m.now c.requires.joins args.s c.requires.s_value _ (ap (◌- args.s) c.least.ensures) c.if-most-behind.false).1
+    (ending-some args.head args.back args.r.now args.m.now c.requires.joins args.s c.requires.s_value _ (ap (◌- args.s) c.min.ensures) c.if-most-behind.false).1
 
 pub overflow_add-result : goal.overflow_add-result
 overflow_add-result c = let args = c.args in
-    let all = ending-on args.head args.back args.r.now args.m.now c.requires.joins args.s c.requires.s_value _ c.common_suffix_len.result (ap (◌- args.s) c.least.ensures) c.if-most-behind.false c.common_suffix_len.ensures in
+    let all = ending-on args.head args.back args.r.now args.m.now c.requires.joins args.s c.requires.s_value _ c.common_suffix_len.result (ap (◌- args.s) c.min.ensures) c.if-most-behind.false c.common_suffix_len.ensures in
     let fits = (ending_fits false args.s _ args.r.now (joined args.head args.back args.r.now args.m.now) c.requires.s_value all).0 in
     omega arith
 
 pub returns : goal.returns
 returns c = let args = c.args in
-    rw c.if-flag.false (ending-on args.head args.back args.r.now args.m.now c.requires.joins args.s c.requires.s_value _ c.common_suffix_len.result (ap (◌- args.s) c.least.ensures) c.if-most-behind.false c.common_suffix_len.ensures)
+    rw c.if-flag.false (ending-on args.head args.back args.r.now args.m.now c.requires.joins args.s c.requires.s_value _ c.common_suffix_len.result (ap (◌- args.s) c.min.ensures) c.if-most-behind.false c.common_suffix_len.ensures)
