@@ -12,7 +12,7 @@ use positions::refusals::{edit_refusal, ends_after_transcript};
 use reference::Known;
 use rules::{Edit, Refusal};
 
-// Nothing where the edit is Unknown. `most` is the most new bases.
+// None where the edit is Unknown. `most` is the most new bases.
 pub fn decide(
     letters: &[u8],
     known: Known,

@@ -8,7 +8,7 @@ use Prim.Native.Nat.{ℕ, ◌+◌, ◌-◌, ◌*◌, ◌/◌, ◌%◌, ◌≤◌
 use native.Mathlib.Numerals.{add-one}
 use native.Mathlib.Omega.{arith}
 use lib.ListN.{length, take, drop, get_or, set}
-use lib.Seq.{take-length, take-suc, take-suc-set, get_or-take, length-take-le}
+use lib.Seq.{take-length, take-suc, take-suc-set}
 use borrow.Author.Tests.{le-leb, lt-leb, eq-eqb, ne_eqb}
 use Rattle.rules.specs.declared.Exception.{Exception}
 use Rattle.rules.specs.declared.Exceptions.{Exceptions}
@@ -23,7 +23,7 @@ use Rattle.rules.specs.declared.Limits.{Limits}
 use Rattle.rules.specs.Refusal.{refusal}
 use Rattle.rules.proofs.Over.{tail-is}
 use Rattle.rules.proofs.Translation.{length_exceptions, first_exceptions}
-use Rattle.rules.proofs.Reference.{Excepts, rising_cons, rising_of, rising_at}
+use Rattle.rules.proofs.Reference.{rising_cons, rising_of, rising_at}
 use Rattle.rules.proofs.Refusing.{reference-accepted}
 use Rattle.rules.proofs.Moved.{moved_to, suffix_fits, before-cds_shared, cds_fits}
 use Rattle.rules.proofs.Altered.{altered_length_lem, longest_altered, altered-fits}
