@@ -2,6 +2,9 @@
 -- handed on.
 -- Assumes nothing.
 use Rattle.std.specs.Prelude.{Option}
+use Rattle.std.specs.Prelude.{Result as Returned}
+use Rattle.std.specs.Result.{IsErrAnd}
+use Rattle.std.proofs.lemmas.Result.{err_from_is_err_and}
 use mathlib.Core.Path.{◌≡◌, refl, sym, ◌∙◌}
 use mathlib.Core.Bool.{true, false}
 use mathlib.Core.List.{List, []}
@@ -9,10 +12,13 @@ use Prim.Native.Nat.{ℕ}
 use lib.Dec.{ltb}
 use Rattle.rules.specs.declared.Edit.{Edit}
 use Rattle.rules.specs.declared.Limits.{Limits}
+use Rattle.rules.specs.declared.Refusal.{Refusal}
+use Rattle.rules.specs.declared.Refusal.TheVariants.{Setting}
 use Rattle.rules.specs.declared.Report.{Report}
 use Rattle.rules.specs.declared.Verdict.{Verdict}
 use Rattle.rules.specs.declared.PairReport.{PairReport}
 use Rattle.rules.specs.Bytes.{Result, refused, over}
+use Rattle.rules.specs.Refusals.{told}
 use Rattle.rules.specs.Reference.{Reference}
 use Rattle.rules.specs.Edit.{Asked}
 use Rattle.rules.specs.Altered.{altered_transcript, altered_length, frameshift}
@@ -34,6 +40,10 @@ use Rattle.altseq.proofs.Answering.{writes_nothing_lem}
 use Rattle.checks.specs.Checking.{CheckAnswers}
 use Rattle.pairs.specs.Carrying.{pair_room_of}
 use Rattle.within.specs.Edited.{edited_within}
+
+-- the exit of a `?` with 62
+pub exit-set : {A : Type 0} (x : Returned A Refusal) (r : Refusal) → IsErrAnd x (λ y. y ≡ r) → r ≡ Setting → told x ≡ refused 62
+exit-set x r h is = let p = err_from_is_err_and x h in rw (p.1, p.2, is)
 
 -- no longest edit: 62, with every buffer as it was
 module _ (n : ℕ) (h : is_given_longest n ≡ false) where

@@ -7,11 +7,11 @@ returns-then-is_insertion c =
     let a = c.args in
     let is = c.is_insertion in
     let set = c.setup_incorporate-range in
-    record { start_by_index = λ s new long. gap_from a.c a.len a.edit is.result is.ensures s new long c.if-is_insertion.true set.result.start set.ensures.start_value_2; end_by_index = λ s new long. gap-to a.c a.len a.edit is.result is.ensures s new long c.if-is_insertion.true set.result.start set.ensures.start_value_2 }
+    record { start_by_index = λ s new long. gap_from a.c a.len a.edit is.result is.ensures s new long c.if-is_insertion.true set.result.start set.ensures.start_index; end_by_index = λ s new long. gap-to a.c a.len a.edit is.result is.ensures s new long c.if-is_insertion.true set.result.start set.ensures.start_index }
 
 pub returns : goal.returns
 returns c =
     let a = c.args in
     let is = c.is_insertion in
     let set = c.setup_incorporate-range in
-    record { start_by_index = λ s new long. range-from a.c a.len a.edit is.result is.ensures s new long c.if-is_insertion.false set.result.start set.ensures.start_value_2; end_by_index = λ s new long. range-to a.c a.len a.edit is.result is.ensures s new long c.if-is_insertion.false set.result.end set.ensures.end_value_2 }
+    record { start_by_index = λ s new long. range-from a.c a.len a.edit is.result is.ensures s new long c.if-is_insertion.false set.result.start set.ensures.start_index; end_by_index = λ s new long. range-to a.c a.len a.edit is.result is.ensures s new long c.if-is_insertion.false set.result.end set.ensures.end_index }

@@ -3,12 +3,14 @@ use mathlib.Core.Path.{sym, ap, ◌∙◌}
 use Rattle.rules.specs.Bytes.{given}
 use Rattle.rules.specs.Packed.{letters_by}
 use Rattle.checks.proofs.Deciding.{decides-refused, decides-unknown, may-change, decides-changed, decides-unchanged}
+use Rattle.reference.proofs.Judging.{exit-told}
 use Rattle.checks.proofs.decide_changing.Goals as goal
 
 pub returns-in_err-decided : goal.returns-in_err-decided
 returns-in_err-decided c =
     let a = c.args in
-    decides-refused (letters_by a.known.form a.letters.now) a.known a.e a.protein.now c.requires a.edit a.new.now (record { transcript = a.room.transcript; reference = a.room.reference; altered = a.room.altered }) _ c.in_err-decided.ensures
+    exit-told _ _ c.from_residual.ensures.1
+    ∙ decides-refused (letters_by a.known.form a.letters.now) a.known a.e a.protein.now c.requires a.edit a.new.now (record { transcript = a.room.transcript; reference = a.room.reference; altered = a.room.altered }) _ c.in_err-decided.ensures
 
 pub returns-in_default : goal.returns-in_default
 returns-in_default c =

@@ -4,12 +4,13 @@ use Rattle.rules.specs.Packed.{letters_by}
 use Rattle.rules.specs.Views.{bare, asked, reference_of}
 use Rattle.edits.proofs.Planning.{planned}
 use Rattle.joints.proofs.Joining.{tests-bare, plan-bare, none-early, joint-early, joint-stopped, joint-both}
+use Rattle.reference.proofs.Judging.{exit-told}
 use Rattle.joints.proofs.decide_pair.Goals as goal
 
 pub returns-in_err-early_refusal : goal.returns-in_err-early_refusal
 returns-in_err-early_refusal c =
     let a = c.args in
-    λ e is. joint-early a.edits.most a.edits.other (reference_of (letters_by a.known.form a.letters.now) a.known.cds e) (asked a.edits.first a.new.now) (asked a.edits.second a.other.now) _ (c.in_err-early_refusal.ensures e is)
+    λ e is. exit-told _ _ c.from_residual.ensures.1 ∙ joint-early a.edits.most a.edits.other (reference_of (letters_by a.known.form a.letters.now) a.known.cds e) (asked a.edits.first a.new.now) (asked a.edits.second a.other.now) _ (c.in_err-early_refusal.ensures e is)
 
 pub plan_of-first-requires : goal.plan_of-first-requires
 plan_of-first-requires c =

@@ -4,6 +4,7 @@ use Rattle.rules.specs.Packed.{letters_by}
 use Rattle.rules.specs.Views.{asked, reference_of}
 use Rattle.joints.proofs.Joining.{touching, tests-bare, early-first, early-second, early-pair, fifty-one, fifty-two, neither}
 use mathlib.Core.Bool.{not}
+use Rattle.reference.proofs.Judging.{exit_refusal}
 use Rattle.joints.proofs.early_refusal.Goals as goal
 
 pub returns-in_err-edit_refusal : goal.returns-in_err-edit_refusal
@@ -12,7 +13,8 @@ returns-in_err-edit_refusal c =
     let s = letters_by a.known.form a.letters.now in
     let size = sym c.size_of-len.ensures in
     λ e is.
-    early-first a.edits.most a.edits.other (reference_of s a.known.cds e) (asked a.edits.first a.new.now) (asked a.edits.second a.other.now) _
+    exit_refusal _ _ c.from_residual.ensures.1
+    ∙ early-first a.edits.most a.edits.other (reference_of s a.known.cds e) (asked a.edits.first a.new.now) (asked a.edits.second a.other.now) _
     (c.in_err-edit_refusal.ensures s size ∙ tests-bare s a.known.cds e a.edits.most (asked a.edits.first a.new.now))
 
 pub returns-in_err-edit_refusal-2 : goal.returns-in_err-edit_refusal-2
@@ -22,7 +24,8 @@ returns-in_err-edit_refusal-2 c =
     let size = sym c.size_of-len.ensures in
     λ e is.
     let first = sym (c.in_ok-edit_refusal.ensures s size ∙ tests-bare s a.known.cds e a.edits.most (asked a.edits.first a.new.now)) in
-    early-second a.edits.most a.edits.other (reference_of s a.known.cds e) (asked a.edits.first a.new.now) (asked a.edits.second a.other.now) first _
+    exit_refusal _ _ c.from_residual-in_err-edit_refusal-2.ensures.1
+    ∙ early-second a.edits.most a.edits.other (reference_of s a.known.cds e) (asked a.edits.first a.new.now) (asked a.edits.second a.other.now) first _
     (c.in_err-edit_refusal-2.ensures s size ∙ tests-bare s a.known.cds e a.edits.other (asked a.edits.second a.other.now))
 
 pub are_apart-requires : goal.are_apart-requires

@@ -1,13 +1,15 @@
 -- `pairs::answer_pair` meets its contract. Assumes nothing.
 use Rattle.rules.specs.Packed.{letters_by}
 use Rattle.pairs.proofs.Answering.{refused-pair, goes-pair, carried-pair}
+use Rattle.reference.proofs.Judging.{exit-told}
 use Rattle.pairs.proofs.answer_pair.Goals as goal
 
 pub returns-in_err-joint : goal.returns-in_err-joint
 returns-in_err-joint c =
     let a = c.args in
     λ longest e is good.
-    refused-pair (letters_by a.known.form a.letters.now) a.known a.edits.first a.edits.second a.edits.most a.edits.other a.new.now a.other.now c.requires longest e is good _ a.transcript.now a.altered.now (c.in_err-joint.ensures e is)
+    rw (exit-told _ _ c.from_residual.ensures.1)
+    (refused-pair (letters_by a.known.form a.letters.now) a.known a.edits.first a.edits.second a.edits.most a.edits.other a.new.now a.other.now c.requires longest e is good _ a.transcript.now a.altered.now (c.in_err-joint.ensures e is))
 
 pub carry_pair-requires : goal.carry_pair-requires
 carry_pair-requires c =

@@ -14,6 +14,7 @@ use Rattle.reference.proofs.Checking.{bounded}
 use Rattle.pairs.specs.Carrying.{pair_room_of, length_by}
 use Rattle.pairs.proofs.Carrying.{lengths-sum, lengths-fit, pair-first, ahead-row, behind-row}
 use Rattle.pairs.proofs.Whole.{carried-refused, transcript-room, transcript-fits, codes, carried}
+use Rattle.reference.proofs.Judging.{exit-told}
 use Rattle.pairs.proofs.carry.carry_pair.Goals as goal
 
 -- the room is that of the pair's length
@@ -40,7 +41,8 @@ pair_room_refusal-requires c =
 pub returns-in_err-pair_room_refusal : goal.returns-in_err-pair_room_refusal
 returns-in_err-pair_room_refusal c =
     let a = c.args in
-    carried-refused (letters_by a.known.form a.letters.now) a.known a.first a.second a.new.now a.other.now a.transcript.now a.altered.now _ (told a.known.cds.cs _ _ a.first a.second (letters_by a.known.form a.letters.now) (pair_room_of a.transcript.now a.altered.now) c.size_of.ensures c.in_err-pair_room_refusal.ensures)
+    rw (exit-told _ _ c.from_residual.ensures.1)
+    (carried-refused (letters_by a.known.form a.letters.now) a.known a.first a.second a.new.now a.other.now a.transcript.now a.altered.now _ (told a.known.cds.cs _ _ a.first a.second (letters_by a.known.form a.letters.now) (pair_room_of a.transcript.now a.altered.now) c.size_of.ensures c.in_err-pair_room_refusal.ensures))
 
 pub write_both-n-requires : goal.write_both-n-requires
 write_both-n-requires c =

@@ -5,6 +5,7 @@ use Rattle.rules.specs.Refusal.{limits}
 use Rattle.rules.specs.Views.{asked, reference_of}
 use Rattle.reference.proofs.Checking.{bounded, sound, checks}
 use Rattle.panel.proofs.Answering.{edit-refused, profile-refused, full, tests-bare, profile-bare}
+use Rattle.reference.proofs.Judging.{exit-told}
 use Rattle.panel.proofs.answer.answer_profiled.Goals as goal
 
 pub edit_refusal-requires : goal.edit_refusal-requires
@@ -19,8 +20,9 @@ returns-in_err-edit_refusal c =
     let s = letters_by a.ready.known.form a.letters.now in
     let r = reference_of s a.ready.known.cds a.ready.e in
     let x = asked a.ready.edit a.new.now in
-    edit-refused limits r x a.named a.transcript.now a.reference.now a.altered.now c.requires.accepted _
-    (c.in_err-edit_refusal.ensures s (sym c.size_of-size.ensures) ∙ tests-bare s a.ready.known.cds a.ready.e x limits.most)
+    rw (exit-told _ _ c.from_residual.ensures.1)
+    (edit-refused limits r x a.named a.transcript.now a.reference.now a.altered.now c.requires.accepted _
+    (c.in_err-edit_refusal.ensures s (sym c.size_of-size.ensures) ∙ tests-bare s a.ready.known.cds a.ready.e x limits.most))
 
 pub profile_refusal-requires : goal.profile_refusal-requires
 profile_refusal-requires c =
@@ -34,9 +36,10 @@ returns-in_err-profile_refusal c =
     let s = letters_by a.ready.known.form a.letters.now in
     let r = reference_of s a.ready.known.cds a.ready.e in
     let x = asked a.ready.edit a.new.now in
-    profile-refused limits r x a.named a.transcript.now a.reference.now a.altered.now c.requires.accepted
+    rw (exit-told _ _ c.from_residual-in_err-profile_refusal.ensures.1)
+    (profile-refused limits r x a.named a.transcript.now a.reference.now a.altered.now c.requires.accepted
     (sym (tests-bare s a.ready.known.cds a.ready.e x limits.most) ∙ sym (c.in_ok-edit_refusal.ensures s (sym c.size_of-size.ensures))) _
-    (c.in_err-profile_refusal.ensures ∙ profile-bare s a.ready.known.cds a.ready.e x a.named)
+    (c.in_err-profile_refusal.ensures ∙ profile-bare s a.ready.known.cds a.ready.e x a.named))
 
 pub returns : goal.returns
 returns c =

@@ -2,7 +2,7 @@
 use lib.ListN.{length}
 use Rattle.rules.specs.Packed.{letters_by}
 use Rattle.rules.specs.Views.{asked, reference_of}
-use Rattle.within.proofs.Within.{edited-none, edited-by}
+use Rattle.within.proofs.Within.{exit-set, edited-none, edited-by}
 use Rattle.within.proofs.one.transcript_within.Goals as goal
 
 pub returns-in_err-given : goal.returns-in_err-given
@@ -10,7 +10,7 @@ returns-in_err-given c =
     let a = c.args in
     let no = c.in_err-given.ensures.refused in
     let whole = edited-none a.longest no.0 (reference_of (letters_by a.asks.form a.letters.now) a.asks.cds a.asks.e) (asked a.asks.edit a.new.now) a.transcript.now (length a.transcript.now) in
-    rw no.1 (record { answer = whole.0; transcript_after = whole.1 })
+    rw (exit-set _ _ c.from_residual.ensures.1 no.1) (record { answer = whole.0; transcript_after = whole.1 })
 
 pub returns : goal.returns
 returns c =

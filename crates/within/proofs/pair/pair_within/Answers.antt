@@ -2,20 +2,20 @@
 use Rattle.rules.specs.Packed.{letters_by}
 use Rattle.rules.specs.Views.{asked, reference_of}
 use Rattle.pairs.specs.Carrying.{pair_room_of}
-use Rattle.within.proofs.Within.{pair-none, pair-second-none, pair-by}
+use Rattle.within.proofs.Within.{exit-set, pair-none, pair-second-none, pair-by}
 use Rattle.within.proofs.pair.pair_within.Goals as goal
 
 pub returns-in_err-given : goal.returns-in_err-given
 returns-in_err-given c =
     let a = c.args in
     let no = c.in_err-given.ensures.refused in
-    rw no.1 (pair-none a.longest a.second_longest (reference_of (letters_by a.asks.form a.letters.now) a.asks.cds a.asks.e) (asked a.asks.first a.new.now) (asked a.asks.second a.other.now) a.transcript.now a.altered.now no.0)
+    rw (exit-set _ _ c.from_residual.ensures.1 no.1) (pair-none a.longest a.second_longest (reference_of (letters_by a.asks.form a.letters.now) a.asks.cds a.asks.e) (asked a.asks.first a.new.now) (asked a.asks.second a.other.now) a.transcript.now a.altered.now no.0)
 
 pub returns-in_err-second_given : goal.returns-in_err-second_given
 returns-in_err-second_given c =
     let a = c.args in
     let no = c.in_err-second_given.ensures.refused in
-    rw no.1 (pair-second-none a.longest a.second_longest (reference_of (letters_by a.asks.form a.letters.now) a.asks.cds a.asks.e) (asked a.asks.first a.new.now) (asked a.asks.second a.other.now) a.transcript.now a.altered.now c.in_ok-given.ensures.handed.0 no.0)
+    rw (exit-set _ _ c.from_residual-in_err-second_given.ensures.1 no.1) (pair-second-none a.longest a.second_longest (reference_of (letters_by a.asks.form a.letters.now) a.asks.cds a.asks.e) (asked a.asks.first a.new.now) (asked a.asks.second a.other.now) a.transcript.now a.altered.now c.in_ok-given.ensures.handed.0 no.0)
 
 pub returns : goal.returns
 returns c =

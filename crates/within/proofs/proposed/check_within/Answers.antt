@@ -2,14 +2,14 @@
 use Rattle.rules.specs.Packed.{letters_by}
 use Rattle.rules.specs.Views.{asked, reference_of, room_of}
 use Rattle.proposals.specs.Proposed.{proposed}
-use Rattle.within.proofs.Within.{check-none, check-by}
+use Rattle.within.proofs.Within.{exit-set, check-none, check-by}
 use Rattle.within.proofs.proposed.check_within.Goals as goal
 
 pub returns-in_err-given : goal.returns-in_err-given
 returns-in_err-given c =
     let a = c.args in
     let no = c.in_err-given.ensures.refused in
-    rw no.1 (check-none a.claim.longest no.0 (reference_of (letters_by a.claim.proposed.asks.form a.letters.now) a.claim.proposed.asks.cds a.claim.proposed.asks.e) (asked a.claim.proposed.asks.edit a.new.now) (proposed a.claim.proposed.number a.deleted.now a.inserted.now) a.transcript.now a.reference.now a.altered.now)
+    rw (exit-set _ _ c.from_residual.ensures.1 no.1) (check-none a.claim.longest no.0 (reference_of (letters_by a.claim.proposed.asks.form a.letters.now) a.claim.proposed.asks.cds a.claim.proposed.asks.e) (asked a.claim.proposed.asks.edit a.new.now) (proposed a.claim.proposed.number a.deleted.now a.inserted.now) a.transcript.now a.reference.now a.altered.now)
 
 pub returns : goal.returns
 returns c =
