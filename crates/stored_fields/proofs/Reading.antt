@@ -1,6 +1,7 @@
 -- Laws of reading a stored reference: what each answer tells, and that there is a single answer.
 -- Assumes nothing.
-use Rattle.std.specs.Prelude.{if◌then◌else◌}
+use Rattle.std.specs.Prelude.{Some, None, if◌then◌else◌}
+use Rattle.std.specs.Prelude.{Option as Optional}
 use mathlib.Core.Path.{◌≡◌, refl, sym, ap, ◌∙◌}
 use mathlib.Core.Bool.{Bool, true, false, ◌&&◌, ◌||◌, not}
 use mathlib.Core.List.{List, [], ◌∷◌, ◌++◌, append_assoc}
@@ -18,8 +19,6 @@ use Rattle.rules.specs.Reference.{Reference}
 use Rattle.rules.specs.Stored as stored
 use Rattle.rules.specs.Stored.{Tagged, Contents, reference_form, fields, content_of, contents_of, exceptions_in, or_empty, joined_letters, is_incomplete, is_full, is_begun_early, are_wrong_bounds, content_tests, bounds_in, reference_in, assembled, assembled_in, is_joined}
 use Rattle.rules.proofs.Tests.{or_right, first_clear}
-use Rattle.fields.specs.declared.lookup.Content.{Content}
-use Rattle.fields.specs.declared.lookup.Content.TheVariants as content
 use Rattle.fields.specs.Places.{content_at, part_or_empty}
 use Rattle.fields.specs.Refusals.{refusal_in, tagged_in}
 use Rattle.fields.proofs.Places.{length_of_part}
@@ -27,12 +26,11 @@ use Rattle.fields.proofs.Order.{given-fields}
 use Rattle.fields.proofs.Contents.{content_in, has, found}
 use Rattle.stored_places.specs.declared.Places.{Places}
 use Rattle.stored_places.specs.Refusal.{is_there, is_early, places_refusal}
-use Rattle.stored_fields.specs.declared.field_places.Stored.{Stored}
-use Rattle.stored_fields.specs.declared.field_places.Stored.TheVariants.{Refused, At}
+use Rattle.stored_fields.specs.declared.field_places.StoredAt.{StoredAt}
 use Rattle.stored_fields.specs.Reading.{bounds_by, cds_in, Fit, placed_reference, told_reference, Stand, Reads}
 use Rattle.stored_fields.proofs.Form.{bounds-length, wide-length, second-length, third-length, table-length, exceptions-length}
 
-pub refuses : (s : List ℕ) (x : Result Reference) (n : ℕ) → x ≡ refused n → Reads s x (Refused n)
+pub refuses : (s : List ℕ) (x : Result Reference) (n : ℕ) → x ≡ refused n → Reads s x (refused n)
 unfolding told_reference
 refuses s x n e = record { says = sym e; stands = λ p q. let z : ◌≡◌ {A = ℕ} 0 1 = cc in absurd (omega arith) }
 
@@ -59,13 +57,13 @@ module _ (s : List ℕ) (unrefused : refusal_in (fields reference_form s) ≡ 0)
   are-joined = ap is_joined (given-fields reference_form s unrefused)
 
   -- a content, or none
-  content-is : (t : ℕ) (c : Content) → c ≡ content_at t s → content_of t fs ≡ content_in s c
+  content-is : (t : ℕ) (c : Optional Part) → c ≡ content_at t s → content_of t fs ≡ content_in s c
   content-is t c e = has reference_form s unrefused t c e
 
   -- 22
-  pub no-letters : content.Missing ≡ content_at 1 s → assembled_in (fields reference_form s) ≡ refused 22
+  pub no-letters : None ≡ content_at 1 s → assembled_in (fields reference_form s) ≡ refused 22
   unfolding assembled contents_of content_tests is_incomplete first_number unless
-  no-letters one = are-assembled ∙ rw (content-is 1 content.Missing one)
+  no-letters one = are-assembled ∙ rw (content-is 1 None one)
 
   -- where a content stands that may be absent
   module _ (t : ℕ) (p : Part) (is : p ≡ part_or_empty (content_at t s)) where
@@ -73,58 +71,58 @@ module _ (s : List ℕ) (unrefused : refusal_in (fields reference_form s) ≡ 0)
     unfolding part_or_empty
     within = rw is (by (content_at t s) refl)
       where
-        by : (c : Content) → c ≡ content_at t s → (part_or_empty c).at + (part_or_empty c).len ≤ length s
-        by (content.At p) e = (found reference_form s unrefused t (content.At p) e p refl).within
-        by content.Missing e = omega arith
+        by : (c : Optional Part) → c ≡ content_at t s → (part_or_empty c).at + (part_or_empty c).len ≤ length s
+        by (Some p) e = (found reference_form s unrefused t (Some p) e p refl).within
+        by None e = omega arith
 
     pub or-empty : or_empty (content_of t fs) ≡ part_of p s
     unfolding part_or_empty part_of
     or-empty = rw (content-is t (content_at t s) refl, is) (by (content_at t s))
       where
-        by : (c : Content) → or_empty (content_in s c) ≡ part_of (part_or_empty c) s
-        by (content.At p) = refl
-        by content.Missing = refl
+        by : (c : Optional Part) → or_empty (content_in s c) ≡ part_of (part_or_empty c) s
+        by (Some p) = refl
+        by None = refl
 
     -- it is there exactly if its place has bytes, where the tag takes no empty content
     pub there : ((c : List ℕ) → reference_form.fits t c ≡ true → 1 ≤ length c) → stored.is_there (content_of t fs) ≡ is_there p
     unfolding part_or_empty
     there full = rw (content-is t (content_at t s) refl, is) (by (content_at t s) refl)
       where
-        by : (c : Content) → c ≡ content_at t s → stored.is_there (content_in s c) ≡ is_there (part_or_empty c)
-        by (content.At p) e =
-            let x = found reference_form s unrefused t (content.At p) e p refl in
+        by : (c : Optional Part) → c ≡ content_at t s → stored.is_there (content_in s c) ≡ is_there (part_or_empty c)
+        by (Some p) e =
+            let x = found reference_form s unrefused t (Some p) e p refl in
             let long : 1 ≤ p.len = rw (length_of_part s p x.within) at (full (part_of p s) x.fits) in
             sym (ap not (ne_eqb p.len 0 (λ z. omega (arith, z, long))))
-        by content.Missing e = refl
+        by None e = refl
 
     -- a fact of contents that fit, of one that is there
     pub fitting : (n : ℕ) → ((c : List ℕ) → reference_form.fits t c ≡ true → length c ≡ n) → (p.len ≡ 0 → ⊥) → length (part_of p s) ≡ n
     unfolding part_or_empty
     fitting n sized h = rw is (by (content_at t s) refl (λ z. h (ap (λ (p : Part). p.len) is ∙ z)))
       where
-        by : (c : Content) → c ≡ content_at t s → ((part_or_empty c).len ≡ 0 → ⊥) → length (part_of (part_or_empty c) s) ≡ n
-        by (content.At p) e k = sized (part_of p s) (found reference_form s unrefused t (content.At p) e p refl).fits
-        by content.Missing e k = absurd (k refl)
+        by : (c : Optional Part) → c ≡ content_at t s → ((part_or_empty c).len ≡ 0 → ⊥) → length (part_of (part_or_empty c) s) ≡ n
+        by (Some p) e k = sized (part_of p s) (found reference_form s unrefused t (Some p) e p refl).fits
+        by None e k = absurd (k refl)
 
   -- a content that is there fits its tag
   pub fits-there : (t : ℕ) (b : List ℕ) → content_of t fs ≡ some b → reference_form.fits t b ≡ true
   fits-there t b h = by (content_at t s) refl
     where
-      by : (c : Content) → c ≡ content_at t s → reference_form.fits t b ≡ true
-      by (content.At q) e =
-          let same : part_of q s ≡ b = cc (sym (content-is t (content.At q) e) ∙ h) in
-          rw (← same) (found reference_form s unrefused t (content.At q) e q refl).fits
-      by content.Missing e = let z : none ≡ some b = sym (content-is t content.Missing e) ∙ h in let w : ◌≡◌ {A = ℕ} 0 1 = cc in absurd (omega arith)
+      by : (c : Optional Part) → c ≡ content_at t s → reference_form.fits t b ≡ true
+      by (Some q) e =
+          let same : part_of q s ≡ b = cc (sym (content-is t (Some q) e) ∙ h) in
+          rw (← same) (found reference_form s unrefused t (Some q) e q refl).fits
+      by None e = let z : none ≡ some b = sym (content-is t None e) ∙ h in let w : ◌≡◌ {A = ℕ} 0 1 = cc in absurd (omega arith)
 
   pub threes-of : (q : Part) → q ≡ part_or_empty (content_at 4 s) → q.len % 3 ≡ 0
   unfolding part_or_empty
   threes-of q is = rw is (by (content_at 4 s) refl)
     where
-      by : (c : Content) → c ≡ content_at 4 s → (part_or_empty c).len % 3 ≡ 0
-      by (content.At q) e =
-          let x = found reference_form s unrefused 4 (content.At q) e q refl in
+      by : (c : Optional Part) → c ≡ content_at 4 s → (part_or_empty c).len % 3 ≡ 0
+      by (Some q) e =
+          let x = found reference_form s unrefused 4 (Some q) e q refl in
           rw (length_of_part s q x.within) at (exceptions-length (part_of q s) x.fits)
-      by content.Missing e = refl
+      by None e = refl
 
 -- where the reference stands
 module _ (s : List ℕ) (p : Places) (f : Stand s p) where
@@ -135,11 +133,11 @@ module _ (s : List ℕ) (p : Places) (f : Stand s p) where
   length_at q h = length_of_part s q h
 
   letters-within : p.letters.at + p.letters.len ≤ length s
-  letters-within = (found reference_form s f.unrefused 1 (content.At p.letters) f.letters p.letters refl).within
+  letters-within = (found reference_form s f.unrefused 1 (Some p.letters) f.letters p.letters refl).within
 
   letters-are : c.letters ≡ some (part_of p.letters s)
   unfolding contents_of
-  letters-are = content-is s f.unrefused 1 (content.At p.letters) f.letters
+  letters-are = content-is s f.unrefused 1 (Some p.letters) f.letters
 
   -- the fields that must not be empty
   bounds-there : stored.is_there c.bounds ≡ is_there p.bounds
@@ -314,7 +312,7 @@ module _ (s : List ℕ) (p : Places) (f : Stand s p) where
             let u : ◌≡◌ {A = ℕ} 0 1 = cc in absurd (omega arith)
 
     pub reads : (d : Cds) → d ≡ cds_in (part_of p.bounds s) (part_of p.wide s) (part_of p.table s) (part_of p.end s)
-        → Reads s (assembled_in (fields reference_form s)) (At (record { cds = d; letters = p.letters; second = p.second; third = p.third; exceptions = p.exceptions }))
+        → Reads s (assembled_in (fields reference_form s)) (given (record { cds = d; letters = p.letters; second = p.second; third = p.third; exceptions = p.exceptions }))
     unfolding told_reference unless part_or_empty contents_of
     reads d is =
         record {
@@ -341,21 +339,21 @@ module _ (s : List ℕ) (p : Places) (f : Stand s p) where
         exceptions-threes = threes-of s f.unrefused p.exceptions f.exceptions
 
 -- two answers to the same bytes are the same
-pub single : (s : List ℕ) (x : Result Reference) (r q : Stored) → Reads s x r → Reads s x q → r ≡ q
+pub single : (s : List ℕ) (x : Result Reference) (r q : Result StoredAt) → Reads s x r → Reads s x q → r ≡ q
 unfolding told_reference
-single s x (Refused n) (Refused m) h k = let same : refused n ≡ refused m = h.says ∙ sym k.says in ap Refused (numbers same)
+single s x (refused n) (refused m) h k = let same : refused n ≡ refused m = h.says ∙ sym k.says in ap refused (numbers same)
   where
     numbers : {n m : ℕ} → ◌≡◌ {A = Result Reference} (refused n) (refused m) → n ≡ m
     numbers h = cc
-single s x (Refused n) (At p) h k = let same : refused n ≡ x = h.says in let z : ◌≡◌ {A = ℕ} 0 1 = cc k.says in absurd (omega arith)
-single s x (At p) (Refused m) h k = let same : x ≡ refused m = sym k.says in let z : ◌≡◌ {A = ℕ} 0 1 = cc h.says in absurd (omega arith)
-single s x (At p) (At q) h k =
+single s x (refused n) (given p) h k = let same : refused n ≡ x = h.says in let z : ◌≡◌ {A = ℕ} 0 1 = cc k.says in absurd (omega arith)
+single s x (given p) (refused m) h k = let same : x ≡ refused m = sym k.says in let z : ◌≡◌ {A = ℕ} 0 1 = cc h.says in absurd (omega arith)
+single s x (given p) (given q) h k =
     let same = told (h.says ∙ sym k.says) in
     let letters : p.letters ≡ q.letters = (h.stands p refl).letters ∙ sym (k.stands q refl).letters in
     let second : p.second ≡ q.second = (h.stands p refl).second ∙ sym (k.stands q refl).second in
     let third : p.third ≡ q.third = (h.stands p refl).third ∙ sym (k.stands q refl).third in
     let exceptions : p.exceptions ≡ q.exceptions = (h.stands p refl).exceptions ∙ sym (k.stands q refl).exceptions in
-    ap At (rw (ap (λ (r : Reference). r.cs) same, ap (λ (r : Reference). r.ce) same, ap (λ (r : Reference). r.table) same, ap (λ (r : Reference). r.end) same, letters, second, third, exceptions))
+    ap given (rw (ap (λ (r : Reference). r.cs) same, ap (λ (r : Reference). r.ce) same, ap (λ (r : Reference). r.table) same, ap (λ (r : Reference). r.end) same, letters, second, third, exceptions))
   where
     told : {a b : Reference} → given a ≡ given b → a ≡ b
     told h = cc

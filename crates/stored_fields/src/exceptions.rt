@@ -21,17 +21,16 @@ fn exception_at(s: &[u8], i: usize) -> Exception
 pub fn exceptions_in(s: &[u8]) -> Exceptions
     ensures { result ≡ exceptions_of s.now }
 {
-    let mut e = Exceptions::none();
+    let mut all = Exceptions::none().all;
     if s.len() % 3 != 0 {
-        e.count = 17;
-        return e;
+        return Exceptions { all, count: 17 };
     }
-    e.count = s.len() / 3;
-    if 16 < e.count {
-        return e;
+    let count = s.len() / 3;
+    if 16 < count {
+        return Exceptions { all, count };
     }
-    for i in 0..e.count {
-        e.all[i] = exception_at(s, i);
+    for i in 0..count {
+        all[i] = exception_at(s, i);
     }
-    e
+    Exceptions { all, count }
 }

@@ -27,6 +27,7 @@ pub struct StoredAt {
 }
 
 // Where the content of a tag stands; 0 bytes at 0 where there is none.
+#[tactic(auto, unfolding(fields::specs::Places::part_or_empty))]
 fn place_of(s: &[u8], tag: u8) -> Part
     ensures { result ≡ part_or_empty (content_at tag s.now) }
 {
@@ -113,7 +114,9 @@ pub fn find_stored(s: &[u8]) -> Result<StoredAt, Refusal>
     ensures { Reads s.now (assembled_in (fields reference_form s.now)) (told result) }
 {
     fields_refusal(s)?;
-    let letters = content_of(s, LETTERS).ok_or(Refusal::Missing)?;
+    let Some(letters) = content_of(s, LETTERS) else {
+        return Err(Refusal::Missing);
+    };
     let places = places_of(s, letters);
     places_refusal(places)?;
     Ok(stored_at(s, places))

@@ -27,6 +27,7 @@ pub const WIDE: u8 = 7;
 // How the CDS ends, one byte; absent for a stop.
 pub const END: u8 = 8;
 
+#[tactic(auto, unfolding(rules::specs::Stored::reference_form))]
 fn is_tag(tag: u8) -> bool
     ensures { result ≡ reference_form.knows tag }
 {
@@ -34,6 +35,7 @@ fn is_tag(tag: u8) -> bool
 }
 
 // Unknown, repeated or not rising; `last` is the tag before it.
+#[tactic(auto, unfolding(rules::specs::Stored::is_wrong_tag))]
 fn is_wrong_tag(last: u8, tag: u8) -> bool
     ensures { result ≡ is_wrong_tag reference_form last tag }
 {
@@ -41,15 +43,14 @@ fn is_wrong_tag(last: u8, tag: u8) -> bool
 }
 
 // One byte that tells an end, not at a stop.
+#[tactic(auto, unfolding(rules::specs::Stored::reference_form))]
 fn is_end(content: &[u8]) -> bool
     ensures { result ≡ reference_form.fits 8 content.now }
 {
-    if content.len() != 1 {
-        return false;
-    }
-    is_short_end(usize::from(content[0]))
+    content.len() == 1 && is_short_end(usize::from(content[0]))
 }
 
+#[tactic(auto, unfolding(rules::specs::Stored::is_wrong_content, rules::specs::Stored::reference_form))]
 fn is_wrong_content(tag: u8, content: &[u8]) -> bool
     ensures { result ≡ is_wrong_content reference_form tag content.now }
 {
@@ -67,6 +68,7 @@ fn is_wrong_content(tag: u8, content: &[u8]) -> bool
 }
 
 // 21 before 20 before 23, in a field behind one with the tag `last`.
+#[tactic(auto, unfolding(fields::specs::Refusals::field_refusal))]
 pub fn field_refusal(s: &[u8], last: u8, f: Field) -> Result<(), Refusal>
     requires { Within s.now f }
     ensures { refusal_of result ≡ field_refusal reference_form last s.now f }

@@ -6,9 +6,9 @@ use Rattle.fields.specs.Refusals.{refusal_in}
 use Rattle.fields.proofs.Order.{fields_after}
 use Rattle.stored_fields.proofs.order.fields_refusal.Given as goal
 
-abbrev pub invariant-loop-f : goal.invariant-loop-f
-invariant-loop-f l =
+abbrev pub invariant-loop-tag : goal.invariant-loop-tag
+invariant-loop-tag l =
     refusal_in (fields_after reference_form l.last (drop l.at l.s)) ≡ refusal_in (fields reference_form l.s)
 
-abbrev pub decreases-loop-f : goal.decreases-loop-f
-decreases-loop-f l = length l.s - l.at
+abbrev pub decreases-loop-tag : goal.decreases-loop-tag
+decreases-loop-tag l = length l.s - l.at

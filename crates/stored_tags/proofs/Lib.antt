@@ -1,2 +1,0 @@
--- Laws of a reference's tags, which the functions' proofs cite.
-pub mod Form
