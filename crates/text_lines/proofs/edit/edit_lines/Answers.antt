@@ -1,7 +1,7 @@
 -- `text_lines::edit::edit_lines` meets its contract: at the head of each turn, what is taken is answered. Assumes nothing.
 use Rattle.std.specs.Prelude.{unwrap_or}
 use mathlib.Core.Path.{refl, ap, ◌∙◌}
-use Prim.Native.Nat.{ℕ, ◌-◌}
+use Prim.Native.Nat.{◌-◌}
 use native.Mathlib.Omega.{arith}
 use borrow.Rule.Slice.PartMut.{same_len_mid}
 use lib.ListN.{length}
