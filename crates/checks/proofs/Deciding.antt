@@ -8,7 +8,7 @@ use Prim.Native.Nat.{ℕ, zero, suc, ◌≤◌}
 use native.Mathlib.Omega.{arith}
 use Rattle.rules.specs.declared.Edit.{Edit}
 use Rattle.rules.specs.declared.Exceptions.{Exceptions}
-use Rattle.rules.specs.Bytes.{Result, given, refused}
+use Rattle.rules.specs.Bytes.{Result, given, refused, unless}
 use Rattle.rules.specs.Reference.{Reference, reference_protein}
 use Rattle.rules.specs.Edit.{Asked}
 use Rattle.rules.specs.Protein.{altered_protein}
@@ -23,7 +23,7 @@ use Rattle.edits.specs.Decisions.{decision_of}
 use Rattle.edits.specs.Plans.{plan_of}
 use Rattle.edits.proofs.Deciding.{decided-refusal, decided-unknown}
 use Rattle.altseq.specs.Carried.{protein_by}
-use Rattle.altseq.specs.Decided.{room_by, goes_by, with_room, decided_in}
+use Rattle.altseq.specs.Decided.{room_by, with_room, decided_in}
 use Rattle.altseq.proofs.Answering.{unknown-is, allowed-is, none-refused, not-unknown, plan-is, room-is, protein-is, room_left}
 use Rattle.checks.specs.Changing.{changing_by, changing_in, Changes}
 
@@ -50,7 +50,7 @@ module _ (s : List ℕ) (k : Known) (e : Exceptions) (protein : List ℕ) (known
   by-refusal (suc n) u m t b p h some = ap refused h
 
   decided-on : (d : Result (Option Plan)) → decision_of limits.most k.several (bare s k.cds) a ≡ d → changing_in r a room ≡ changed_by changed (with_room k.cds room d)
-  unfolding changing_in changing_by with_room goes_by
+  unfolding changing_in changing_by with_room unless
   decided-on (refused n) h =
       let both = decided-refusal limits.most k.several (bare s k.cds) a n h in
       by-refusal (refusal limits r a) n (room_refusal r a room) (is_unknown r a) changed (plan_of r a) (allowed-is limits s k e protein known a ∙ both.0) both.1
@@ -61,7 +61,7 @@ module _ (s : List ℕ) (k : Known) (e : Exceptions) (protein : List ℕ) (known
       rw (none-refused limits s k e protein known a p h, not-unknown limits s k e protein known a p h, room-is limits s k e protein known a p h room, ← plan-is limits s k e protein known a p h)
       (by (room_by k.cds p.length room) changed)
     where
-      by : (n : ℕ) (b : Bool) → changing_by 0 false n b p ≡ changed_by b (goes_by n p)
+      by : (n : ℕ) (b : Bool) → changing_by 0 false n b p ≡ changed_by b (unless n (Some p))
       by zero true = refl
       by zero false = refl
       by (suc n) true = refl

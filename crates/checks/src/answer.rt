@@ -1,5 +1,5 @@
 // A proposed record held to an edit of a reference.
-ghost use Rattle.std.specs.Prelude.{◌≡◌, length};
+ghost use Rattle.std.specs.Prelude.{◌≡◌, ◌<◌, length};
 ghost use Rattle.rules.specs.Bytes.{over};
 ghost use Rattle.rules.specs.Refusal.{limits};
 ghost use Rattle.rules.specs.Refusals.{told};
@@ -149,7 +149,8 @@ fn check_with_room<const ROOM: usize>(
     reference: &mut [u8],
     altered: &mut [u8],
 ) -> Result<Verdict, Refusal>
-    requires { HasRoom limits.longest (letters_by p.asks.form letters.now) ROOM }
+    requires room { HasRoom limits.longest (letters_by p.asks.form letters.now) ROOM }
+    requires room_bound { ROOM < 65536 }
     ensures { CheckAnswers
         (check_outcome limits (reference_of (letters_by p.asks.form letters.now) p.asks.cds p.asks.e) (asked p.asks.edit new.now) (proposed p.number deleted.now inserted.now) (room_of transcript.old reference.old altered.old))
         (told result) transcript.old transcript.new reference.old reference.new altered.old altered.new }
@@ -176,6 +177,7 @@ fn check_with_room<const ROOM: usize>(
 
 // The answer to a proposed record of an edit of a reference: 1 to 5, 6 or 28, 7 to 10, 26 for an Unknown, 11, 12, 26 and 27, or whether it
 // replays and whether it is the shortest. Then the three buffers hold what the edit's own answer writes.
+#[tactic(auto, unfolding(rules::specs::Translation::residue_count))]
 pub fn check_altseq(
     letters: &[u8],
     p: Proposed,

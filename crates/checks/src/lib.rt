@@ -64,7 +64,7 @@ pub fn decide_changing(
     requires { Knows limits (letters_by known.form letters.now) known e protein.now }
     ensures { told result ≡ changing_in (reference_of (letters_by known.form letters.now) known.cds e) (asked edit new.now) (record { transcript = room.transcript; reference = room.reference; altered = room.altered }) }
 {
-    let decided = decide_in(
+    let Some(plan) = decide_in(
         letters,
         known,
         edit,
@@ -72,8 +72,8 @@ pub fn decide_changing(
         room.transcript,
         room.reference,
         room.altered,
-    )?;
-    let Some(plan) = decided else {
+    )?
+    else {
         return Err(Refusal::NotChanged);
     };
     if changes(letters, known, e, protein, plan, new) {

@@ -1,5 +1,5 @@
 // The answer to an edit under the profile: 1 to 10, then 40 to 43, then what the full module answers. The reference is checked once.
-ghost use Rattle.std.specs.Prelude.{length};
+ghost use Rattle.std.specs.Prelude.{◌<◌, length};
 ghost use Rattle.rules.specs.Refusal.{limits};
 ghost use Rattle.rules.specs.Refusals.{told};
 ghost use Rattle.rules.specs.Answer.{Answers};
@@ -81,7 +81,8 @@ fn answer_with_room<const ROOM: usize>(
     reference: &mut [u8],
     altered: &mut [u8],
 ) -> Result<Report, Refusal>
-    requires { HasRoom limits.longest (letters_by asks.form letters.now) ROOM }
+    requires room { HasRoom limits.longest (letters_by asks.form letters.now) ROOM }
+    requires room_bound { ROOM < 65536 }
     ensures { Answers
         (panel_outcome limits (reference_of (letters_by asks.form letters.now) asks.cds asks.e) (asked asks.edit new.now) named (room_of transcript.old reference.old altered.old))
         (told result) transcript.old transcript.new reference.old reference.new altered.old altered.new }
@@ -101,6 +102,7 @@ fn answer_with_room<const ROOM: usize>(
 
 // The answer to an edit of a reference under the profile, whose substitution names a base: refusals 1 to 10, 40 to 43, then as `build_altseq`
 // answers.
+#[tactic(auto, unfolding(rules::specs::Translation::residue_count))]
 pub fn build_panel(
     letters: &[u8],
     asks: Question,
