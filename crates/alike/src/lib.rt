@@ -20,10 +20,7 @@ pub struct Edition {
 fn is_bytes(form: Form) -> bool
     ensures { result ≡ true → form ≡ Bytes }
 {
-    match form {
-        Form::Bytes => true,
-        Form::Packed(_) => false,
-    }
+    matches!(form, Form::Bytes)
 }
 
 // Whether letters are bytes in both, and equal ones are read alike: with one table, and no exception.

@@ -12,7 +12,6 @@ ghost use Rattle.editions.specs.Uncompared.{uncompared_number, compared_told};
 
 pub use alike::Edition;
 use differences::{count_differences, write_differences};
-use numbers::thirds;
 use reference::judge_reference;
 use rules::{LONGEST, Refusal};
 use tables::residues_of;
@@ -32,7 +31,7 @@ impl Uncompared {
     {
         match self {
             Uncompared::First(refusal) => refusal.number(),
-            Uncompared::Second(refusal) => 100 + refusal.number(),
+            Uncompared::Second(refusal) => 100 + refusal as usize,
             Uncompared::List => 50,
         }
     }
@@ -44,7 +43,7 @@ fn codon_count(letters: &[u8], x: Edition) -> usize
     ensures { result ≡ codon_count (edition_of letters.now x) }
 {
     let c = x.cds;
-    thirds(c.ce - (c.cs - 1))
+    (c.ce - (c.cs - 1)).div_ceil(3)
 }
 
 // The list of two references that were judged, or 50 where it doesn't fit.

@@ -9,7 +9,6 @@ ghost use Rattle.entries.specs.Entries.{Inside, base_at, entry_of, residue_by};
 
 use excepted::excepted_at;
 use letters::letter_set;
-use numbers::wide;
 use packed::set_at;
 use rules::{Cds, Exceptions, Form};
 
@@ -47,7 +46,7 @@ fn halves_at(packed: &[u8], place: usize) -> usize
     ensures small { result < 4096 }
 {
     let j = place / 2;
-    let both = wide(packed[j]) * 256 + wide(packed[j + 1]);
+    let both = usize::from(packed[j]) * 256 + usize::from(packed[j + 1]);
     if place % 2 == 0 {
         return both / 16;
     }

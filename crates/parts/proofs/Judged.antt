@@ -4,46 +4,51 @@ use mathlib.Core.Path.{◌≡◌, refl, sym, ap, ◌∙◌}
 use mathlib.Core.Bool.{Bool, true, false, ◌&&◌, ◌||◌, not}
 use mathlib.Core.List.{List, [], ◌∷◌, ◌++◌}
 use Prim.Native.Nat.{ℕ, zero, suc, ◌+◌, ◌%◌, ◌≤◌, ◌<◌}
+use Rattle.std.specs.Prelude.{Ok, Err}
+use Rattle.std.specs.Prelude.{Result as Returned}
+use native.Mathlib.Decide.{dec_lt}
 use native.Mathlib.Numerals.{add-one}
 use native.Mathlib.Omega.{arith}
 use lib.Dec.{eqb, ltb}
 use lib.ListN.{length, take, drop, get_or, take-append-drop}
 use lib.Seq.{take-suc, take_at, drop-cons}
-use borrow.Author.Tests.{eq-eqb, ne_eqb, lt-ltb, le-ltb}
+use borrow.Author.Tests.{eq-eqb, ne_eqb, lt-ltb, ltb-false}
 use Rattle.rules.specs.declared.Cds.{Cds}
 use Rattle.rules.specs.declared.Exceptions.{Exceptions}
 use Rattle.rules.specs.Bytes.{byte, all, count}
 use Rattle.rules.specs.Translation.{exception_list, translated, residue_count, whole_codons}
 use Rattle.rules.specs.Reference.{is_short_end, size, cds, codons, reference_protein, is_cut_short}
 use Rattle.rules.specs.Refusal.{limits, reference_refusal}
+use Rattle.rules.specs.declared.Refusal.{Refusal}
+use Rattle.rules.specs.Refusals.{refusal_number, refusal_of}
 use Rattle.rules.specs.Views.{reference_of}
+use Rattle.rules.proofs.Tests.{or_right}
 use Rattle.rules.proofs.Translation.{length-translated}
 use Rattle.rules.proofs.Reading.{rest_of, length_whole, whole-and-rest}
 use Rattle.rules.proofs.Reference.{length-cds, length_protein}
 use Rattle.letters.specs.Sets.{is_base}
-use Rattle.reference.specs.declared.Judged.TheVariants as judged
 use Rattle.reference.specs.Known.{early_refusal, end_refusal, judged_of, Readable}
 use Rattle.reference.proofs.Stops.{count-append}
-use Rattle.reference.proofs.Judging.{was-refused, was-clear, judged-early, judged-clear, judged-late}
-use Rattle.parts.specs.Parts.{Sizes}
+use Rattle.reference.proofs.Judging.{was-refused, was-given, judged-early, judged-clear, judged-late}
 
--- L, where 1 takes it
-pub too_long : (n : ℕ) → limits.longest < n → Sizes n 0
-too_long n h = record { none = λ z. rw (lt-ltb limits.longest n h) (or-true (ltb n 1)); some = λ z. absurd (z refl) }
-  where
-    or-true : (b : Bool) → (b || true) ≡ true
-    or-true true = refl
-    or-true false = refl
+-- L by the code's sum, which is cut where it is large
+module _ (n size : ℕ) (same : size ≤ limits.longest → size ≡ n) (large : limits.longest < size → limits.longest < n) where
+  tested : (ltb n 1 || ltb limits.longest n) ≡ (ltb size 1 || ltb limits.longest size)
+  tested = by (dec_lt limits.longest size)
+    where
+      or-true : (b : Bool) → (b || true) ≡ true
+      or-true true = refl
+      or-true false = refl
 
-pub fits : (n : ℕ) → n ≤ limits.longest → Sizes n n
-fits n h =
-    record {
-      none = λ z. rw (lt-ltb n 1 (omega arith));
-      some = λ z. (refl, rw (le-ltb n 1 (some z), le-ltb limits.longest n h));
-    }
-  where
-    some : (n ≡ 0 → ⊥) → 1 ≤ n
-    some z = omega (arith, z)
+      by : Dec (limits.longest < size) → (ltb n 1 || ltb limits.longest n) ≡ (ltb size 1 || ltb limits.longest size)
+      by (yes h) = rw (lt-ltb limits.longest size h, lt-ltb limits.longest n (large h), or-true (ltb n 1), or-true (ltb size 1))
+      by (no h) = rw (same (omega arith))
+
+  pub long : (ltb size 1 || ltb limits.longest size) ≡ true → (ltb n 1 || ltb limits.longest n) ≡ true
+  long h = tested ∙ h
+
+  pub short : (ltb size 1 || ltb limits.longest size) ≡ false → (size ≡ n) × ((ltb n 1 || ltb limits.longest n) ≡ false)
+  short h = (same (ltb-false limits.longest size (or_right (ltb size 1) (ltb limits.longest size) h)), tested ∙ h)
 
 -- a search of R, codon by codon
 rest_stopless : (n : ℕ) → count (byte "*") (rest_of n) ≡ 0
@@ -119,13 +124,12 @@ module _ (s : List ℕ) (c : Cds) (e : Exceptions) (x : Readable s c e) where
 
 -- all refusals, by 1 to 5 and by 6 or 28
 module _ (longest : ℕ) (s : List ℕ) (c : Cds) (e : Exceptions) where
-  pub refused-early : (n : ℕ) → n ≡ early_refusal longest (reference_of s c e) → (n ≡ 0 → ⊥) → n ≡ reference_refusal longest (reference_of s c e)
+  pub refused-early : (r : Refusal) → refusal_number r ≡ early_refusal longest (reference_of s c e) → refusal_number r ≡ reference_refusal longest (reference_of s c e)
   unfolding judged_of
-  refused-early n is some = sym (was-refused (reference_refusal longest (reference_of s c e)) (all is_base s) (judged.Refused n) (judged-early longest s c e n (sym is) some) n refl).0
+  refused-early r is = sym (was-refused _ _ _ (judged-early longest s c e r (sym is))).0
 
-  pub passed-early : (n : ℕ) → early_refusal longest (reference_of s c e) ≡ 0 → n ≡ end_refusal (reference_of s c e) → n ≡ reference_refusal longest (reference_of s c e)
+  pub passed-early : {A : Type 0} (x : Returned A Refusal) → early_refusal longest (reference_of s c e) ≡ 0 → refusal_of x ≡ end_refusal (reference_of s c e)
+      → refusal_of x ≡ reference_refusal longest (reference_of s c e)
   unfolding judged_of
-  passed-early zero none is =
-      sym (was-clear (reference_refusal longest (reference_of s c e)) (all is_base s) (judged.Clear (all is_base s)) (judged-clear longest s c e none 0 is (all is_base s) refl refl) (all is_base s) refl).0
-  passed-early (suc n) none is =
-      sym (was-refused (reference_refusal longest (reference_of s c e)) (all is_base s) (judged.Refused (suc n)) (judged-late longest s c e none (suc n) is (λ z. omega arith)) (suc n) refl).0
+  passed-early (Ok x) none is = sym (was-given _ _ _ (judged-clear longest s c e none (all is_base s) refl is)).0
+  passed-early (Err r) none is = sym (was-refused _ _ _ (judged-late longest s c e none r is)).0

@@ -1,16 +1,11 @@
 -- Letters that stand in three parts, one behind the other.
-use Rattle.std.specs.Prelude.{ℕ, ◌*◌, ◌<◌, ◌≤◌, ◌≡◌, ◌||◌, List, ◌++◌, Option, None, Some, ltb, length, get_or, if◌then◌else◌}
+use Rattle.std.specs.Prelude.{ℕ, ◌*◌, ◌<◌, ◌≤◌, ◌≡◌, List, ◌++◌, length, get_or}
 use Rattle.rules.specs.Bytes.{byte}
 use Rattle.rules.specs.Reference.{Reference, codons, reference_protein}
-use Rattle.rules.specs.Refusal.{limits}
 use Rattle.places.specs.Places.{codon_at}
 
 abbrev pub in_parts : List ℕ → List ℕ → List ℕ → List ℕ
 in_parts a b c = a ++ (b ++ c)
-
--- L where 1 takes it
-abbrev pub taken_size : ℕ → Option ℕ
-taken_size n = if ltb n 1 || ltb limits.longest n then None else Some n
 
 -- the first r codons are whole, and none reads `*` by the table
 pub record Stopless (t : ℕ) (s : List ℕ) (r : ℕ) : Type 0 where

@@ -1,28 +1,17 @@
 // 1 to 5: what is judged before a codon is read.
-ghost use Rattle.std.specs.Prelude.{◌≡◌, ◌+◌};
+ghost use Rattle.std.specs.Prelude.{◌≡◌};
 ghost use Rattle.rules.specs.Bytes.{all};
 ghost use Rattle.rules.specs.Letters.{is_letter};
 ghost use Rattle.rules.specs.Refusal.{limits};
 ghost use Rattle.rules.specs.Refusals.{refusal_of};
 ghost use Rattle.rules.specs.Views.{reference_of};
 ghost use Rattle.reference.specs.Known.{early_refusal};
-ghost use Rattle.parts.specs.Parts.{in_parts, taken_size};
+ghost use Rattle.parts.specs.Parts.{in_parts};
 
 use reference::{are_bounds, fit_exceptions};
 use rules::{Cds, Exceptions, LONGEST, Refusal};
 use sequences::all_letters;
 use translation::all_bases;
-
-// L, where it is one that a reference may have.
-fn size_of(a: usize, b: usize, c: usize) -> Option<usize>
-    ensures { result ≡ taken_size (a + (b + c)) }
-{
-    let size = a.checked_add(b)?.checked_add(c)?;
-    if (size < 1) | (LONGEST < size) {
-        return None;
-    }
-    Some(size)
-}
 
 // Whether each letter is of the fifteen. Plain ones are, by a faster test.
 fn are_letters(s: &[u8]) -> bool
@@ -44,7 +33,10 @@ pub(crate) fn early_refusal(
 ) -> Result<(), Refusal>
     ensures { refusal_of result ≡ early_refusal limits.longest (reference_of (in_parts a.now b.now c.now) cds e) }
 {
-    let size = size_of(a.len(), b.len(), c.len()).ok_or(Refusal::Length)?;
+    let size = a.len().saturating_add(b.len().saturating_add(c.len()));
+    if (size < 1) | (LONGEST < size) {
+        return Err(Refusal::Length);
+    }
     if !(are_letters(a) & (are_letters(b) & are_letters(c))) {
         return Err(Refusal::Letter);
     }

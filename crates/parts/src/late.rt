@@ -96,13 +96,13 @@ pub(crate) fn end_refusal(
     ensures { refusal_of result ≡ end_refusal (reference_of (in_parts a.now b.now c.now) cds e) }
 {
     if cds.end == 0 {
-        if !ends_in_stop(a, b, c, cds, e) {
-            return Err(Refusal::LastCodon);
+        if ends_in_stop(a, b, c, cds, e) {
+            return Ok(());
         }
+        return Err(Refusal::LastCodon);
+    }
+    if is_cut_short(a, b, c, cds, e) {
         return Ok(());
     }
-    if !is_cut_short(a, b, c, cds, e) {
-        return Err(Refusal::End);
-    }
-    Ok(())
+    Err(Refusal::End)
 }

@@ -9,7 +9,6 @@ ghost use Rattle.parts.specs.Parts.{in_parts, Stopless};
 
 use codons::tables::residue_in;
 use letters::folded_set;
-use numbers::least;
 
 // The residue of codon i, counted from 0, of a part from place `at` on.
 fn codon_from(
@@ -49,15 +48,13 @@ fn stopless_from(
     ensures stopless { Stopless table (drop at part.now) result }
     ensures few { result ≤ most }
 {
-    let n = least(most, (part.len() - at) / 3);
-    let mut i = 0;
-    while i < n {
+    let n = most.min((part.len() - at) / 3);
+    for i in 0..n {
         if codon_from(part, at, table, sets, residues, i) == b'*' {
             return i;
         }
-        i += 1;
     }
-    i
+    n
 }
 
 // The same of the part that has place `at`.

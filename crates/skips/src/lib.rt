@@ -7,7 +7,6 @@ ghost use Rattle.skips.specs.Walks.{Reads, Passes, Skips};
 
 use alike::{Edition, equal_codons};
 use entries::{entry_of, residue_by};
-use numbers::least;
 
 // A codon from n on, at most `past`, before which all from n on are equal.
 fn pass_equal(first: &[u8], r: Edition, second: &[u8], s: Edition, n: usize, past: usize) -> usize
@@ -17,7 +16,7 @@ fn pass_equal(first: &[u8], r: Edition, second: &[u8], s: Edition, n: usize, pas
     requires past_bound { past ≤ 65536 }
     ensures { Passes (edition_of first.now r) (edition_of second.now s) n past result }
 {
-    least(n + equal_codons(first, r, second, s, n), past)
+    past.min(n + equal_codons(first, r, second, s, n))
 }
 
 // The first codon from n on, and before `past`, that has other letters or another residue; where none has, `past`.

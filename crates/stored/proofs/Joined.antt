@@ -13,8 +13,11 @@ use Rattle.rules.specs.Bytes.{over, Result, given, refused, unless}
 use Rattle.rules.specs.Record.{part_of}
 use Rattle.rules.specs.Reference.{Reference, size}
 use Rattle.rules.specs.Refusal.{reference_refusal}
+use Rattle.rules.specs.declared.Refusal.{Refusal}
+use Rattle.rules.specs.Refusals.{refusal_number}
 use Rattle.rules.specs.Stored.{reference_form, fields, assembled_in, checked, stored_reference, is_joined, fitted, read_reference, joined_by}
 use Rattle.rules.proofs.Reference.{accepted}
+use Rattle.reference.proofs.Judging.{told-refused}
 use Rattle.fields.proofs.Places.{length_of_part}
 use Rattle.stored_fields.specs.declared.field_places.StoredAt.{StoredAt}
 use Rattle.stored_fields.specs.Reading.{is_there, letters_at, placed_reference, Placed}
@@ -55,12 +58,15 @@ module _ (s : List ℕ) (p : StoredAt) (in_place : Placed s p) where
       has_room h new e = rw (joined, le-ltb room (length (letters_at s p)) (omega (arith, h, size-at))) (refl, e)
 
   -- without a buffer
-  pub never-joined : (longest n : ℕ) → n ≡ reference_refusal longest (placed_reference s p) → (m : ℕ) → (n ≡ 0 → m ≡ 29) → ((n ≡ 0 → ⊥) → m ≡ n) → fitted 0 true (checked longest (given (placed_reference s p))) ≡ refused m
+  pub never-joined : (longest : ℕ) → 0 ≡ reference_refusal longest (placed_reference s p) → fitted 0 true (checked longest (given (placed_reference s p))) ≡ refused 29
   unfolding checked unless fitted size
-  never-joined longest zero is m a b =
+  never-joined longest is =
       let some = (fits-longest longest (sym is)).0 in
-      rw (← is, lt-ltb 0 (length (letters_at s p)) (omega (arith, some, size-at)), a refl)
-  never-joined longest (suc n) is m a b = rw (← is, b (λ z. omega arith))
+      rw (← is, lt-ltb 0 (length (letters_at s p)) (omega (arith, some, size-at)))
+
+  pub refused-joined : (longest : ℕ) (r : Refusal) → refusal_number r ≡ reference_refusal longest (placed_reference s p) → fitted 0 true (checked longest (given (placed_reference s p))) ≡ refused (refusal_number r)
+  unfolding checked fitted
+  refused-joined longest r is = ap (fitted 0 true) (sym (told-refused r _ (placed_reference s p) is))
 
   -- of a reference that is read
   pub read_fits : (longest room : ℕ) → read_reference longest room s ≡ given (placed_reference s p) → p.letters.len + (p.second.len + p.third.len) ≤ longest

@@ -17,18 +17,15 @@ use Rattle.rules.specs.Translation.{exception_list}
 use Rattle.rules.specs.Reference.{Reference, size, cds_size, are_bounds, fit_exceptions, is_cut_short, reference_tests}
 use Rattle.rules.specs.Record.{part_of}
 use Rattle.rules.specs.Refusal.{reference_refusal}
+use Rattle.rules.specs.declared.Refusal.{Refusal}
+use Rattle.rules.specs.Refusals.{refusal_number}
 use Rattle.rules.specs.Stored.{reference_form, fields, exceptions_in, assembled_in, checked, stored_reference, fitted, read_reference, joined_by, written_joined}
 use Rattle.rules.specs.Views.{reference_of}
 use Rattle.rules.proofs.Reference.{accepted}
-use Rattle.letters.specs.Sets.{is_base}
-use Rattle.reference.specs.declared.Judged.{Judged}
-use Rattle.reference.specs.declared.Judged.TheVariants as judged
 use Rattle.reference.specs.Known.{judged_of}
-use Rattle.reference.proofs.Judging.{was-refused, was-clear}
+use Rattle.reference.proofs.Judging.{was-refused, was-given, told-refused}
 use Rattle.fields.proofs.Places.{length_of_part}
 use Rattle.stored_fields.specs.declared.field_places.StoredAt.{StoredAt}
-use Rattle.stored_fields.specs.declared.field_places.Stored.{Stored}
-use Rattle.stored_fields.specs.declared.field_places.Stored.TheVariants.{Refused, At}
 use Rattle.stored_fields.specs.Held.{exceptions_of}
 use Rattle.stored_fields.specs.Reading.{is_there, letters_at, placed_reference, told_reference, Placed, Reads}
 use Rattle.stored_fields.proofs.Held.{list-few, list_length}
@@ -87,14 +84,13 @@ module _ (longest : ℕ) (s : List ℕ) (p : StoredAt) (in_place : Placed s p) w
     pub same-refusal : reference_refusal longest (reference_of letters p.cds e) ≡ reference_refusal longest (placed_reference s p)
     same-refusal = ap (reference_refusal longest) taken ∙ taken-refusal
 
-    module _ (x : Judged) (h : x ≡ judged_of longest letters p.cds e) where
-      pub judged-refused : (n : ℕ) → x ≡ judged.Refused n → n ≡ reference_refusal longest (placed_reference s p)
-      unfolding judged_of
-      judged-refused n k = sym (was-refused (reference_refusal longest (reference_of letters p.cds e)) (all is_base letters) x h n k).0 ∙ same-refusal
+    pub judged-refused : (n : ℕ) → refused n ≡ judged_of longest letters p.cds e → n ≡ reference_refusal longest (placed_reference s p)
+    unfolding judged_of
+    judged-refused n h = sym (was-refused _ _ _ h).0 ∙ same-refusal
 
-      pub judged-clear : (plain : Bool) → x ≡ judged.Clear plain → 0 ≡ reference_refusal longest (placed_reference s p)
-      unfolding judged_of
-      judged-clear plain k = sym (was-clear (reference_refusal longest (reference_of letters p.cds e)) (all is_base letters) x h plain k).0 ∙ same-refusal
+    pub judged-clear : (plain : Bool) → given plain ≡ judged_of longest letters p.cds e → 0 ≡ reference_refusal longest (placed_reference s p)
+    unfolding judged_of
+    judged-clear plain h = sym (was-given _ _ _ h).0 ∙ same-refusal
 
 -- a refused reference isn't joined
 module _ (longest room : ℕ) (s : List ℕ) (n : ℕ) (h : stored_reference longest s ≡ refused n) where
@@ -106,49 +102,38 @@ module _ (longest room : ℕ) (s : List ℕ) (n : ℕ) (h : stored_reference lon
   unfolding written_joined joined_by
   none-joined = rw read-refused
 
+-- a reference that isn't found
+pub unfound : (longest : ℕ) (s : List ℕ) (n : ℕ) → Reads s (assembled_in (fields reference_form s)) (refused n) → stored_reference longest s ≡ refused n
+unfolding told_reference checked stored_reference
+unfound longest s n found = ap (checked longest) (sym found.says)
+
 -- what is told of a reference that is found
-module _ (longest : ℕ) (s : List ℕ) (r : Stored) (found : Reads s (assembled_in (fields reference_form s)) r) where
-  pub unfound : (n : ℕ) → r ≡ Refused n → stored_reference longest s ≡ refused n
+module _ (longest : ℕ) (s : List ℕ) (p : StoredAt) (found : Reads s (assembled_in (fields reference_form s)) (given p)) where
+  pub is-checked : stored_reference longest s ≡ unless (reference_refusal longest (placed_reference s p)) (placed_reference s p)
   unfolding told_reference checked stored_reference
-  unfound n h = ap (checked longest) (sym found.says ∙ ap (told_reference s) h)
+  is-checked = ap (checked longest) (sym found.says)
 
-  module _ (p : StoredAt) (h : r ≡ At p) where
-    pub is-checked : stored_reference longest s ≡ unless (reference_refusal longest (placed_reference s p)) (placed_reference s p)
-    unfolding told_reference checked stored_reference
-    is-checked = ap (checked longest) (sym found.says ∙ ap (told_reference s) h)
+  pub refused-at : (r : Refusal) → refusal_number r ≡ reference_refusal longest (placed_reference s p) → stored_reference longest s ≡ refused (refusal_number r)
+  refused-at r e = is-checked ∙ sym (told-refused r _ (placed_reference s p) e)
 
-    pub refused-at : (n : ℕ) → n ≡ reference_refusal longest (placed_reference s p) → (n ≡ 0 → ⊥) → stored_reference longest s ≡ refused n
+  -- none of 1 to 5, 6 and 28 applies: then 29, or the reference
+  module _ (none : 0 ≡ reference_refusal longest (placed_reference s p)) where
+    is-given : stored_reference longest s ≡ given (placed_reference s p)
     unfolding unless
-    refused-at n e k = is-checked ∙ rw (← e) (by n k)
-      where
-        by : (n : ℕ) → (n ≡ 0 → ⊥) → unless n (placed_reference s p) ≡ refused n
-        by zero k = absurd (k refl)
-        by (suc n) k = refl
+    is-given = is-checked ∙ rw (← none)
 
-    -- none of 1 to 5, 6 and 28 applies: then 29, or the reference
-    module _ (none : 0 ≡ reference_refusal longest (placed_reference s p)) where
-      is-given : stored_reference longest s ≡ given (placed_reference s p)
-      unfolding unless
-      is-given = is-checked ∙ rw (← none)
+    module _ (room : ℕ) where
+      pub is_read : read_reference longest room s ≡ fitted room (is_there p.second) (given (placed_reference s p))
+      unfolding read_reference
+      is_read = rw (is-given, (found.stands p refl).joined)
 
-      module _ (room : ℕ) where
-        pub is_read : read_reference longest room s ≡ fitted room (is_there p.second) (given (placed_reference s p))
-        unfolding read_reference
-        is_read = rw (is-given, (found.stands p h).joined)
+      pub is-joined : written_joined longest room s ≡ joined_by (is_there p.second) (fitted room (is_there p.second) (given (placed_reference s p)))
+      unfolding written_joined
+      is-joined = rw (is_read, (found.stands p refl).joined)
 
-        pub is-joined : written_joined longest room s ≡ joined_by (is_there p.second) (fitted room (is_there p.second) (given (placed_reference s p)))
-        unfolding written_joined
-        is-joined = rw (is_read, (found.stands p h).joined)
+      pub not-fitted : (r : Refusal) → unless (refusal_number r) (placed_reference s p) ≡ fitted room (is_there p.second) (given (placed_reference s p)) → read_reference longest room s ≡ refused (refusal_number r)
+      not-fitted r unfit = is_read ∙ sym unfit ∙ sym (told-refused r _ (placed_reference s p) refl)
 
-        module _ (n : ℕ) (unfit : unless n (placed_reference s p) ≡ fitted room (is_there p.second) (given (placed_reference s p))) where
-          pub not-fitted : (n ≡ 0 → ⊥) → read_reference longest room s ≡ refused n
-          unfolding unless
-          not-fitted k = is_read ∙ sym unfit ∙ by n k
-            where
-              by : (n : ℕ) → (n ≡ 0 → ⊥) → unless n (placed_reference s p) ≡ refused n
-              by zero k = absurd (k refl)
-              by (suc n) k = refl
-
-          pub reads_at : n ≡ 0 → Reads s (read_reference longest room s) (At p)
-          unfolding told_reference unless
-          reads_at z = record { says = sym (is_read ∙ sym unfit ∙ rw z); stands = λ q i. found.stands q (h ∙ i) }
+      pub reads_at : unless 0 (placed_reference s p) ≡ fitted room (is_there p.second) (given (placed_reference s p)) → Reads s (read_reference longest room s) (given p)
+      unfolding told_reference unless
+      reads_at fit = record { says = sym (is_read ∙ sym fit); stands = found.stands }

@@ -8,8 +8,7 @@ use native.Mathlib.Omega.{arith}
 use lib.ListN.{length}
 use Rattle.rules.specs.declared.Cds.{Cds}
 use Rattle.rules.specs.declared.Exceptions.{Exceptions}
-use Rattle.rules.specs.declared.Written.TheVariants.{Refused, Bytes}
-use Rattle.rules.specs.Bytes.{refused, over}
+use Rattle.rules.specs.Bytes.{given, refused, over}
 use Rattle.rules.specs.Reference.{Reference}
 use Rattle.rules.specs.Refusal.{limits, reference_refusal}
 use Rattle.rules.specs.Storing.{stored_form, written_reference}
@@ -18,10 +17,8 @@ use Rattle.rules.specs.Views.{reference_of}
 use Rattle.rules.proofs.Translation.{length_exceptions}
 use Rattle.rules.proofs.Fills as fills
 use Rattle.rules.proofs.Writing as writing
-use Rattle.reference.specs.declared.Judged.{Judged}
-use Rattle.reference.specs.declared.Judged.TheVariants as judged
 use Rattle.reference.specs.Known.{judged_of}
-use Rattle.reference.proofs.Judging.{was-refused, was-clear}
+use Rattle.reference.proofs.Judging.{was-refused, was-given}
 use Rattle.storing_length.specs.Length.{form_length}
 use Rattle.storing.specs.Forming.{Clear}
 use Rattle.storing.proofs.Forms.{numbers}
@@ -35,22 +32,21 @@ module _ (s : List ℕ) (c : Cds) (e : Exceptions) where
   pub coded-length : Clear s c e → length (stored_form r) ≡ form_length (length s) e.count c.end
   coded-length h = form_length_lem r (numbers s c e h).some ∙ ap (λ (n : ℕ). form_length (length s) n c.end) (length_exceptions e)
 
-  module _ (x : Judged) (is : x ≡ judged_of limits.longest s c e) where
-    pub is-clear : (plain : Bool) → x ≡ judged.Clear plain → Clear s c e
-    unfolding judged_of
-    is-clear plain k = (was-clear (reference_refusal limits.longest r) _ x is plain k).0
+  pub is-clear : (plain : Bool) → given plain ≡ judged_of limits.longest s c e → Clear s c e
+  unfolding judged_of
+  is-clear plain h = (was-given _ _ _ h).0
 
-    -- 1 to 5, 6 or 28
-    pub answers-refused : (n : ℕ) (old : List ℕ) → x ≡ judged.Refused n
-        → (Refused n ≡ written_of (written_reference limits.longest r (length old))) × (old ≡ over (bytes_of (written_reference limits.longest r (length old))) old)
-    unfolding judged_of
-    answers-refused n old k =
-        let told = was-refused (reference_refusal limits.longest r) _ x is n k in
-        fills.refuses (written_reference limits.longest r (length old)) n old (by n told.0 told.1)
-      where
-        by : (n : ℕ) → reference_refusal limits.longest r ≡ n → (n ≡ 0 → ⊥) → written_reference limits.longest r (length old) ≡ refused n
-        by zero h some = absurd (some refl)
-        by (suc n) h some = writing.refuses limits.longest r (length old) n h
+  -- 1 to 5, 6 or 28
+  pub answers-refused : (n : ℕ) (old : List ℕ) → refused n ≡ judged_of limits.longest s c e
+      → (refused n ≡ written_of (written_reference limits.longest r (length old))) × (old ≡ over (bytes_of (written_reference limits.longest r (length old))) old)
+  unfolding judged_of
+  answers-refused n old h =
+      let told = was-refused _ _ _ h in
+      fills.refuses (written_reference limits.longest r (length old)) n old (by n told.0 told.1)
+    where
+      by : (n : ℕ) → reference_refusal limits.longest r ≡ n → (n ≡ 0 → ⊥) → written_reference limits.longest r (length old) ≡ refused n
+      by zero h some = absurd (some refl)
+      by (suc n) h some = writing.refuses limits.longest r (length old) n h
 
   module _ (clear : Clear s c e) (n m : ℕ) (sized : n ≡ length s) (is : m ≡ form_length n e.count c.end) (old : List ℕ) where
     same : m ≡ length (stored_form r)
@@ -58,7 +54,7 @@ module _ (s : List ℕ) (c : Cds) (e : Exceptions) where
 
     -- 24
     pub answers-short : length old < m
-        → (Refused 24 ≡ written_of (written_reference limits.longest r (length old))) × (old ≡ over (bytes_of (written_reference limits.longest r (length old))) old)
+        → (refused 24 ≡ written_of (written_reference limits.longest r (length old))) × (old ≡ over (bytes_of (written_reference limits.longest r (length old))) old)
     answers-short h =
         fills.refuses (written_reference limits.longest r (length old)) 24 old (writing.too_short limits.longest r (length old) clear (omega (arith, same)))
 
@@ -67,6 +63,6 @@ module _ (s : List ℕ) (c : Cds) (e : Exceptions) where
 
     -- the form
     pub answers-written : m ≤ length old → (n : ℕ) (out : List ℕ) → n ≡ length (stored_form r) → out ≡ over (stored_form r) old
-        → (Bytes n ≡ written_of (written_reference limits.longest r (length old))) × (out ≡ over (bytes_of (written_reference limits.longest r (length old))) old)
+        → (given n ≡ written_of (written_reference limits.longest r (length old))) × (out ≡ over (bytes_of (written_reference limits.longest r (length old))) old)
     answers-written h n out k q =
         fills.gives (written_reference limits.longest r (length old)) (stored_form r) n out old (writing.writes limits.longest r (length old) clear (has_room h)) k q

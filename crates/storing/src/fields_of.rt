@@ -9,7 +9,6 @@ ghost use Rattle.storing_numbers.specs.Fields.{one_field};
 ghost use Rattle.storing.specs.Forming.{end_field, held_at, Clear};
 
 use fields::write_head;
-use numbers::least;
 use packed::{copy_letters, size_of};
 use rules::{Cds, Exceptions, Form};
 use storing_exceptions::write_excepted;
@@ -32,7 +31,7 @@ fn write_letters(tag: u8, letters: &[u8], form: Form, from: usize, out: &mut [u8
     if size <= from {
         return 0;
     }
-    let len = least(FULL, size - from);
+    let len = FULL.min(size - from);
     let head = write_head(tag, len, out);
     copy_letters(letters, form, from, from + len, &mut out[head..]);
     head + len

@@ -17,10 +17,8 @@ pub(crate) fn write_form(letters: &[u8], form: Form, c: Cds, e: Exceptions, out:
     ensures out_after { out.new ≡ over (stored_form (reference_of (letters_by form letters.now) c e)) out.old }
 {
     let mut at = 0;
-    let mut tag = 1u8;
-    while tag < 9 {
-        at = at + write_tag(tag, letters, form, c, e, &mut out[at..]);
-        tag += 1;
+    for tag in 1..9u8 {
+        at += write_tag(tag, letters, form, c, e, &mut out[at..]);
     }
     at
 }

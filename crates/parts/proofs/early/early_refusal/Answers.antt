@@ -1,5 +1,7 @@
 -- `parts::early::early_refusal` meets its contract. Assumes nothing.
 use mathlib.Core.Path.{sym, ap, ◌∙◌}
+use Prim.Native.Nat.{◌+◌}
+use lib.ListN.{length}
 use native.Mathlib.Omega.{arith}
 use borrow.Author.Tests.{not-false, lt-ltb, le-ltb}
 use Rattle.rules.specs.Refusal.{limits}
@@ -7,19 +9,20 @@ use Rattle.rules.specs.Views.{bare}
 use Rattle.rules.proofs.Reference.{bounds_of}
 use Rattle.reference.proofs.Testing.{early_by, fits_are}
 use Rattle.parts.specs.Parts.{in_parts}
+use Rattle.parts.proofs.Judged.{long, short}
 use Rattle.parts.proofs.Places.{length-parts, letters-in}
 use mathlib.Core.Bool.{not}
 use Rattle.parts.proofs.early.early_refusal.Goals as goal
 
-pub returns-then-size-eq0 : goal.returns-then-size-eq0
-returns-then-size-eq0 c =
+pub returns-then-size-gt131072 : goal.returns-then-size-gt131072
+returns-then-size-gt131072 c =
     let a = c.args in
-    rw (early_by limits.longest (in_parts a.a.now a.b.now a.c.now) a.cds a.e, length-parts a.a.now a.b.now a.c.now, c.size_of-size.ensures.none c.if-size-eq0.true)
+    rw (early_by limits.longest (in_parts a.a.now a.b.now a.c.now) a.cds a.e, length-parts a.a.now a.b.now a.c.now, long (length a.a.now + (length a.b.now + length a.c.now)) _ (omega arith) (omega arith) c.if-size-gt131072.true)
 
 pub returns-then-not-are_letters : goal.returns-then-not-are_letters
 returns-then-not-are_letters c =
     let a = c.args in
-    let size = c.size_of-size.ensures.some c.if-size-eq0.false in
+    let size = short (length a.a.now + (length a.b.now + length a.c.now)) _ (omega arith) (omega arith) c.if-size-gt131072.false in
     rw (
       early_by limits.longest (in_parts a.a.now a.b.now a.c.now) a.cds a.e,
       length-parts a.a.now a.b.now a.c.now,
@@ -34,7 +37,7 @@ returns-then-not-are_letters c =
 pub returns-then-not-are_bounds : goal.returns-then-not-are_bounds
 returns-then-not-are_bounds c =
     let a = c.args in
-    let size = c.size_of-size.ensures.some c.if-size-eq0.false in
+    let size = short (length a.a.now + (length a.b.now + length a.c.now)) _ (omega arith) (omega arith) c.if-size-gt131072.false in
     rw (
       early_by limits.longest (in_parts a.a.now a.b.now a.c.now) a.cds a.e,
       ← c.are_bounds.ensures (in_parts a.a.now a.b.now a.c.now) (length-parts a.a.now a.b.now a.c.now ∙ sym size.0),
@@ -51,7 +54,7 @@ returns-then-not-are_bounds c =
 pub returns-then-cds-gt2 : goal.returns-then-cds-gt2
 returns-then-cds-gt2 c =
     let a = c.args in
-    let size = c.size_of-size.ensures.some c.if-size-eq0.false in
+    let size = short (length a.a.now + (length a.b.now + length a.c.now)) _ (omega arith) (omega arith) c.if-size-gt131072.false in
     rw (
       early_by limits.longest (in_parts a.a.now a.b.now a.c.now) a.cds a.e,
       ← c.are_bounds.ensures (in_parts a.a.now a.b.now a.c.now) (length-parts a.a.now a.b.now a.c.now ∙ sym size.0),
@@ -69,14 +72,14 @@ returns-then-cds-gt2 c =
 pub overflow_sub-cds : goal.overflow_sub-cds
 overflow_sub-cds c =
     let a = c.args in
-    let size = c.size_of-size.ensures.some c.if-size-eq0.false in
+    let size = short (length a.a.now + (length a.b.now + length a.c.now)) _ (omega arith) (omega arith) c.if-size-gt131072.false in
     let bounds = c.are_bounds in
     omega (arith, (bounds_of (bare (in_parts a.a.now a.b.now a.c.now) a.cds) (sym (bounds.ensures (in_parts a.a.now a.b.now a.c.now) (length-parts a.a.now a.b.now a.c.now ∙ sym size.0)) ∙ not-false bounds.result (ap not c.if-not-are_bounds.false))).first)
 
 pub overflow_sub-cds-2 : goal.overflow_sub-cds-2
 overflow_sub-cds-2 c =
     let a = c.args in
-    let size = c.size_of-size.ensures.some c.if-size-eq0.false in
+    let size = short (length a.a.now + (length a.b.now + length a.c.now)) _ (omega arith) (omega arith) c.if-size-gt131072.false in
     let bounds = c.are_bounds in
     let b = bounds_of (bare (in_parts a.a.now a.b.now a.c.now) a.cds) (sym (bounds.ensures (in_parts a.a.now a.b.now a.c.now) (length-parts a.a.now a.b.now a.c.now ∙ sym size.0)) ∙ not-false bounds.result (ap not c.if-not-are_bounds.false)) in
     omega (arith, b.first, b.rising)
@@ -84,7 +87,7 @@ overflow_sub-cds-2 c =
 pub returns-then-not-fit_exceptions : goal.returns-then-not-fit_exceptions
 returns-then-not-fit_exceptions c =
     let a = c.args in
-    let size = c.size_of-size.ensures.some c.if-size-eq0.false in
+    let size = short (length a.a.now + (length a.b.now + length a.c.now)) _ (omega arith) (omega arith) c.if-size-gt131072.false in
     let bounds = c.are_bounds in
     let same = bounds.ensures (in_parts a.a.now a.b.now a.c.now) (length-parts a.a.now a.b.now a.c.now ∙ sym size.0) in
     let b = bounds_of (bare (in_parts a.a.now a.b.now a.c.now) a.cds) (sym same ∙ not-false bounds.result (ap not c.if-not-are_bounds.false)) in
@@ -108,7 +111,7 @@ returns-then-not-fit_exceptions c =
 pub returns : goal.returns
 returns c =
     let a = c.args in
-    let size = c.size_of-size.ensures.some c.if-size-eq0.false in
+    let size = short (length a.a.now + (length a.b.now + length a.c.now)) _ (omega arith) (omega arith) c.if-size-gt131072.false in
     let bounds = c.are_bounds in
     let same = bounds.ensures (in_parts a.a.now a.b.now a.c.now) (length-parts a.a.now a.b.now a.c.now ∙ sym size.0) in
     let b = bounds_of (bare (in_parts a.a.now a.b.now a.c.now) a.cds) (sym same ∙ not-false bounds.result (ap not c.if-not-are_bounds.false)) in

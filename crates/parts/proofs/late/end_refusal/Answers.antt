@@ -12,8 +12,8 @@ returns-then-ends_in_stop c =
     let a = c.args in
     end-six (reference_of (in_parts a.a.now a.b.now a.c.now) a.cds a.e) c.ends_in_stop.result c.if-cds-eq0.true c.ends_in_stop.ensures _ (ap (λ (t : Bool). if t then 0 else 6) c.if-ends_in_stop.true)
 
-pub returns-else-ends_in_stop : goal.returns-else-ends_in_stop
-returns-else-ends_in_stop c =
+pub returns-then-cds-eq0 : goal.returns-then-cds-eq0
+returns-then-cds-eq0 c =
     let a = c.args in
     end-six (reference_of (in_parts a.a.now a.b.now a.c.now) a.cds a.e) c.ends_in_stop.result c.if-cds-eq0.true c.ends_in_stop.ensures _ (ap (λ (t : Bool). if t then 0 else 6) c.if-ends_in_stop.false)
 
@@ -22,7 +22,7 @@ returns-then-is_cut_short c =
     let a = c.args in
     end-twenty-eight (reference_of (in_parts a.a.now a.b.now a.c.now) a.cds a.e) c.is_cut_short.result c.if-cds-eq0.false c.is_cut_short.ensures _ (ap (λ (t : Bool). if t then 0 else 28) c.if-is_cut_short.true)
 
-pub returns-else-is_cut_short : goal.returns-else-is_cut_short
-returns-else-is_cut_short c =
+pub returns : goal.returns
+returns c =
     let a = c.args in
     end-twenty-eight (reference_of (in_parts a.a.now a.b.now a.c.now) a.cds a.e) c.is_cut_short.result c.if-cds-eq0.false c.is_cut_short.ensures _ (ap (λ (t : Bool). if t then 0 else 28) c.if-is_cut_short.false)

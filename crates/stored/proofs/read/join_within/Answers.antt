@@ -13,7 +13,7 @@ returns-then-not-is_joined c =
     let a = c.args in
     let said = c.is_joined in
     let whole = stays a.s.now a.p c.requires.placed (length a.joined.now) a.joined.now (sym said.ensures ∙ not-true said.result (ap not c.if-not-is_joined.true)) in
-    record { p_value_2 = whole.0; joined_after = whole.1 }
+    record { fits = whole.0; joined_after = whole.1 }
 
 pub overflow_add-p-2 : goal.overflow_add-p-2
 overflow_add-p-2 c =
@@ -25,11 +25,11 @@ returns-then-joined-p c =
     let a = c.args in
     let said = c.is_joined in
     let whole = no_room a.s.now a.p c.requires.placed (length a.joined.now) a.joined.now (sym said.ensures ∙ not-false said.result (ap not c.if-not-is_joined.false)) c.if-joined-p.true in
-    record { p_value_2 = whole.0; joined_after = whole.1 }
+    record { fits = whole.0; joined_after = whole.1 }
 
 pub returns : goal.returns
 returns c =
     let a = c.args in
     let said = c.is_joined in
     let whole = has_room a.s.now a.p c.requires.placed (length a.joined.now) a.joined.now (sym said.ensures ∙ not-false said.result (ap not c.if-not-is_joined.false)) c.if-joined-p.false _ c.join.ensures in
-    record { p_value_2 = whole.0; joined_after = whole.1 }
+    record { fits = whole.0; joined_after = whole.1 }

@@ -19,7 +19,7 @@ write_head-head-requires c =
     let a = c.args in
     let s = letters_by a.form a.letters.now in
     let size = c.size_of-size in
-    let least = c.least-len in
+    let least = c.min-len in
     let there : a.from < size.result = omega arith in
     let whole = head-room a.tag a.from size.result least.result s a.out.now size.ensures there least.ensures c.requires.letters_in_bounds in
     record { len_bound = whole.0; in_bounds = whole.1 }
@@ -29,7 +29,7 @@ slice_bounds-copy_letters-count c =
     let a = c.args in
     let s = letters_by a.form a.letters.now in
     let size = c.size_of-size in
-    let least = c.least-len in
+    let least = c.min-len in
     let there : a.from < size.result = omega arith in
     let head = c.write_head-head in
     head-fits a.tag a.from size.result least.result s a.out.now size.ensures there least.ensures c.requires.letters_in_bounds head.result head.new.out head.ensures.value head.ensures.out_after
@@ -39,7 +39,7 @@ slice_bounds-copy_letters-start c =
     let a = c.args in
     let s = letters_by a.form a.letters.now in
     let size = c.size_of-size in
-    let least = c.least-len in
+    let least = c.min-len in
     let there : a.from < size.result = omega arith in
     let head = c.write_head-head in
     head-fits a.tag a.from size.result least.result s a.out.now size.ensures there least.ensures c.requires.letters_in_bounds head.result head.new.out head.ensures.value head.ensures.out_after
@@ -49,7 +49,7 @@ copy_letters-requires c =
     let a = c.args in
     let s = letters_by a.form a.letters.now in
     let size = c.size_of-size in
-    let least = c.least-len in
+    let least = c.min-len in
     let there : a.from < size.result = omega arith in
     let head = c.write_head-head in
     record { in_letters = record { letters = c.requires.letters_value; rising = omega arith; ends = within a.tag a.from size.result least.result s a.out.now size.ensures there least.ensures c.requires.letters_in_bounds }; from_in_bounds = letters-room a.tag a.from size.result least.result s a.out.now size.ensures there least.ensures c.requires.letters_in_bounds head.result head.new.out head.ensures.value head.ensures.out_after }
@@ -59,7 +59,7 @@ returns c =
     let a = c.args in
     let s = letters_by a.form a.letters.now in
     let size = c.size_of-size in
-    let least = c.least-len in
+    let least = c.min-len in
     let there : a.from < size.result = omega arith in
     let head = c.write_head-head in
     let copied = c.copy_letters in

@@ -12,7 +12,4 @@ use Rattle.storing.proofs.form.write_form.Given as goal
 
 abbrev pub invariant-loop-tag : goal.invariant-loop-tag
 invariant-loop-tag l =
-    (1 ≤ l.tag) × (l.tag ≤ 9) × (l.at ≡ length (row one_field (held_by (reference_of (letters_by l.form l.letters) l.c l.e)) (tagged 0 []) (l.tag - 1))) × (l.out ≡ over (row one_field (held_by (reference_of (letters_by l.form l.letters) l.c l.e)) (tagged 0 []) (l.tag - 1)) l.initial.out)
-
-abbrev pub decreases-loop-tag : goal.decreases-loop-tag
-decreases-loop-tag l = 9 - l.tag
+    (l.at ≡ length (row one_field (held_by (reference_of (letters_by l.form l.letters) l.c l.e)) (tagged 0 []) (l.tag - 1))) × (l.out ≡ over (row one_field (held_by (reference_of (letters_by l.form l.letters) l.c l.e)) (tagged 0 []) (l.tag - 1)) l.initial.out)
