@@ -1,12 +1,13 @@
 -- The altered transcript alone and the whole answer agree: on 1 to 11, Unknown, the transcript and the flag. Only 12 is the whole answer's alone.
 -- Assumes nothing.
 use Rattle.std.specs.Prelude.{None, Some, if◌then◌else◌}
-use mathlib.Core.Path.{◌≡◌, refl}
+use mathlib.Core.Path.{◌≡◌, refl, sym, ap}
 use mathlib.Core.Bool.{Bool, true, false, ◌||◌}
 use mathlib.Core.List.{List}
 use Prim.Native.Nat.{ℕ, zero, suc, ◌+◌, ◌-◌}
 use native.Mathlib.Omega.{arith}
 use lib.Dec.{ltb}
+use lib.ListN.{length}
 use Rattle.rules.specs.declared.Limits.{Limits}
 use Rattle.rules.specs.declared.Report.{Report}
 use Rattle.rules.specs.Bytes.{given, refused, first_number}
@@ -32,6 +33,9 @@ pub record Agree (o : Outcome) (x : Edited) : Type 0 where
 
 never : {A : Type 0} → ◌≡◌ {A = ℕ} 0 1 → A
 never h = absurd (omega arith)
+
+fields : (k n : ℕ) (f g : Bool) → ◌≡◌ {A = Transcribed} (record { length = k; frameshift = f }) (record { length = n; frameshift = g }) → (k ≡ n) × (f ≡ g)
+fields k n f g h = (ap (λ (x : Transcribed). x.length) h, ap (λ (x : Transcribed). x.frameshift) h)
 
 module _ (m : Limits) (r : Reference) (a : Asked) (room : Room) where
   by : (n : ℕ) (u short none : Bool)
@@ -65,7 +69,7 @@ module _ (m : Limits) (r : Reference) (a : Asked) (room : Room) where
       record {
         refused = λ k h. never (cc);
         unknown = λ h. never (cc);
-        transcribed = λ k f h. reported (full_report r a) refl (cc) (cc) refl;
+        transcribed = λ k f h. let both = fields k (length (altered_transcript r a)) f (frameshift r a) (cc) in reported (full_report r a) refl (sym both.0) (sym both.1) refl;
       }
 
   pub agree : Agree (outcome m r a room) (edited m r a room.transcript)

@@ -21,6 +21,7 @@ fn are_letters(letters: &[u8], form: Form, plain: bool) -> bool
 }
 
 // The lowest of 1 to 5 that applies, or whether the letters are plain.
+#[tactic(auto, using(crate::proofs::Testing::early_by), unfolding(crate::specs::Known::early_of, rules::specs::Bytes::unless))]
 pub(crate) fn early_refusal(
     letters: &[u8],
     form: Form,

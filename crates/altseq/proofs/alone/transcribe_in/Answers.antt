@@ -23,35 +23,35 @@ decide-requires c =
     let a = c.args in
     record { checks = asks-known a.asks.form a.letters.now a.asks.cds a.asks.e _ c.in_ok-known.ensures.value; most_bound = omega arith }
 
-pub returns-in_err-decide : goal.returns-in_err-decide
-returns-in_err-decide c =
+pub returns-in_err-plan : goal.returns-in_err-plan
+returns-in_err-plan c =
     let a = c.args in
-    let whole = meets_none _ _ a.transcript.now (edit-refused a.asks.form a.letters.now a.asks.cds a.asks.e _ c.in_ok-known.ensures.value (asked a.asks.edit a.new.now) (length a.transcript.now) _ c.in_err-decide.ensures) in
-    record { value = exit-told _ _ c.from_residual.ensures.1 ∙ whole.0; transcript_after = whole.1 }
+    let whole = meets_none _ _ a.transcript.now (edit-refused a.asks.form a.letters.now a.asks.cds a.asks.e _ c.in_ok-known.ensures.value (asked a.asks.edit a.new.now) (length a.transcript.now) _ c.in_err-plan.ensures) in
+    record { value = exit-told _ _ c.from_residual-in_err-plan.ensures.1 ∙ whole.0; transcript_after = whole.1 }
 
-pub returns-in-None : goal.returns-in-None
-returns-in-None c =
+pub returns-in_default : goal.returns-in_default
+returns-in_default c =
     let a = c.args in
-    let whole = meets_none _ _ a.transcript.now (edit-open a.asks.form a.letters.now a.asks.cds a.asks.e _ c.in_ok-known.ensures.value (asked a.asks.edit a.new.now) (length a.transcript.now) c.in-None.ensures) in
+    let whole = meets_none _ _ a.transcript.now (edit-open a.asks.form a.letters.now a.asks.cds a.asks.e _ c.in_ok-known.ensures.value (asked a.asks.edit a.new.now) (length a.transcript.now) (rw c.in_default.is at c.in_ok-plan.ensures)) in
     record { value = whole.0; transcript_after = whole.1 }
 
 pub returns-then-transcript-plan : goal.returns-then-transcript-plan
 returns-then-transcript-plan c =
     let a = c.args in
-    let goes = edit-goes a.asks.form a.letters.now a.asks.cds a.asks.e _ c.in_ok-known.ensures.value (asked a.asks.edit a.new.now) (length a.transcript.now) _ c.in-Some.ensures in
+    let goes = edit-goes a.asks.form a.letters.now a.asks.cds a.asks.e _ c.in_ok-known.ensures.value (asked a.asks.edit a.new.now) (length a.transcript.now) _ (rw c.in-Some.is at c.in_ok-plan.ensures) in
     let whole = meets_none _ _ a.transcript.now (goes ∙ made-short c.in-Some.plan (letters_by a.asks.form a.letters.now) a.new.now (length a.transcript.now) c.if-transcript-plan.true) in
     record { value = whole.0; transcript_after = whole.1 }
 
 pub write_transcript-length-requires : goal.write_transcript-length-requires
 write_transcript-length-requires c =
     let a = c.args in
-    let fits = edit-fits a.asks.form a.letters.now a.asks.cds a.asks.e _ c.in_ok-known.ensures.value (asked a.asks.edit a.new.now) _ c.in-Some.ensures in
+    let fits = edit-fits a.asks.form a.letters.now a.asks.cds a.asks.e _ c.in_ok-known.ensures.value (asked a.asks.edit a.new.now) _ (rw c.in-Some.is at c.in_ok-plan.ensures) in
     fits_more c.in-Some.plan (letters_by a.asks.form a.letters.now) a.new.now _ _ fits c.if-transcript-plan.false
 
 pub returns : goal.returns
 returns c =
     let a = c.args in
-    let goes = edit-goes a.asks.form a.letters.now a.asks.cds a.asks.e _ c.in_ok-known.ensures.value (asked a.asks.edit a.new.now) (length a.transcript.now) _ c.in-Some.ensures in
+    let goes = edit-goes a.asks.form a.letters.now a.asks.cds a.asks.e _ c.in_ok-known.ensures.value (asked a.asks.edit a.new.now) (length a.transcript.now) _ (rw c.in-Some.is at c.in_ok-plan.ensures) in
     let wrote = c.write_transcript-length in
     let is = made c.in-Some.plan (letters_by a.asks.form a.letters.now) a.new.now (length a.transcript.now) c.if-transcript-plan.false in
     rw (goes, is, wrote.ensures.value) (record { value = refl; transcript_after = wrote.ensures.transcript_after })

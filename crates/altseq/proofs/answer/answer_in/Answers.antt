@@ -28,8 +28,8 @@ slice_bounds-answer_beside-end c =
     let ok = checked-accepted limits.longest a.asks.form s a.asks.cds a.asks.e _ x.value in
     residues-within limits a.asks.form s a.asks.cds a.asks.e _ ok.0 ok.1 _ _ (protein_held limits.longest s a.asks.cds a.asks.e _ _ ok.0 x.protein_after)
 
-pub slice_bounds-answer_beside-end-in_ok-known : goal.slice_bounds-answer_beside-end-in_ok-known
-slice_bounds-answer_beside-end-in_ok-known c =
+pub slice_bounds-answer_beside-end-2 : goal.slice_bounds-answer_beside-end-2
+slice_bounds-answer_beside-end-2 c =
     let a = c.args in
     let s = letters_by a.asks.form a.letters.now in
     let x = c.in_ok-known.ensures in

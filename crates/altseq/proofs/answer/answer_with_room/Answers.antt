@@ -1,6 +1,5 @@
 -- `altseq::answer::answer_with_room` meets its contract. Assumes nothing.
 use mathlib.Core.Path.{refl}
-use native.Mathlib.Omega.{arith}
 use Rattle.rules.specs.Bytes.{over}
 use Rattle.rules.proofs.Over.{copied_as}
 use Rattle.reference.proofs.Judging.{exit-told}

@@ -14,15 +14,15 @@ use Rattle.parts.proofs.Places.{length-parts, letters-in}
 use mathlib.Core.Bool.{not}
 use Rattle.parts.proofs.early.early_refusal.Goals as goal
 
-pub returns-then-size-gt131072 : goal.returns-then-size-gt131072
-returns-then-size-gt131072 c =
+pub returns-then-size : goal.returns-then-size
+returns-then-size c =
     let a = c.args in
-    rw (early_by limits.longest (in_parts a.a.now a.b.now a.c.now) a.cds a.e, length-parts a.a.now a.b.now a.c.now, long (length a.a.now + (length a.b.now + length a.c.now)) _ (omega arith) (omega arith) c.if-size-gt131072.true)
+    rw (early_by limits.longest (in_parts a.a.now a.b.now a.c.now) a.cds a.e, length-parts a.a.now a.b.now a.c.now, long (length a.a.now + (length a.b.now + length a.c.now)) c.saturating_add-size.result (omega arith) (omega arith) c.if-size.true)
 
 pub returns-then-not-are_letters : goal.returns-then-not-are_letters
 returns-then-not-are_letters c =
     let a = c.args in
-    let size = short (length a.a.now + (length a.b.now + length a.c.now)) _ (omega arith) (omega arith) c.if-size-gt131072.false in
+    let size = short (length a.a.now + (length a.b.now + length a.c.now)) c.saturating_add-size.result (omega arith) (omega arith) c.if-size.false in
     rw (
       early_by limits.longest (in_parts a.a.now a.b.now a.c.now) a.cds a.e,
       length-parts a.a.now a.b.now a.c.now,
@@ -37,7 +37,7 @@ returns-then-not-are_letters c =
 pub returns-then-not-are_bounds : goal.returns-then-not-are_bounds
 returns-then-not-are_bounds c =
     let a = c.args in
-    let size = short (length a.a.now + (length a.b.now + length a.c.now)) _ (omega arith) (omega arith) c.if-size-gt131072.false in
+    let size = short (length a.a.now + (length a.b.now + length a.c.now)) c.saturating_add-size.result (omega arith) (omega arith) c.if-size.false in
     rw (
       early_by limits.longest (in_parts a.a.now a.b.now a.c.now) a.cds a.e,
       ← c.are_bounds.ensures (in_parts a.a.now a.b.now a.c.now) (length-parts a.a.now a.b.now a.c.now ∙ sym size.0),
@@ -54,7 +54,7 @@ returns-then-not-are_bounds c =
 pub returns-then-cds-gt2 : goal.returns-then-cds-gt2
 returns-then-cds-gt2 c =
     let a = c.args in
-    let size = short (length a.a.now + (length a.b.now + length a.c.now)) _ (omega arith) (omega arith) c.if-size-gt131072.false in
+    let size = short (length a.a.now + (length a.b.now + length a.c.now)) c.saturating_add-size.result (omega arith) (omega arith) c.if-size.false in
     rw (
       early_by limits.longest (in_parts a.a.now a.b.now a.c.now) a.cds a.e,
       ← c.are_bounds.ensures (in_parts a.a.now a.b.now a.c.now) (length-parts a.a.now a.b.now a.c.now ∙ sym size.0),
@@ -72,14 +72,14 @@ returns-then-cds-gt2 c =
 pub overflow_sub-cds : goal.overflow_sub-cds
 overflow_sub-cds c =
     let a = c.args in
-    let size = short (length a.a.now + (length a.b.now + length a.c.now)) _ (omega arith) (omega arith) c.if-size-gt131072.false in
+    let size = short (length a.a.now + (length a.b.now + length a.c.now)) c.saturating_add-size.result (omega arith) (omega arith) c.if-size.false in
     let bounds = c.are_bounds in
     omega (arith, (bounds_of (bare (in_parts a.a.now a.b.now a.c.now) a.cds) (sym (bounds.ensures (in_parts a.a.now a.b.now a.c.now) (length-parts a.a.now a.b.now a.c.now ∙ sym size.0)) ∙ not-false bounds.result (ap not c.if-not-are_bounds.false))).first)
 
 pub overflow_sub-cds-2 : goal.overflow_sub-cds-2
 overflow_sub-cds-2 c =
     let a = c.args in
-    let size = short (length a.a.now + (length a.b.now + length a.c.now)) _ (omega arith) (omega arith) c.if-size-gt131072.false in
+    let size = short (length a.a.now + (length a.b.now + length a.c.now)) c.saturating_add-size.result (omega arith) (omega arith) c.if-size.false in
     let bounds = c.are_bounds in
     let b = bounds_of (bare (in_parts a.a.now a.b.now a.c.now) a.cds) (sym (bounds.ensures (in_parts a.a.now a.b.now a.c.now) (length-parts a.a.now a.b.now a.c.now ∙ sym size.0)) ∙ not-false bounds.result (ap not c.if-not-are_bounds.false)) in
     omega (arith, b.first, b.rising)
@@ -87,7 +87,7 @@ overflow_sub-cds-2 c =
 pub returns-then-not-fit_exceptions : goal.returns-then-not-fit_exceptions
 returns-then-not-fit_exceptions c =
     let a = c.args in
-    let size = short (length a.a.now + (length a.b.now + length a.c.now)) _ (omega arith) (omega arith) c.if-size-gt131072.false in
+    let size = short (length a.a.now + (length a.b.now + length a.c.now)) c.saturating_add-size.result (omega arith) (omega arith) c.if-size.false in
     let bounds = c.are_bounds in
     let same = bounds.ensures (in_parts a.a.now a.b.now a.c.now) (length-parts a.a.now a.b.now a.c.now ∙ sym size.0) in
     let b = bounds_of (bare (in_parts a.a.now a.b.now a.c.now) a.cds) (sym same ∙ not-false bounds.result (ap not c.if-not-are_bounds.false)) in
@@ -111,7 +111,7 @@ returns-then-not-fit_exceptions c =
 pub returns : goal.returns
 returns c =
     let a = c.args in
-    let size = short (length a.a.now + (length a.b.now + length a.c.now)) _ (omega arith) (omega arith) c.if-size-gt131072.false in
+    let size = short (length a.a.now + (length a.b.now + length a.c.now)) c.saturating_add-size.result (omega arith) (omega arith) c.if-size.false in
     let bounds = c.are_bounds in
     let same = bounds.ensures (in_parts a.a.now a.b.now a.c.now) (length-parts a.a.now a.b.now a.c.now ∙ sym size.0) in
     let b = bounds_of (bare (in_parts a.a.now a.b.now a.c.now) a.cds) (sym same ∙ not-false bounds.result (ap not c.if-not-are_bounds.false)) in

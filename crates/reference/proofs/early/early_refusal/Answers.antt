@@ -2,7 +2,7 @@
 use mathlib.Core.Path.{sym, ap, ◌∙◌}
 use mathlib.Core.Bool.{not}
 use native.Mathlib.Omega.{arith}
-use borrow.Author.Tests.{not-false, lt-ltb, le-ltb}
+use borrow.Author.Tests.{not-false, le-ltb}
 use Rattle.rules.specs.Bytes.{unless}
 use Rattle.rules.specs.Packed.{letters_by}
 use Rattle.rules.specs.Views.{bare}
@@ -10,61 +10,6 @@ use Rattle.rules.proofs.Reference.{bounds_of}
 use Rattle.reference.specs.Known.{early_of}
 use Rattle.reference.proofs.Testing.{early_by, fits_are}
 use Rattle.reference.proofs.early.early_refusal.Goals as goal
-
-pub returns-then-size-longest : goal.returns-then-size-longest
-unfolding unless early_of
-returns-then-size-longest c =
-    let a = c.args in
-    let sized = c.size_of-size.ensures in
-    rw (
-      early_by a.longest (letters_by a.form a.letters.now) a.c a.e,
-      ← sized,
-      c.if-size-longest.true,
-    )
-
-pub returns-then-not-are_letters : goal.returns-then-not-are_letters
-unfolding unless early_of
-returns-then-not-are_letters c =
-    let a = c.args in
-    let sized = c.size_of-size.ensures in
-    rw (
-      early_by a.longest (letters_by a.form a.letters.now) a.c a.e,
-      ← sized,
-      c.if-size-longest.false,
-      ← c.are_letters.ensures,
-      (ap not c.if-not-are_letters.true),
-    )
-
-pub returns-then-not-are_bounds : goal.returns-then-not-are_bounds
-unfolding unless early_of
-returns-then-not-are_bounds c =
-    let a = c.args in
-    let sized = c.size_of-size.ensures in
-    rw (
-      early_by a.longest (letters_by a.form a.letters.now) a.c a.e,
-      ← sized,
-      c.if-size-longest.false,
-      ← c.are_letters.ensures,
-      (ap not c.if-not-are_letters.false),
-      ← c.are_bounds.ensures (letters_by a.form a.letters.now) (sym sized),
-      (ap not c.if-not-are_bounds.true),
-    )
-
-pub returns-then-c-gt2 : goal.returns-then-c-gt2
-unfolding unless early_of
-returns-then-c-gt2 c =
-    let a = c.args in
-    let sized = c.size_of-size.ensures in
-    rw (
-      early_by a.longest (letters_by a.form a.letters.now) a.c a.e,
-      ← sized,
-      c.if-size-longest.false,
-      ← c.are_letters.ensures,
-      (ap not c.if-not-are_letters.false),
-      ← c.are_bounds.ensures (letters_by a.form a.letters.now) (sym sized),
-      (ap not c.if-not-are_bounds.false),
-      lt-ltb 2 a.c.table c.if-c-gt2.true,
-    )
 
 pub overflow_sub-c : goal.overflow_sub-c
 overflow_sub-c c =
