@@ -42,6 +42,7 @@ pub fn next_difference(
     let g = s.form;
     let d = s.cds;
     let mut m = n;
+    // Kept: no for, since each turn finds where the next begins.
     while m < past {
         let p = entry_of(first, f, c, m);
         let q = entry_of(second, g, d, m);
