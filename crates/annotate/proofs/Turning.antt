@@ -1,22 +1,20 @@
 -- Laws of a piece that is answered step by step, and of a read.
 -- Assumes nothing.
 use mathlib.Core.Path.{◌≡◌, refl, ◌∙◌}
-use mathlib.Core.Bool.{Bool, true, false}
 use mathlib.Core.List.{List}
 use Prim.Native.Nat.{ℕ, ◌+◌, ◌-◌, ◌^◌, ◌≤◌, ◌<◌}
 use native.Mathlib.Omega.{arith}
 use lib.ListN.{length, take, drop, length-drop}
 use lib.Seq.{length-take-le, take-length}
 use Rattle.rules.proofs.Over.{tail-is}
-use Rattle.text_answers.specs.Stage.{Stage, is_ended}
+use Rattle.text_answers.specs.Stage.{Stage}
 use Rattle.text_lines.specs.declared.State.{State}
 use Rattle.text_gather.specs.Steps.{after, Steps}
-use Rattle.text_lines.specs.Memory.{fresh, stage_of, Rooms, Keeps}
+use Rattle.text_lines.specs.Memory.{stage_of, Rooms, Keeps}
 use Rattle.text_lines.proofs.Turns.{row-reached}
 use Rattle.text_lines.proofs.Room.{takes_some}
-use Rattle.text_lines.proofs.Rooms.{fresh_keeps, rooms_kept}
-use Rattle.annotate.specs.declared.Next.{Next}
-use Rattle.annotate.specs.Turns.{piece_room, next_by, Turned}
+use Rattle.text_lines.proofs.Rooms.{rooms_kept}
+use Rattle.annotate.specs.Turns.{piece_room}
 
 -- at the head of a turn: the run stands behind the first `at` bytes of a piece
 pub record Reached (x : Stage) (s : State) (input line letters protein out line₀ letters₀ protein₀ : List ℕ) (at : ℕ) : Type 0 where
@@ -72,45 +70,3 @@ module _ (x : Stage) (s : State) (input line letters protein out line₀ letters
 
   pub reached-all : length input ≤ at → stage_of s line letters ≡ after x input
   reached-all h = let done : at ≡ length input = omega (arith, g.inside) in g.stage ∙ rw (done, take-length input)
-
-pub not_written : false ≡ true → ⊥
-not_written e = let z : ◌≡◌ {A = ℕ} 0 1 = cc in omega arith
-
--- what a read made of the run, by whether the answers were written and whether the run has ended
-pub turned : (x x' : Stage) (came : List ℕ) (written : Bool) (n : Next) → n ≡ next_by written (is_ended x') → (written ≡ true → x' ≡ after x came) → Turned n x x' came
-turned x x' came false n is h = rw is tt
-turned x x' came true n is h = rw is (by (is_ended x') refl)
-  where
-    by : (e : Bool) → is_ended x' ≡ e → Turned (next_by true e) x x' came
-    by true q = (h refl, q)
-    by false q = (h refl, q)
-
--- at the head of a read
-pub record Reading (s : State) (line₀ letters₀ protein₀ input₀ out₀ line letters protein input out : List ℕ) : Type 0 where
-  pub rooms : Rooms line letters protein
-  pub keeps : Keeps s letters protein
-  pub room : length out ≡ piece_room
-  pub of-line : length line ≡ length line₀
-  pub of-letters : length letters ≡ length letters₀
-  pub of-protein : length protein ≡ length protein₀
-  pub of-input : length input ≡ length input₀
-  pub of-out : length out ≡ length out₀
-
-pub reading : (s : State) (line letters protein input out : List ℕ) → s ≡ fresh → Rooms line letters protein → length out ≡ piece_room → Reading s line letters protein input out line letters protein input out
-reading s line letters protein input out is rooms room =
-    record { rooms = rooms; keeps = fresh_keeps s letters protein is; room = room; of-line = refl; of-letters = refl; of-protein = refl; of-input = refl; of-out = refl }
-
-pub reading_on : (s : State) (line₀ letters₀ protein₀ input₀ out₀ line letters protein input out : List ℕ) → Reading s line₀ letters₀ protein₀ input₀ out₀ line letters protein input out
-    → (s' : State) (line' letters' protein' input' out' : List ℕ) → Keeps s' letters' protein' → length line' ≡ length line → length letters' ≡ length letters → length protein' ≡ length protein
-    → length input' ≡ length input → length out' ≡ length out → Reading s' line₀ letters₀ protein₀ input₀ out₀ line' letters' protein' input' out'
-reading_on s line₀ letters₀ protein₀ input₀ out₀ line letters protein input out g s' line' letters' protein' input' out' keeps a b c d e =
-    record {
-      rooms = rooms_kept line letters protein line' letters' protein' g.rooms a b c;
-      keeps = keeps;
-      room = e ∙ g.room;
-      of-line = a ∙ g.of-line;
-      of-letters = b ∙ g.of-letters;
-      of-protein = c ∙ g.of-protein;
-      of-input = d ∙ g.of-input;
-      of-out = e ∙ g.of-out;
-    }

@@ -5,7 +5,8 @@ use Rattle.text_gather.specs.Steps.{after}
 use Rattle.annotate.specs.declared.Next.{Next}
 use Rattle.annotate.specs.declared.Next.TheVariants.{Read, Finish, Stop}
 use Rattle.annotate.specs.declared.Failure.{Failure}
-use Rattle.annotate.specs.declared.Failure.TheVariants.{Unread, Unwritten, Closed}
+use Rattle.annotate.specs.declared.Failure.TheVariants.{Unread, Unwritten}
+use Rattle.annotate.specs.declared.Unsent.TheVariants.{Closed, Failed}
 
 -- the bytes that are read and written at once
 abbrev pub piece_room : ℕ
@@ -17,16 +18,15 @@ Turned (Ok Read) x x' came = (x' ≡ after x came) × (is_ended x' ≡ false)
 Turned (Ok Finish) x x' came = x' ≡ x
 Turned (Ok Stop) x x' came = (x' ≡ after x came) × (is_ended x' ≡ true)
 Turned (Err Unread) x x' came = x' ≡ x
-Turned (Err Unwritten) x x' came = Unit
-Turned (Err Closed) x x' came = Unit
+Turned (Err (Unwritten u)) x x' came = Unit
 
 -- The exit status: 1 where answers are missing or the input can't be read; where nobody reads the answers any more, a shell's for a program that a broken
 -- pipe has ended.
 abbrev pub status_of : Result (Unit {0}) Failure → ℕ
 status_of (Ok x) = 0
 status_of (Err Unread) = 1
-status_of (Err Unwritten) = 1
-status_of (Err Closed) = 141
+status_of (Err (Unwritten Failed)) = 1
+status_of (Err (Unwritten Closed)) = 141
 
 abbrev pub is_editing : Stage → Bool
 is_editing (opening l) = false

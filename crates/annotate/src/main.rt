@@ -8,7 +8,7 @@
 
 mod says;
 
-ghost use Rattle.std.specs.Prelude.{◌≡◌, ℕ, ◌≤◌, length, take, Ok, Err, OnOk};
+ghost use Rattle.std.specs.Prelude.{◌≡◌, ℕ, ◌≤◌, length, take, Err, IfOk, OnOk};
 ghost use Rattle.text_gather.specs.Steps.{after, Steps};
 ghost use Rattle.text_lines.specs.Memory.{stage_of, Rooms, Keeps};
 ghost use Rattle.annotate.specs.Turns.{piece_room, status_of, Turned};
@@ -35,19 +35,35 @@ enum Next {
     Stop,
 }
 
-// Why a run breaks off: the input can't be read, or the answers can't be written; or nobody reads these any more.
+// Why bytes weren't written: nobody reads them any more, or something else.
+#[derive(Clone, Copy)]
+enum Unsent {
+    Closed,
+    Failed,
+}
+
+// Why a run breaks off: the input can't be read, or the answers can't be written.
 #[derive(Clone, Copy)]
 enum Failure {
     Unread,
-    Unwritten,
-    Closed,
+    Unwritten(Unsent),
+}
+
+impl From<Unsent> for Failure {
+    ghost use Rattle.annotate.specs.declared.Failure.TheVariants.{Unwritten};
+
+    ghost from_gives = { λ unsent failure. failure ≡ Unwritten unsent };
+
+    fn from(unsent: Unsent) -> Failure {
+        Failure::Unwritten(unsent)
+    }
 }
 
 // Writes bytes out.
-fn send(stdout: &mut Stdout, bytes: &[u8]) -> Result<(), Failure> {
+fn send(stdout: &mut Stdout, bytes: &[u8]) -> Result<(), Unsent> {
     stdout.write_all(bytes).map_err(|e| match e.kind() {
-        ErrorKind::BrokenPipe => Failure::Closed,
-        _ => Failure::Unwritten,
+        ErrorKind::BrokenPipe => Unsent::Closed,
+        _ => Unsent::Failed,
     })
 }
 
@@ -60,12 +76,12 @@ fn put_some(
     protein: &mut [u8],
     input: &[u8],
     out: &mut [u8],
-) -> Result<usize, Failure>
+) -> Result<usize, Unsent>
     requires rooms { Rooms line.old letters.old protein.old }
     requires keeps { Keeps state.old letters.old protein.old }
     ensures still_keeps { Keeps state.new letters.new protein.new }
-    ensures steps { (taken : ℕ) → result ≡ Ok taken → (used : ℕ) × Steps (stage_of state.old line.old letters.old) (stage_of state.new line.new letters.new)
-        input.now taken used out.old out.new }
+    ensures steps { IfOk result (λ taken. (used : ℕ) × Steps (stage_of state.old line.old letters.old) (stage_of state.new line.new letters.new)
+        input.now taken used out.old out.new) }
 {
     let stepped = text_lines::step(*state, line, letters, protein, input, out);
     *state = stepped.state;
@@ -82,7 +98,7 @@ fn run_piece(
     protein: &mut [u8],
     input: &[u8],
     out: &mut [u8],
-) -> Result<(), Failure>
+) -> Result<(), Unsent>
     requires rooms { Rooms line.old letters.old protein.old }
     requires keeps { Keeps state.old letters.old protein.old }
     requires out_len { length out.old ≡ piece_room }
@@ -91,7 +107,8 @@ fn run_piece(
 {
     let mut at = 0;
     while at < input.len() {
-        at += put_some(stdout, state, line, letters, protein, &input[at..], out)?;
+        let taken = put_some(stdout, state, line, letters, protein, &input[at..], out)?;
+        at += taken;
     }
     Ok(())
 }
@@ -114,7 +131,9 @@ fn run_once(
     ensures turned { (came : ℕ) × (came ≤ length input.new)
         × Turned result (stage_of state.old line.old letters.old) (stage_of state.new line.new letters.new) (take came input.new) }
 {
-    let came = stdin.read(input).map_err(|_| Failure::Unread)?;
+    let Ok(came) = stdin.read(input) else {
+        return Err(Failure::Unread);
+    };
     if came == 0 {
         return Ok(Next::Finish);
     }
@@ -160,12 +179,13 @@ fn run_last(
     letters: &mut [u8],
     protein: &mut [u8],
     out: &mut [u8],
-) -> Result<(), Failure>
+) -> Result<(), Unsent>
     requires rooms { Rooms line.old letters.old protein.old }
     requires keeps { Keeps state letters.old protein.old }
 {
-    let size = text_lines::finish(state, line, letters, protein, out)
-        .map_err(|_| Failure::Unwritten)?;
+    let Ok(size) = text_lines::finish(state, line, letters, protein, out) else {
+        return Err(Unsent::Failed);
+    };
     send(stdout, &out[..size])
 }
 
@@ -184,7 +204,7 @@ fn end_run(
     ensures failure { (f : Failure) → ended ≡ Err f → result ≡ Err f }
 {
     match ended? {
-        Next::Finish => run_last(stdout, state, line, letters, protein, out),
+        Next::Finish => Ok(run_last(stdout, state, line, letters, protein, out)?),
         _ => Ok(()),
     }
 }
@@ -195,15 +215,15 @@ fn status_of(stderr: &mut Stderr, done: Result<(), Failure>) -> u8
 {
     match done {
         Ok(()) => 0,
-        Err(Failure::Closed) => CLOSED,
         Err(Failure::Unread) => {
             say_unread(stderr);
             FAILED
         }
-        Err(Failure::Unwritten) => {
+        Err(Failure::Unwritten(Unsent::Failed)) => {
             say_unwritten(stderr);
             FAILED
         }
+        Err(Failure::Unwritten(Unsent::Closed)) => CLOSED,
     }
 }
 

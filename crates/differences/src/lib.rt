@@ -29,6 +29,7 @@ pub fn count_differences(
 {
     let mut count = 0;
     let mut n = next_difference(first, r, a, second, s, b, 1, past);
+    // Kept: no for, since each turn finds where the next begins.
     while n < past {
         count += 1;
         n = next_difference(first, r, a, second, s, b, n + 1, past);
@@ -84,6 +85,7 @@ pub fn write_differences(
 {
     let mut at = 0;
     let mut n = next_difference(first, r, a, second, s, b, 1, past);
+    // Kept: no for, since each turn finds where the next begins.
     while n < past {
         put_difference(first, r, a, second, s, b, n, &mut out[at..]);
         at += 4;

@@ -82,7 +82,12 @@ pub fn compare(
     ensures answer { compared_told result ≡ written_of (compared limits.longest (edition_of first.now r) (edition_of second.now s) (length out.old)) }
     ensures written { out.new ≡ over (bytes_of (compared limits.longest (edition_of first.now r) (edition_of second.now s) (length out.old))) out.old }
 {
-    judge_reference(first, r.form, r.cds, r.e, LONGEST).map_err(Uncompared::First)?;
-    judge_reference(second, s.form, s.cds, s.e, LONGEST).map_err(Uncompared::Second)?;
-    list_differences(first, r, second, s, out)
+    // Kept: a match and no `?`, since a refusal of the first and one of the second go to variants of their own.
+    match judge_reference(first, r.form, r.cds, r.e, LONGEST) {
+        Err(refusal) => Err(Uncompared::First(refusal)),
+        Ok(_) => match judge_reference(second, s.form, s.cds, s.e, LONGEST) {
+            Err(refusal) => Err(Uncompared::Second(refusal)),
+            Ok(_) => list_differences(first, r, second, s, out),
+        },
+    }
 }

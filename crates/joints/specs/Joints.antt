@@ -7,7 +7,6 @@ use Rattle.rules.specs.Edit.{Asked, edit_tests}
 use Rattle.rules.specs.Pair.{pair_tests}
 use Rattle.reference.specs.declared.Known.{Known}
 use Rattle.reference.specs.Known.{known_of, Checks}
-use Rattle.edits.specs.declared.plans.Plan.{Plan}
 use Rattle.edits.specs.Plans.{plan_of}
 use Rattle.joints.specs.declared.Joint.{Joint}
 

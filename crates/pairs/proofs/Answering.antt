@@ -21,7 +21,6 @@ use Rattle.reference.specs.declared.Known.{Known}
 use Rattle.reference.specs.Known.{known_of, checked_of, Knows}
 use Rattle.reference.proofs.Judging.{was-refused, was-given}
 use Rattle.reference.proofs.Checking.{checked_refused, checked-accepted, form-known, cds-known, checks}
-use Rattle.edits.specs.declared.plans.Plan.{Plan}
 use Rattle.edits.specs.Plans.{plan_of}
 use Rattle.joints.specs.declared.Joint.{Joint}
 use Rattle.joints.specs.Joints.{joint_of}

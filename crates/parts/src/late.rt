@@ -60,6 +60,7 @@ fn has_no_stop(a: &[u8], b: &[u8], c: &[u8], cds: Cds, e: Exceptions) -> bool
     let residues = residues_of(cds.table);
     let whole = (cds.ce - (cds.cs - 1)) / 3;
     let mut k = 0;
+    // Kept: no for, since each turn finds where the next begins.
     while k < whole {
         let to = pass_codons(a, b, c, cds, e, &sets, &residues, k);
         if whole <= to {

@@ -13,7 +13,6 @@ ghost use Rattle.rules.specs.Panel.{is_panel_kind, is_inside, is_of_panel, profi
 ghost use Rattle.profile.specs.Numbers.{uneven_by, tests_by, Editable};
 
 use indexes::index_of;
-use numbers::wide;
 use packed::{letter_at, size_of};
 use reference::Known;
 use rules::{Edit, Kind, Position, Refusal};
@@ -40,10 +39,7 @@ fn is_inside(p: Position) -> bool
 fn is_of_panel(edit: Edit) -> bool
     ensures { (new : List ℕ) → result ≡ is_of_panel (asked edit new) }
 {
-    let kind = edit.kind;
-    let start = edit.start;
-    let end = edit.end;
-    is_panel_kind(kind) & is_inside(start) & is_inside(end)
+    is_panel_kind(edit.kind) & is_inside(edit.start) & is_inside(edit.end)
 }
 
 // 42: whether the net change, before the cut, isn't divisible by three, where `span` bases are named and `len` are new.
@@ -97,13 +93,11 @@ pub fn profile_refusal(
     let form = known.form;
     let c = known.cds;
     let kind = edit.kind;
-    let start = edit.start;
-    let end = edit.end;
     let bases = known.plain & all_bases(new);
     let size = size_of(letters, form);
-    let first = index_of(start, c, size);
-    let last = index_of(end, c, size);
+    let first = index_of(edit.start, c, size);
+    let last = index_of(edit.end, c, size);
     let uneven = is_uneven(kind, last + 1 - first, new.len());
-    let names = !is_naming(kind) | (named == wide(letter_at(letters, form, first)));
+    let names = !is_naming(kind) | (named == usize::from(letter_at(letters, form, first)));
     first_refusal(bases, is_of_panel(edit), uneven, names)
 }

@@ -32,13 +32,7 @@ fn keeps_all(c: Cds, plan: Plan) -> bool
 }
 
 // The pieces of a plan, where R has so many residues. Behind a frameshift, or where no CDS codon follows, all is read.
-#[tactic(
-    auto,
-    unfolding(
-        crate::specs::Reusing::pieces_by,
-        crate::specs::Reusing::is_level_by
-    )
-)]
+#[tactic(auto, unfolding(crate::specs::Reusing::pieces_by, crate::specs::Reusing::is_level_by))]
 pub fn pieces_of(c: Cds, plan: Plan, residues: usize) -> Pieces
     requires bounded { Bounded c }
     requires placed { Placed c plan }

@@ -16,7 +16,7 @@ fn pass_equal(first: &[u8], r: Edition, second: &[u8], s: Edition, n: usize, pas
     requires past_bound { past ≤ 65536 }
     ensures { Passes (edition_of first.now r) (edition_of second.now s) n past result }
 {
-    past.min(n + equal_codons(first, r, second, s, n))
+    (n + equal_codons(first, r, second, s, n)).min(past)
 }
 
 // The first codon from n on, and before `past`, that has other letters or another residue; where none has, `past`.
@@ -42,6 +42,7 @@ pub fn next_difference(
     let g = s.form;
     let d = s.cds;
     let mut m = n;
+    // Kept: no for, since each turn finds where the next begins.
     while m < past {
         let p = entry_of(first, f, c, m);
         let q = entry_of(second, g, d, m);

@@ -14,6 +14,7 @@ pub(crate) fn fields_refusal(s: &[u8]) -> Result<(), Refusal>
 {
     let mut at = 0;
     let mut last = 0;
+    // Kept: no for, since each turn finds where the next begins.
     loop {
         let f = next_field(s, at);
         field_refusal(s, last, f)?;

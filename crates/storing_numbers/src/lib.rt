@@ -10,6 +10,8 @@ use byte_numbers::{write_four, write_two};
 use fields::write_field;
 use rules::Cds;
 
+// Kept: one function for each width, since one for both would take the writer of a number, its bytes, its bound and its form: it is no plainer.
+
 // cs, then ce, two bytes each.
 fn write_two_each(c: Cds, out: &mut [u8]) -> usize
     requires cs_bound { (c.cs < 65536) × (c.ce < 65536) }
@@ -31,6 +33,8 @@ fn write_four_each(c: Cds, out: &mut [u8]) -> usize
     let start = write_four(c.cs, out);
     start + write_four(c.ce, &mut out[start..])
 }
+
+// Kept: one function for each tag, since one for both would take the tag, the test, the width and the form: it is no plainer.
 
 // Tag 2; none where the transcript is long.
 pub fn write_narrow(long: bool, c: Cds, out: &mut [u8]) -> usize

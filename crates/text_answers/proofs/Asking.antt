@@ -1,5 +1,7 @@
 -- Laws of an edit line's answer: what the whole answer to an edit prints as, and which lines are in the form.
 -- Assumes nothing.
+use Rattle.std.specs.Prelude.{None, Some}
+use Rattle.std.specs.Prelude.{Option as Returned}
 use mathlib.Core.Path.{◌≡◌, refl, sym, ap, ◌∙◌}
 use mathlib.Core.Bool.{true, false}
 use mathlib.Core.List.{List, [], ◌∷◌, ◌++◌}
@@ -14,9 +16,8 @@ use Rattle.rules.specs.declared.Record.{Record}
 use Rattle.rules.specs.declared.Record.TheVariants.{Unknown}
 use Rattle.rules.specs.declared.Record.TheVariants as found
 use Rattle.rules.specs.declared.Report.{Report}
-use Rattle.rules.specs.declared.Answer.TheVariants as answer
-use Rattle.rules.specs.Bytes.{first_number, unless, over}
-use Rattle.rules.specs.Translation.{exception_list, residue_count}
+use Rattle.rules.specs.Bytes.{Result, given, refused, first_number, unless, over}
+use Rattle.rules.specs.Translation.{no_exceptions, exception_list, residue_count}
 use Rattle.rules.specs.Reference.{Reference, size, cds_size}
 use Rattle.rules.specs.Edit.{Asked, edit_tests}
 use Rattle.rules.specs.Protein.{altered_protein}
@@ -34,8 +35,6 @@ use Rattle.rules.proofs.Reference.{accepted, protein_read}
 use Rattle.reference.specs.declared.Known.{Known}
 use Rattle.reference.specs.Known.{Knows}
 use Rattle.edits.specs.declared.plans.Plan.{Plan}
-use Rattle.edits.specs.declared.decision.Decision.{Decision}
-use Rattle.edits.specs.declared.decision.Decision.TheVariants as decision
 use Rattle.edits.specs.Plans.{plan_of}
 use Rattle.edits.specs.Decisions.{decision_of}
 use Rattle.edits.proofs.Deciding.{decided-refusal, decided-unknown}
@@ -44,11 +43,10 @@ use Rattle.altseq.specs.Carried.{protein_by, report_by, Carries}
 use Rattle.altseq.specs.Decided.{decided_outcome}
 use Rattle.altseq.proofs.Answering.{goes-all, unknown-is, allowed-is, none-refused, not-unknown, plan-is}
 use Rattle.text_forms.specs.declared.line.EditLine.{EditLine}
-use Rattle.text_forms.specs.declared.line.EditLine.TheVariants as edit-line
 use Rattle.text_forms.specs.Views.{edit_line_in}
 use Rattle.text_prints.proofs.Sizes.{record_size}
 use Rattle.text_answers.specs.Rooms.{letters_room, protein_room, transcript_room, Ample}
-use Rattle.text_answers.specs.Lines.{no_exceptions, plan_line, Line}
+use Rattle.text_answers.specs.Lines.{plan_line, Line}
 
 -- a line with its end
 pub one_line : (l k : List ℕ) → l ≡ k → unlines (l ∷ []) ≡ k ++ (line_feed ∷ [])
@@ -77,39 +75,41 @@ protein-short s k protein known =
     (omega (arith, r.two), omega (arith, r.counted, a.fits, a.bounds.first, a.bounds.inside))
 
 -- an edit of a checked reference, as it was decided
-module _ (s : List ℕ) (k : Known) (protein : List ℕ) (known : Knows text_limits s k no_exceptions protein) (edit : Edit) (new : List ℕ) (d : Decision)
-    (is : d ≡ decision_of text_limits.most k.several (bare s k.cds) (asked edit new)) where
+module _ (s : List ℕ) (k : Known) (protein : List ℕ) (known : Knows text_limits s k no_exceptions protein) (edit : Edit) (new : List ℕ) where
   abbrev r : Reference
   r = reference_of s k.cds no_exceptions
 
   abbrev a : Asked
   a = asked edit new
 
+  abbrev decided : Result (Returned Plan)
+  decided = decision_of text_limits.most k.several (bare s k.cds) a
+
   allowed : refusal text_limits r a ≡ first_number (edit_tests text_limits.most (bare s k.cds) a)
   allowed = allowed-is text_limits s k no_exceptions protein known a
 
-  pub asked-refused : (n : ℕ) → d ≡ decision.Refused n → edit_answer (bare s k.cds) (some a) ≡ refused_line n
+  pub asked-refused : (n : ℕ) → refused n ≡ decided → edit_answer (bare s k.cds) (some a) ≡ refused_line n
   unfolding exception_list edit_answer answer_line record_unless unless
   asked-refused n h =
-      let both = decided-refusal text_limits.most k.several (bare s k.cds) a n (sym is ∙ h) in
+      let both = decided-refusal text_limits.most k.several (bare s k.cds) a n (sym h) in
       by n (allowed ∙ both.0) both.1
     where
       by : (n : ℕ) → refusal text_limits r a ≡ n → 1 ≤ n → edit_answer (bare s k.cds) (some a) ≡ refused_line n
       by zero z h = absurd (omega arith)
       by (suc n) z h = rw z
 
-  pub asked-unknown : d ≡ decision.Unknown → edit_answer (bare s k.cds) (some a) ≡ record_line Unknown protein []
+  pub asked-unknown : given None ≡ decided → edit_answer (bare s k.cds) (some a) ≡ record_line Unknown protein []
   unfolding exception_list edit_answer answer_line record_unless unless record_line
   asked-unknown h =
-      let both = decided-unknown text_limits.most k.several (bare s k.cds) a (sym is ∙ h) in
+      let both = decided-unknown text_limits.most k.several (bare s k.cds) a (sym h) in
       let none : refusal text_limits r a ≡ 0 = allowed ∙ both.0 in
       let unknown : record_of r a ≡ Unknown = record-unknown r a (unknown-is text_limits s k no_exceptions protein known a ∙ both.1) in
       rw (none, unknown)
 
   -- the edit goes
-  module _ (p : Plan) (h : d ≡ decision.Goes p) where
-    goes : decision_of text_limits.most k.several (bare s k.cds) a ≡ decision.Goes p
-    goes = sym is ∙ h
+  module _ (p : Plan) (h : given (Some p) ≡ decided) where
+    goes : decided ≡ given (Some p)
+    goes = sym h
 
     none : refusal text_limits r a ≡ 0
     none = none-refused text_limits s k no_exceptions protein known a p goes
@@ -141,7 +141,7 @@ module _ (s : List ℕ) (k : Known) (protein : List ℕ) (known : Knows text_lim
     unfolding exception_list edit_answer answer_line record_unless unless decided_outcome writes_all full_report
     asked-goes =
         let all = goes-all r a p plan (not-unknown text_limits s k no_exceptions protein known a p goes) text_limits none in
-        let said : answer.Reported (report_by r p new) ≡ answer.Reported (full_report r a) = ap (λ (o : Outcome). o.answer) all in
+        let said : given (report_by r p new) ≡ given (full_report r a) = ap (λ (o : Outcome). o.answer) all in
         let same : report_by r p new ≡ full_report r a = cc in
         let found : (report_by r p new).found ≡ record_of r a = ap (λ (u : Report). u.found) same in
         let made : protein_by r p new ≡ altered_protein r a = ap (λ (o : Outcome). o.altered) all in
@@ -178,11 +178,11 @@ module _ (r : Reference) (line : List ℕ) where
   unfolding edit_line_answer edit_answer
   edit-long h = rw h
 
-  module _ (h : fits_line line ≡ true) (x : EditLine) (is : edit_line_in line x ≡ edit_line line) where
-    pub edit-formless : x ≡ edit-line.Not → edit_line_answer r line ≡ refused_line 30
+  module _ (h : fits_line line ≡ true) (x : Returned EditLine) (is : edit_line_in line x ≡ edit_line line) where
+    pub edit-formless : x ≡ None → edit_line_answer r line ≡ refused_line 30
     unfolding edit_line_answer edit_answer
     edit-formless q = rw (h, ← is, q)
 
-    pub edit-asked : (e : Edit) (at : ℕ) → x ≡ edit-line.Asked e at → edit_line_answer r line ≡ edit_answer r (some (asked e (drop at line)))
+    pub edit-asked : (e : EditLine) → x ≡ Some e → edit_line_answer r line ≡ edit_answer r (some (asked e.edit (drop e.at line)))
     unfolding edit_line_answer
-    edit-asked e at q = rw (h, ← is, q)
+    edit-asked e q = rw (h, ← is, q)

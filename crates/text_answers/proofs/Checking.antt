@@ -1,6 +1,7 @@
 -- Laws of a first line's answer: what the check of a reference prints and leaves, and which lines are in the form.
 -- Assumes nothing.
-use Rattle.std.specs.Prelude.{if◌then◌else◌}
+use Rattle.std.specs.Prelude.{if◌then◌else◌, None, Some}
+use Rattle.std.specs.Prelude.{Option as Returned}
 use mathlib.Core.Path.{◌≡◌, refl, sym, ap, ◌∙◌}
 use mathlib.Core.Bool.{true, false}
 use mathlib.Core.List.{List, [], ◌∷◌, ◌++◌}
@@ -9,8 +10,8 @@ use Prim.Native.Nat.{ℕ, zero, suc, ◌-◌, ◌≤◌, ◌<◌}
 use native.Mathlib.Omega.{arith}
 use lib.ListN.{length, take, drop}
 use Rattle.rules.specs.declared.Exceptions.{Exceptions}
-use Rattle.rules.specs.Bytes.{bytes, over}
-use Rattle.rules.specs.Translation.{exception_list}
+use Rattle.rules.specs.Bytes.{bytes, given, refused, over}
+use Rattle.rules.specs.Translation.{no_exceptions, exception_list}
 use Rattle.rules.specs.Reference.{Reference, size, reference_protein}
 use Rattle.rules.specs.Refusal.{reference_refusal}
 use Rattle.rules.specs.Line.{text_limits, reference_line, fits_line}
@@ -21,18 +22,15 @@ use Rattle.rules.specs.declared.Form.TheVariants.{Bytes}
 use Rattle.rules.specs.declared.Cds.{Cds}
 use Rattle.rules.specs.Views.{bare, reference_of}
 use Rattle.reference.specs.declared.Known.{Known}
-use Rattle.reference.specs.declared.Checked.{Checked}
-use Rattle.reference.specs.declared.Checked.TheVariants as checked
 use Rattle.reference.specs.Known.{protein_unless, checked_of, known_of, Knows}
 use Rattle.reference.proofs.Checking.{checked_refused, checked-accepted, nothing_read, protein_held, cds-known, form-known, residues-within, knows}
 use Rattle.text_forms.specs.declared.line.ReferenceLine.{ReferenceLine}
-use Rattle.text_forms.specs.declared.line.ReferenceLine.TheVariants as reference-line
 use Rattle.text_forms.specs.Views.{reference_line_in}
 use Rattle.text_answers.specs.declared.Phase.{Phase}
 use Rattle.text_answers.specs.declared.Phase.TheVariants.{Editing, Ended}
 use Rattle.text_answers.specs.Rooms.{letters_room, first_room}
 use Rattle.text_answers.specs.Stage.{Stage, opening, editing, ended, accepted_by, accepted, behind_first, next_line, answered}
-use Rattle.text_answers.specs.Lines.{no_exceptions, Opens}
+use Rattle.text_answers.specs.Lines.{Opens}
 use Rattle.text_answers.proofs.Asking.{protein-short}
 
 -- a refused first line: n bytes of its answer over a buffer
@@ -53,28 +51,28 @@ refused_ends r zero h = absurd (h refl)
 refused_ends r (suc n) h = refl
 
 -- a reference without exceptions, checked
-module _ (x₀ : Exceptions) (are : x₀ ≡ no_exceptions) (s : List ℕ) (c : Cds) (x : Checked) (said : x ≡ checked_of letters_room Bytes s c x₀) where
+module _ (x₀ : Exceptions) (are : x₀ ≡ no_exceptions) (s : List ℕ) (c : Cds) where
   abbrev given-answer : List ℕ
   given-answer = unlines (answers_of (some (bare s c)) [])
 
   abbrev given-next : Stage
   given-next = behind_first (accepted (some (bare s c)))
 
-  is : x ≡ checked_of letters_room Bytes s c no_exceptions
-  is = said ∙ ap (checked_of letters_room Bytes s c) are
+  none-given : checked_of letters_room Bytes s c x₀ ≡ checked_of letters_room Bytes s c no_exceptions
+  none-given = ap (checked_of letters_room Bytes s c) are
 
-  pub opens-refused : (n : ℕ) (p : Phase) (m : ℕ) → x ≡ checked.Refused n → (letters protein protein' text text' : List ℕ) → protein' ≡ over (protein_unless (reference_refusal letters_room (reference_of s c x₀)) (reference_of s c x₀)) protein → p ≡ Ended → m ≡ length (refused_line n ++ (line_feed ∷ [])) → text' ≡ over (refused_line n ++ (line_feed ∷ [])) text
+  pub opens-refused : (n : ℕ) (p : Phase) (m : ℕ) → refused n ≡ checked_of letters_room Bytes s c x₀ → (letters protein protein' text text' : List ℕ) → protein' ≡ over (protein_unless (reference_refusal letters_room (reference_of s c x₀)) (reference_of s c x₀)) protein → p ≡ Ended → m ≡ length (refused_line n ++ (line_feed ∷ [])) → text' ≡ over (refused_line n ++ (line_feed ∷ [])) text
       → Opens given-answer given-next p m letters letters protein protein' text text'
   unfolding exception_list answers_of unlines accepted behind_first
   opens-refused n p m h letters protein protein' text text' read done e q =
-      let refused = checked_refused letters_room Bytes s c no_exceptions x is n h in
-      let same : protein' ≡ protein = read ∙ ap (λ (x₀ : Exceptions). over (protein_unless (reference_refusal letters_room (reference_of s c x₀)) (reference_of s c x₀)) protein) are ∙ sym (nothing_read letters_room Bytes s c no_exceptions n refused.0 refused.1 protein) in
+      let why = checked_refused letters_room Bytes s c no_exceptions n (h ∙ none-given) in
+      let same : protein' ≡ protein = read ∙ ap (λ (x₀ : Exceptions). over (protein_unless (reference_refusal letters_room (reference_of s c x₀)) (reference_of s c x₀)) protein) are ∙ sym (nothing_read letters_room Bytes s c no_exceptions n why.0 why.1 protein) in
       opens_ended given-answer (refused_line n ++ (line_feed ∷ [])) given-next p m letters protein protein' text text'
-      (rw (refused.0, refused_answers (bare s c) n refused.1)) (rw (refused.0, refused_ends (bare s c) n refused.1)) done same e q
+      (rw (why.0, refused_answers (bare s c) n why.1)) (rw (why.0, refused_ends (bare s c) n why.1)) done same e q
 
-  module _ (k : Known) (h : x ≡ checked.Known k) where
+  module _ (k : Known) (h : given k ≡ checked_of letters_room Bytes s c x₀) where
     taken : (reference_refusal letters_room (reference_of s c no_exceptions) ≡ 0) × (k ≡ known_of Bytes s c no_exceptions)
-    taken = checked-accepted letters_room Bytes s c no_exceptions x is k h
+    taken = checked-accepted letters_room Bytes s c no_exceptions k (h ∙ none-given)
 
     pub letters-fit : length s ≤ letters_room
     unfolding size
@@ -128,15 +126,15 @@ module _ (line : List ℕ) where
   pub first-long : fits_line line ≡ false → (answered (opening line) ≡ refused_line 30 ++ (line_feed ∷ [])) × (next_line (opening line) ≡ ended)
   first-long h = formless (rw h)
 
-  module _ (h : fits_line line ≡ true) (x : ReferenceLine) (is : reference_line_in line x ≡ reference_line line) where
-    pub first-formless : x ≡ reference-line.Not → (answered (opening line) ≡ refused_line 30 ++ (line_feed ∷ [])) × (next_line (opening line) ≡ ended)
+  module _ (h : fits_line line ≡ true) (x : Returned ReferenceLine) (is : reference_line_in line x ≡ reference_line line) where
+    pub first-formless : x ≡ None → (answered (opening line) ≡ refused_line 30 ++ (line_feed ∷ [])) × (next_line (opening line) ≡ ended)
     first-formless q = formless (rw (h, ← is, q))
 
     -- a reference, whose letters are the rest of the line
-    pub opens-given : (cds : Cds) (at : ℕ) → x ≡ reference-line.Given cds at → (p : Phase) (n : ℕ) (letters letters' protein protein' text text' : List ℕ)
-        → Opens (unlines (answers_of (some (bare (take (length line - at) (drop at line)) cds)) [])) (behind_first (accepted (some (bare (take (length line - at) (drop at line)) cds)))) p n letters letters' protein protein' text text'
+    pub opens-given : (g : ReferenceLine) → x ≡ Some g → (p : Phase) (n : ℕ) (letters letters' protein protein' text text' : List ℕ)
+        → Opens (unlines (answers_of (some (bare (take (length line - g.at) (drop g.at line)) g.cds)) [])) (behind_first (accepted (some (bare (take (length line - g.at) (drop g.at line)) g.cds)))) p n letters letters' protein protein' text text'
         → Opens (answered (opening line)) (next_line (opening line)) p n letters letters' protein protein' text text'
     unfolding answered answers next_line
-    opens-given cds at q p n letters letters' protein protein' text text' opens =
-        let given : form ≡ some (bare (take (length line - at) (drop at line)) cds) = rw (h, ← is, q, tail-is at line) in
-        rw given opens
+    opens-given g q p n letters letters' protein protein' text text' opens =
+        let read : form ≡ some (bare (take (length line - g.at) (drop g.at line)) g.cds) = rw (h, ← is, q, tail-is g.at line) in
+        rw read opens

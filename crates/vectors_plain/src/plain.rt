@@ -68,8 +68,8 @@ pub fn count_of(s: &[u8], b: u8) -> usize
     ensures { result ≡ count_of b s.now }
 {
     let mut n = 0;
-    for &x in s {
-        if x == b {
+    for i in 0..s.len() {
+        if s[i] == b {
             n += 1;
         }
     }

@@ -54,7 +54,14 @@ fn exceptions(codon: u32, residue: u8, count: usize) -> Exceptions
 fn print_tables(stdout: &mut Stdout) -> io::Result<()> {
     try_translation(stdout, b"table 3", b"ATG", 3, Exceptions::none(), false)?;
     try_translation(stdout, b"table 255", b"ATG", 255, Exceptions::none(), false)?;
-    try_translation(stdout, b"table 3, no bases", b"", 3, Exceptions::none(), false)
+    try_translation(
+        stdout,
+        b"table 3, no bases",
+        b"",
+        3,
+        Exceptions::none(),
+        false,
+    )
 }
 
 fn print_exceptions(stdout: &mut Stdout) -> io::Result<()> {

@@ -6,7 +6,7 @@ use Rattle.text_lines.proofs.Last.{last_within}
 use Rattle.annotate.proofs.run_last.Goals as goal
 
 pub slice_bounds-send-end : goal.slice_bounds-send-end
-slice_bounds-send-end c = omega (arith, last_within _ _ _ _ c.finish.ensures.value c.in-Bytes.is, c.finish.auto.out)
+slice_bounds-send-end c = omega (arith, last_within _ _ _ c.in-Ok.ensures.value, c.finish.auto.out)
 
-pub slice_bounds-send-end-in-Bytes : goal.slice_bounds-send-end-in-Bytes
-slice_bounds-send-end-in-Bytes c = sym (length-take-le _ _ (omega (arith, last_within _ _ _ _ c.finish.ensures.value c.in-Bytes.is, c.finish.auto.out)))
+pub slice_bounds-send-end-2 : goal.slice_bounds-send-end-2
+slice_bounds-send-end-2 c = sym (length-take-le _ _ (omega (arith, last_within _ _ _ c.in-Ok.ensures.value, c.finish.auto.out)))

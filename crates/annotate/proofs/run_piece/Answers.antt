@@ -10,13 +10,13 @@ loop-at-init c = let pre = c.requires in
 
 pub loop-at-smaller : goal.loop-at-smaller
 loop-at-smaller c =
-    let put = c.put_some-put in
-    falls _ _ _ _ _ _ _ _ _ _ _ c.loop-at.invariant.0 put.result.stepped.state put.new.line put.new.letters _ _ _ put.ensures.steps c.loop-at-test.true
+    let put = c.put_some in
+    falls _ _ _ _ _ _ _ _ _ _ _ c.loop-at.invariant.0 put.new.state put.new.line put.new.letters _ _ _ c.in_ok-taken.ensures.steps.1 c.loop-at-test.true
 
 pub loop-at-preserved : goal.loop-at-preserved
 loop-at-preserved c =
-    let put = c.put_some-put in (
-      reached-on _ _ _ _ _ _ _ _ _ _ _ c.loop-at.invariant.0 put.result.stepped.state put.new.line put.new.letters put.new.out _ _ put.ensures.steps put.new.protein
-          put.ensures.keeps_2 put.auto.line put.auto.letters put.auto.protein put.auto.out,
+    let put = c.put_some in (
+      reached-on _ _ _ _ _ _ _ _ _ _ _ c.loop-at.invariant.0 put.new.state put.new.line put.new.letters put.new.out _ _ c.in_ok-taken.ensures.steps.1 put.new.protein
+          put.ensures.still_keeps put.auto.line put.auto.letters put.auto.protein put.auto.out,
       put.auto.out ∙ c.loop-at.invariant.1,
     )

@@ -62,5 +62,5 @@ returns c =
     let bases = c.all_bases in
     let plain : (c.args.known.plain && bases.result) ≡ has_bases r x = rw (c.requires.checks.plain, bases.ensures) in
     c.first_refusal.ensures
-    ∙ rw (c.is_uneven-uneven.ensures, c.is_naming.ensures, c.wide.ensures.value, c.letter_at.ensures, index_by r c.args.edit.end size_is.result _ size_is.ensures c.index_of-last.ensures, index_by r c.args.edit.start size_is.result _ size_is.ensures c.index_of-first.ensures)
+    ∙ rw (c.is_uneven-uneven.ensures, c.is_naming.ensures, c.from.ensures, c.letter_at.ensures, index_by r c.args.edit.end size_is.result _ size_is.ensures c.index_of-last.ensures, index_by r c.args.edit.start size_is.result _ size_is.ensures c.index_of-first.ensures)
     (judged c.requires.most r x sound.bounds (edit-allowed r sound c.requires.most x c.requires.clear) (edit-indexes r sound c.requires.most x c.requires.clear) c.args.named _ _ plain (c.is_of_panel.ensures c.args.new.now))

@@ -3,7 +3,6 @@ use mathlib.Core.Path.{sym, ◌∙◌, refl}
 use Rattle.rules.specs.Refusal.{limits}
 use Rattle.rules.specs.Views.{asked, room_of}
 use Rattle.reference.proofs.Judging.{exit-told}
-use Rattle.stored_fields.proofs.Form.{not_there}
 use Rattle.stored.proofs.Judged.{unfound, read-refused}
 use Rattle.stored.proofs.Joined.{never-joined, refused-joined}
 use Rattle.stored.proofs.Answered.{refuses, stored-answers, joined-reading}
@@ -34,8 +33,8 @@ returns-then-is_joined c =
     refuses limits _ (asked a.edit a.new.now) (room_of a.transcript.now a.reference.now a.altered.now) a.transcript.now a.reference.now a.altered.now _
     (joined-reading limits.longest a.s.now _ found (sym c.is_joined.ensures ∙ c.if-is_joined.true) _ (never-joined a.s.now _ (found.stands _ refl) limits.longest c.in_ok-refusal_at.ensures))
 
-pub answer_at-requires : goal.answer_at-requires
-answer_at-requires c = record { placed = c.in_ok-p.ensures.stands _ refl; len_value = not_there _ _ c.is_joined.ensures c.if-is_joined.false }
+pub answer_at-requires-clause-placed : goal.answer_at-requires-clause-placed
+answer_at-requires-clause-placed c = c.in_ok-p.ensures.stands _ refl
 
 pub returns : goal.returns
 returns c =

@@ -38,7 +38,7 @@ returns-in_default c =
     let args = c.args in
     let fits_line = c.fits_line in
     let if1 = c.if-not-fits_line in
-    let parse-edit = c.parse_edit-parsed in
+    let parse-edit = c.parse_edit in
     let print-refused2 = c.print_refused-in_default in
     line_of _ (refused_line 30) _ _ _ (edit-formless (bare args.letters.now args.known.cds) args.line.now (sym fits_line.ensures ∙ if1.false) parse-edit.result parse-edit.ensures.result_value c.in_default.is) print-refused2.ensures.value print-refused2.ensures.out_after
 
@@ -48,12 +48,11 @@ returns c =
     let args = c.args in
     let fits_line = c.fits_line in
     let if1 = c.if-not-fits_line in
-    let parse-edit = c.parse_edit-parsed in
+    let parse-edit = c.parse_edit in
     let answer-asked = c.answer_asked in
     let r = bare args.letters.now args.known.cds in
-    let at = c.in-Asked.at in
-    let e = c.in-Asked.edit in
-    line_as answer-asked.result _ _ (edit_answer r (some (asked e (take (length args.line.now - at) (drop at args.line.now)))))
-    (edit-asked r args.line.now (sym fits_line.ensures ∙ if1.false) parse-edit.result parse-edit.ensures.result_value e at c.in-Asked.is
-    ∙ ap (λ (new : List ℕ). edit_answer r (some (asked e new))) (sym (tail-is at args.line.now)))
+    let e = c.in-Some.asked in
+    line_as answer-asked.result _ _ (edit_answer r (some (asked e.edit (take (length args.line.now - e.at) (drop e.at args.line.now)))))
+    (edit-asked r args.line.now (sym fits_line.ensures ∙ if1.false) parse-edit.result parse-edit.ensures.result_value e c.in-Some.is
+    ∙ ap (λ (new : List ℕ). edit_answer r (some (asked e.edit new))) (sym (tail-is e.at args.line.now)))
     answer-asked.ensures

@@ -12,4 +12,4 @@ pub returns : goal.returns
 returns c =
     let record_of = c.record_of-found in
     let print-record = c.print_record in
-    line_of _ _ _ _ _ (plan_line_lem _ c.no_exceptions.ensures _ _ _ _ _ _ _ record_of.ensures.value record_of.ensures.inserted _) print-record.ensures.value print-record.ensures.out_after
+    line_of _ _ _ _ _ (plan_line_lem _ c.none.ensures _ _ _ _ _ _ _ record_of.ensures.value record_of.ensures.inserted _) print-record.ensures.value print-record.ensures.out_after

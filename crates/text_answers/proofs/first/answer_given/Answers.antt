@@ -16,33 +16,33 @@ check_reference-requires c =
 pub copy-size-requires : goal.copy-size-requires
 copy-size-requires c =
     let pre = c.requires in
-    let no_exceptions_lem = c.no_exceptions in
+    let none = c.none in
     let check-reference = c.check_reference in
-    omega (arith, letters-fit _ no_exceptions_lem.ensures _ _ _ check-reference.ensures.value _ c.in-Known.is, pre)
+    omega (arith, letters-fit _ none.ensures _ _ _ c.in-Ok.ensures.value, pre)
 
 pub slice_bounds-print_reference-end : goal.slice_bounds-print_reference-end
 slice_bounds-print_reference-end c =
-    let no_exceptions_lem = c.no_exceptions in
+    let none = c.none in
     let check-reference = c.check_reference in
-    protein-fits _ no_exceptions_lem.ensures _ _ _ check-reference.ensures.value _ c.in-Known.is _ _ check-reference.ensures.protein_after
+    protein-fits _ none.ensures _ _ _ c.in-Ok.ensures.value _ _ check-reference.ensures.protein_after
 
-pub slice_bounds-print_reference-end-in-Known : goal.slice_bounds-print_reference-end-in-Known
-slice_bounds-print_reference-end-in-Known c =
-    let no_exceptions_lem = c.no_exceptions in
+pub slice_bounds-print_reference-end-in-Ok : goal.slice_bounds-print_reference-end-in-Ok
+slice_bounds-print_reference-end-in-Ok c =
+    let none = c.none in
     let check-reference = c.check_reference in
-    sym (length-take-le c.in-Known.known.residues check-reference.new.protein (protein-fits _ no_exceptions_lem.ensures _ _ _ check-reference.ensures.value _ c.in-Known.is _ _ check-reference.ensures.protein_after))
+    sym (length-take-le c.in-Ok.known.residues check-reference.new.protein (protein-fits _ none.ensures _ _ _ c.in-Ok.ensures.value _ _ check-reference.ensures.protein_after))
 
-pub returns-in-Refused : goal.returns-in-Refused
-returns-in-Refused c =
-    let no_exceptions_lem = c.no_exceptions in
+pub returns-in-Err : goal.returns-in-Err
+returns-in-Err c =
+    let none = c.none in
     let check-reference = c.check_reference in
     let refuse = c.refuse in
-    opens-refused _ no_exceptions_lem.ensures _ _ _ check-reference.ensures.value _ _ _ c.in-Refused.is _ _ _ _ _ check-reference.ensures.protein_after refuse.ensures.phase_value refuse.ensures.size_value refuse.ensures.text_after
+    opens-refused _ none.ensures _ _ _ _ _ c.in-Err.ensures.value _ _ _ _ _ check-reference.ensures.protein_after refuse.ensures.phase_value refuse.ensures.size_value refuse.ensures.text_after
 
-pub returns-in-Known : goal.returns-in-Known
-returns-in-Known c =
-    let no_exceptions_lem = c.no_exceptions in
+pub returns-in-Ok : goal.returns-in-Ok
+returns-in-Ok c =
+    let none = c.none in
     let check-reference = c.check_reference in
     let copy = c.copy-size in
     let print-reference = c.print_reference in
-    opens-known _ no_exceptions_lem.ensures _ _ _ check-reference.ensures.value _ c.in-Known.is _ _ check-reference.ensures.protein_after _ _ _ _ _ _ copy.ensures.count copy.ensures.after print-reference.ensures.value print-reference.ensures.out_after
+    opens-known _ none.ensures _ _ _ c.in-Ok.ensures.value _ _ check-reference.ensures.protein_after _ _ _ _ _ _ copy.ensures.count copy.ensures.after print-reference.ensures.value print-reference.ensures.out_after
