@@ -164,6 +164,7 @@ fn shared_front(letters: &[u8], form: Form, plan: Plan, new: &[u8], made: usize)
     let n = size_of(letters, form).min(made);
     let from = plan.from;
     let mut i = from;
+    // Kept: no for, since each turn finds how far it goes.
     while i < n {
         let most = ((i - from) * 4 + 16).min(512);
         let step = stretch_letters(plan, i, most.min(n - i));
@@ -197,6 +198,7 @@ fn shared_back(
     let n = size.min(made) - prefix;
     let first = (size - plan.to).min(n);
     let mut i = first;
+    // Kept: no for, since each turn finds how far it goes.
     while i < n {
         let most = ((i - first) * 4 + 16).min(512);
         let step = most.min(n - i);

@@ -106,6 +106,7 @@ fn run_piece(
     ensures reaches { OnOk result (stage_of state.new line.new letters.new ≡ after (stage_of state.old line.old letters.old) input.now) }
 {
     let mut at = 0;
+    // Kept: no for, since each turn finds how far it goes.
     while at < input.len() {
         let taken = put_some(stdout, state, line, letters, protein, &input[at..], out)?;
         at += taken;

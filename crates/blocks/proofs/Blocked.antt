@@ -6,7 +6,7 @@ use mathlib.Core.List.{List, [], ◌∷◌}
 use Prim.Native.Nat.{ℕ, ◌+◌, ◌*◌, ◌/◌, ◌≤◌, ◌<◌}
 use native.Mathlib.Omega.{arith}
 use lib.ListN.{length, take, drop, get_or}
-use lib.Seq.{get_or-take, get_or-drop, take-length}
+use lib.Seq.{get_or-take, get_or-drop}
 use Rattle.rules.specs.declared.Exception.{Exception}
 use Rattle.rules.specs.declared.Exceptions.{Exceptions}
 use Rattle.rules.specs.Bytes.{all, same, over}
@@ -15,7 +15,6 @@ use Rattle.rules.specs.Translation.{exception_list, excepted, residue_count, fol
 use Rattle.rules.specs.Trims.{common_prefix}
 use Rattle.rules.specs.Altered.{part}
 use Rattle.rules.proofs.Trims.{same-is, cp_take}
-use Rattle.rules.proofs.Parts.{length_part}
 use Rattle.rules.proofs.Over.{read_back, fits_over}
 use Rattle.rules.proofs.Reading.{residue_at_lem}
 use Rattle.rules.proofs.Translation.{length_exceptions, length-translated}
@@ -24,9 +23,6 @@ use Rattle.excepted.specs.Exceptions.{next_from}
 use Rattle.excepted.proofs.Putting.{next_clear}
 use Rattle.places.specs.Places.{codon_at, fold_to_bases}
 use Rattle.places.proofs.Strict.{strict-translated, whole_bases, bases_fold}
-use Rattle.edits.specs.declared.plans.Plan.{Plan}
-use Rattle.transcript.specs.Carrying.{carried_by}
-use Rattle.altered.specs.Over.{Stretch}
 use Rattle.altered.proofs.Stretches.{part_at}
 use Rattle.blocks.specs.Blocks.{ReadsAs, Unexcepted}
 

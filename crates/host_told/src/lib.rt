@@ -78,7 +78,7 @@ impl From<Result<usize, Refusal>> for GarumbottLength {
 }
 
 // An answer's number, a refusal's number, and nothing else.
-fn alone(answer: u64, refusal: u64) -> GarumbottAnswer
+pub fn alone(answer: u64, refusal: u64) -> GarumbottAnswer
     ensures { result ≡ alone_of answer refusal }
 {
     GarumbottAnswer {

@@ -88,6 +88,7 @@ pub fn keeps_protein(
     let start = first_changed(plan, first, protein.len());
     let x = Compared { c, e, moved, plan };
     let mut k = start;
+    // Kept: no for, since each turn finds how far it goes.
     loop {
         if whole <= k {
             return rest_alike(protein, k, rest);

@@ -127,6 +127,7 @@ fn edit_lines(
     let mut held = begun.held;
     let mut taken = 0;
     let mut used = 0;
+    // Kept: no for, since each turn finds how far it goes.
     while taken < input.len() {
         let turn = edit_line(
             Kept { known, held },

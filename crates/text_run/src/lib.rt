@@ -40,6 +40,7 @@ fn count_lines(
     let mut state = start();
     let mut at = 0;
     let mut total = 0;
+    // Kept: no for, since each turn finds how far it goes.
     while at < input.len() {
         let stepped = step(state, line, letters, protein, &input[at..], piece);
         state = stepped.state;

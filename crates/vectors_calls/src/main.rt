@@ -56,6 +56,7 @@ fn answer_lines(stdout: &mut Stdout, s: &[u8]) -> io::Result<()>
     requires { length s.now ≤ 65536 }
 {
     let mut at = 0;
+    // Kept: no for, since each turn finds where the next line begins.
     while at < s.len() {
         let end = end_of(s, at, b'\n');
         answer_line(stdout, &s[at..end])?;

@@ -31,6 +31,7 @@ fn read_full(stdin: &mut Stdin, space: &mut [u8]) -> io::Result<usize>
     ensures { IfOk result (λ n. n ≤ length space.new) }
 {
     let mut done = 0;
+    // Kept: no for, since each turn reads as much as comes.
     while done < space.len() {
         let n = stdin.read(&mut space[done..])?;
         if n == 0 {
