@@ -2,25 +2,23 @@
 use mathlib.Core.Path.{◌≡◌, sym, ap, ◌∙◌}
 use mathlib.Core.List.{List}
 use Prim.Native.Nat.{ℕ, ◌+◌, ◌≤◌}
-use Rattle.rules.specs.Bytes.{given, refused}
+use Rattle.rules.specs.Bytes.{Result, given, refused}
 use Rattle.rules.specs.Reference.{size}
 use Rattle.rules.specs.Refusal.{limits}
 use Rattle.rules.specs.Stored.{read_reference}
 use Rattle.stored_fields.specs.declared.field_places.StoredAt.{StoredAt}
-use Rattle.stored_fields.specs.declared.field_places.Stored.{Stored}
-use Rattle.stored_fields.specs.declared.field_places.Stored.TheVariants.{Refused, At}
 use Rattle.stored_fields.specs.Reading.{placed_reference, told_reference, Reads}
 use Rattle.stored.proofs.Joined.{size-at, read_fits}
 use Rattle.garumbott.specs.Keeping.{refused_numbers, placed_numbers, numbers_by, stored_numbers}
 
-module _ (room : ℕ) (s : List ℕ) (x : Stored) (reads : Reads s (read_reference limits.longest room s) x) where
-  pub told-refused : (n : ℕ) → x ≡ Refused n → refused_numbers n ≡ stored_numbers room s
+module _ (room : ℕ) (s : List ℕ) (x : Result StoredAt) (reads : Reads s (read_reference limits.longest room s) x) where
+  pub told-refused : (n : ℕ) → x ≡ refused n → refused_numbers n ≡ stored_numbers room s
   unfolding stored_numbers numbers_by told_reference
   told-refused n h =
       let is : refused n ≡ read_reference limits.longest room s = ap (told_reference s) (sym h) ∙ reads.says in
       rw (← is)
 
-  module _ (p : StoredAt) (h : x ≡ At p) where
+  module _ (p : StoredAt) (h : x ≡ given p) where
     is-given : given (placed_reference s p) ≡ read_reference limits.longest room s
     unfolding told_reference
     is-given = ap (told_reference s) (sym h) ∙ reads.says

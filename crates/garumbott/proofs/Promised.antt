@@ -13,9 +13,8 @@ use Rattle.rules.specs.declared.Change.{Change}
 use Rattle.rules.specs.declared.Limits.{Limits}
 use Rattle.rules.specs.declared.Record.{Record}
 use Rattle.rules.specs.declared.Record.TheVariants.{Unknown, NoProtein, Silent, Changed}
-use Rattle.rules.specs.declared.Answer.{Answer}
-use Rattle.rules.specs.declared.Answer.TheVariants.{Refused, Reported}
-use Rattle.rules.specs.Bytes.{first_number}
+use Rattle.rules.specs.declared.Report.{Report}
+use Rattle.rules.specs.Bytes.{first_number, Result, given, refused}
 use Rattle.rules.specs.Reference.{Reference}
 use Rattle.rules.specs.Edit.{Asked}
 use Rattle.rules.specs.Refusal.{refusal, Room}
@@ -71,8 +70,8 @@ by_numbers flag R A c h =
     is false = refl
 
 module _ (m : Limits) (r : Reference) (e : Asked) (room : Room) (t t' q q' s s' : List ℕ) where
-  by-record : (found : Record) (flag : Bool) (a b c n : ℕ) → (x : GarumbottAnswer) → x ≡ answer_of (Reported (record { found = found; frameshift = flag; transcript = a; reference = b; altered = c; codons = n }))
-      → (outcome m r e room).answer ≡ Reported (record { found = found; frameshift = flag; transcript = a; reference = b; altered = c; codons = n })
+  by-record : (found : Record) (flag : Bool) (a b c n : ℕ) → (x : GarumbottAnswer) → x ≡ answer_of (given (record { found = found; frameshift = flag; transcript = a; reference = b; altered = c; codons = n }))
+      → (outcome m r e room).answer ≡ given (record { found = found; frameshift = flag; transcript = a; reference = b; altered = c; codons = n })
       → Tells (outcome m r e room) x t t' q q' s s' → x.answer ≡ 4 → Demanded x q' s'
   unfolding values_of told_by
   by-record Unknown flag a b c n x is h y four = absurd (omega (arith, ap (λ (x : GarumbottAnswer). x.answer) is))
@@ -88,16 +87,16 @@ module _ (m : Limits) (r : Reference) (e : Asked) (room : Room) (t t' q q' s s' 
   unfolding values_of
   demanded x y four = by (outcome m r e room).answer refl
     where
-      by : (a : Answer) → (outcome m r e room).answer ≡ a → Demanded x q' s'
-      by (Refused n) h = absurd (omega (arith, ap (λ (x : GarumbottAnswer). x.answer) (y.says ∙ ap answer_of h)))
-      by (Reported p) h = by-record p.found p.frameshift p.transcript p.reference p.altered p.codons x (y.says ∙ ap answer_of h) h y four
+      by : (a : Result Report) → (outcome m r e room).answer ≡ a → Demanded x q' s'
+      by (refused n) h = absurd (omega (arith, ap (λ (x : GarumbottAnswer). x.answer) (y.says ∙ ap answer_of h)))
+      by (given p) h = by-record p.found p.frameshift p.transcript p.reference p.altered p.codons x (y.says ∙ ap answer_of h) h y four
 
 -- with the longest edit of a call: 62 is no change
 pub demanded_within : (n : ℕ) (r : Reference) (e : Asked) (room : Room) (t t' q q' s s' : List ℕ) (x : GarumbottAnswer) → Tells (outcome_within n r e room) x t t' q q' s s' → x.answer ≡ 4 → Demanded x q' s'
 unfolding outcome_within with_longest writes_nothing values_of
 demanded_within n r e room t t' q q' s s' x y four = by (is_given_longest n) y
   where
-    by : (b : Bool) → Tells (if b then outcome (limits_with n) r e room else writes_nothing (Refused 62)) x t t' q q' s s' → Demanded x q' s'
+    by : (b : Bool) → Tells (if b then outcome (limits_with n) r e room else writes_nothing (refused 62)) x t t' q q' s s' → Demanded x q' s'
     by true y = demanded (limits_with n) r e room t t' q q' s s' x y four
     by false y = absurd (omega (arith, ap (λ (x : GarumbottAnswer). x.answer) y.says))
 
@@ -111,7 +110,7 @@ demanded_panel n r e named room t t' q q' s s' x y four = by (is_given_longest n
     told m zero zero y = demanded m r e room t t' q q' s s' x y four
     told m zero (suc p) y = absurd (omega (arith, ap (λ (x : GarumbottAnswer). x.answer) y.says))
 
-    by : (b : Bool) → Tells (if b then panel_outcome (limits_with n) r e named room else writes_nothing (Refused 62)) x t t' q q' s s' → Demanded x q' s'
+    by : (b : Bool) → Tells (if b then panel_outcome (limits_with n) r e named room else writes_nothing (refused 62)) x t t' q q' s s' → Demanded x q' s'
     by true y = told (limits_with n) (refusal (limits_with n) r e) (first_number (profile_tests r e named)) (rw (panel-is (limits_with n) r e named room) at y)
     by false y = absurd (omega (arith, ap (λ (x : GarumbottAnswer). x.answer) y.says))
 

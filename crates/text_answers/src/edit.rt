@@ -16,7 +16,7 @@ use edits::plans::Plan;
 use reference::Known;
 use rules::{Edit, Exceptions, Record, Refusal};
 use text_forms::parse_edit;
-use text_prints::{print_record, print_refused};
+use text_prints::{print_record, print_refusal};
 
 // The most new bases of an edit.
 const MOST: usize = 4096;
@@ -64,7 +64,7 @@ fn answer_asked(
     ensures { Line result transcript.new (unlines (edit_answer (bare letters.now known.cds) (some (asked edit new.now)) ∷ [])) }
 {
     match decide(letters, known, MOST, edit, new) {
-        Err(refusal) => print_refused(refusal, transcript),
+        Err(refusal) => print_refusal(refusal, transcript),
         Ok(None) => print_record(Record::Unknown, protein, &[], transcript),
         Ok(Some(plan)) => answer_plan(letters, known, protein, plan, new, transcript, altered),
     }
@@ -84,10 +84,10 @@ pub fn answer_edit(
     ensures { Line result transcript.new (answered (editing (bare letters.now known.cds) line.now)) }
 {
     if !fits_line(line) {
-        return print_refused(Refusal::Line, transcript);
+        return print_refusal(Refusal::Line, transcript);
     }
     let Some(asked) = parse_edit(line) else {
-        return print_refused(Refusal::Line, transcript);
+        return print_refusal(Refusal::Line, transcript);
     };
     answer_asked(
         letters,

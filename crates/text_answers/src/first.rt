@@ -13,7 +13,7 @@ use crate::{LETTERS, Phase, fits_line};
 use reference::check_reference;
 use rules::{Cds, Exceptions, Form, Refusal};
 use text_forms::parse_reference;
-use text_prints::{print_reference, print_refused};
+use text_prints::{print_reference, print_refusal};
 
 // What a first line is answered, `size` bytes, and where the run stands behind it.
 #[derive(Clone, Copy)]
@@ -31,7 +31,7 @@ fn refuse(refusal: Refusal, text: &mut [u8]) -> Opened
 {
     Opened {
         phase: Phase::Ended,
-        size: print_refused(refusal, text),
+        size: print_refusal(refusal, text),
     }
 }
 

@@ -64,13 +64,22 @@ fn write_record(found: Record, r: &[u8], a: &[u8], out: &mut [u8]) -> usize
 }
 
 // The line of a refusal.
-pub fn print_refused(refusal: Refusal, out: &mut [u8]) -> usize
+pub fn print_refused(n: usize, out: &mut [u8]) -> usize
+    requires { length (refused_line n) < length out.old }
+    ensures value { result ≡ length (refused_line n ++ (line_feed ∷ [])) }
+    ensures out_after { out.new ≡ over (refused_line n ++ (line_feed ∷ [])) out.old }
+{
+    let size = write_refused(n, out);
+    close_line(size, out)
+}
+
+// The same of a refusal, by its number.
+pub fn print_refusal(refusal: Refusal, out: &mut [u8]) -> usize
     requires { length (refused_line (refusal_number refusal)) < length out.old }
     ensures value { result ≡ length (refused_line (refusal_number refusal) ++ (line_feed ∷ [])) }
     ensures out_after { out.new ≡ over (refused_line (refusal_number refusal) ++ (line_feed ∷ [])) out.old }
 {
-    let size = write_refused(refusal.number(), out);
-    close_line(size, out)
+    print_refused(refusal.number(), out)
 }
 
 // The line of an accepted reference, with its protein R.

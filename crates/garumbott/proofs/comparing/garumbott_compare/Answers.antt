@@ -18,4 +18,4 @@ returns c =
     both_given limits.longest a.letters.now a.second_letters.now c.cds_at-cds.result c.cds_at-second_cds.result c.exceptions_in-e.result c.exceptions_in-second_e.result c.form_at.result c.form_at-2.result
     a.cs a.ce a.table a.cds_end a.form a.size a.second_cs a.second_ce a.second_table a.second_cds_end a.second_form a.second_size a.exceptions.now a.second_exceptions.now (length a.out.now)
     c.cds_at-cds.ensures c.exceptions_in-e.ensures c.form_at.ensures c.cds_at-second_cds.ensures c.exceptions_in-second_e.ensures c.form_at-2.ensures in
-    record { value = c.length_of.ensures ∙ ap length_of (x.answer ∙ ap written_of same); out_after = x.written ∙ ap (λ (q : Result (List ℕ)). over (bytes_of q) a.out.now) same }
+    record { value = c.compared.ensures ∙ ap length_of (x.answer ∙ ap written_of same); out_after = x.written ∙ ap (λ (q : Result (List ℕ)). over (bytes_of q) a.out.now) same }

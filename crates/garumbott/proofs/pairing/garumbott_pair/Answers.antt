@@ -20,7 +20,7 @@ returns c =
     let same = pair-host a.longest (letters_by (form_at a.form a.size) a.letters.now) (cds_of a.cs a.ce a.table a.cds_end) a.exceptions.now a.other_longest (host_asked a.kind a.start_star a.start a.end_star a.end a.bases.now) (host_asked a.other_kind a.other_start_star a.other_start a.other_end_star a.other_end a.other_bases.now) (pair_room_of a.transcript.now a.altered.now) in
     rw (← same, ← c.form_at.ensures, ← first, ← second, ← c.exceptions_in-e.ensures, ← ap (λ (c : Cds). c.cs) cds, ← ap (λ (c : Cds). c.ce) cds, ← ap (λ (c : Cds). c.table) cds, ← ap (λ (c : Cds). c.end) cds)
     (record {
-      says = c.paired_of.ensures ∙ ap paired_of x.says;
+      says = c.from.ensures ∙ ap paired_of x.says;
       holds-transcript = x.holds-transcript;
       holds-altered = x.holds-altered;
     })

@@ -10,11 +10,11 @@ returns-then-exceptions-eq0 c =
     let a = c.args in
     let t = c.translate_cds in
     let none = none-given a.exceptions.now c.if-exceptions-eq0.true in
-    record { value = rw (c.length_of.ensures, t.ensures.answer, none); out_after = t.ensures.written ∙ rw none }
+    record { value = rw (c.from.ensures, t.ensures.answer, none); out_after = t.ensures.written ∙ rw none }
 
 pub returns : goal.returns
 returns c =
     let a = c.args in
     let t = c.translate_cds_with_exceptions in
     let same = translation_given a.table (is_set a.full) a.seq.now (length a.out.now) a.exceptions.now in
-    record { value = rw (c.length_of-2.ensures, t.ensures.answer, c.exceptions_in-e.ensures, same); out_after = t.ensures.written ∙ rw (c.exceptions_in-e.ensures, same) }
+    record { value = rw (c.from-2.ensures, t.ensures.answer, c.exceptions_in-e.ensures, same); out_after = t.ensures.written ∙ rw (c.exceptions_in-e.ensures, same) }

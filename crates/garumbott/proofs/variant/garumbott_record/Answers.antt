@@ -18,7 +18,7 @@ returns c =
     let same = outcome-host a.longest (letters_by (form_at a.form a.size) a.letters.now) (cds_of a.cs a.ce a.table a.cds_end) a.exceptions.now (host_asked a.kind a.start_star a.start a.end_star a.end a.bases.now) (room_of a.transcript.now a.reference.now a.altered.now) in
     rw (← same, ← c.form_at.ensures, ← edit, ← c.exceptions_in-e.ensures, ← ap (λ (c : Cds). c.cs) cds, ← ap (λ (c : Cds). c.ce) cds, ← ap (λ (c : Cds). c.table) cds, ← ap (λ (c : Cds). c.end) cds)
     (record {
-      says = c.answer_of.ensures ∙ ap answer_of x.says;
+      says = c.from.ensures ∙ ap answer_of x.says;
       holds-transcript = x.holds-transcript;
       holds-reference = x.holds-reference;
       holds-altered = x.holds-altered;

@@ -15,4 +15,4 @@ returns c =
     let w = c.write_stored.ensures in
     let cds = c.cds_at-cds.ensures in
     let same = written-given limits (letters_by (form_at a.form a.size) a.letters.now) (cds_of a.cs a.ce a.table a.cds_end) (length a.out.now) a.exceptions.now in
-    rw (← same, ← c.form_at.ensures, ← c.exceptions_in-e.ensures, ← ap (λ (c : Cds). c.cs) cds, ← ap (λ (c : Cds). c.ce) cds, ← ap (λ (c : Cds). c.table) cds, ← ap (λ (c : Cds). c.end) cds) (record { value = c.length_of.ensures ∙ ap length_of w.value; out_after = w.out_after })
+    rw (← same, ← c.form_at.ensures, ← c.exceptions_in-e.ensures, ← ap (λ (c : Cds). c.cs) cds, ← ap (λ (c : Cds). c.ce) cds, ← ap (λ (c : Cds). c.table) cds, ← ap (λ (c : Cds). c.end) cds) (record { value = c.from.ensures ∙ ap length_of w.value; out_after = w.out_after })

@@ -17,8 +17,8 @@ decide-requires c =
     let same = ap (λ (f : Form). letters_by f c.args.letters.now) c.requires.knows_text.form in
     record { checks = rw same (checks text_limits _ _ no_exceptions _ c.requires.knows_text.known); most_bound = omega arith }
 
-pub print_refused-requires : goal.print_refused-requires
-print_refused-requires c = omega (arith, refused_size (refusal_number c.in-Err.refusal), c.requires.ample.for-transcript)
+pub print_refusal-requires : goal.print_refusal-requires
+print_refusal-requires c = omega (arith, refused_size (refusal_number c.in-Err.refusal), c.requires.ample.for-transcript)
 
 pub print_record-requires : goal.print_record-requires
 unfolding record_line
@@ -33,8 +33,8 @@ answer_plan-requires c =
 pub returns-in-Err : goal.returns-in-Err
 returns-in-Err c =
     let same = ap (λ (f : Form). letters_by f c.args.letters.now) c.requires.knows_text.form in
-    let print-refused = c.print_refused in
-    line_of _ _ _ _ _ (asked-refused _ _ _ c.requires.knows_text.known _ _ _ (rw same at c.in-Err.ensures)) print-refused.ensures.value print-refused.ensures.out_after
+    let print-refusal = c.print_refusal in
+    line_of _ _ _ _ _ (asked-refused _ _ _ c.requires.knows_text.known _ _ _ (rw same at c.in-Err.ensures)) print-refusal.ensures.value print-refusal.ensures.out_after
 
 pub returns-in-Ok-None : goal.returns-in-Ok-None
 returns-in-Ok-None c =

@@ -13,8 +13,8 @@ use Rattle.text_answers.specs.Stage.{answered}
 use Rattle.text_answers.proofs.Asking.{line_of, line_as, edit-long, edit-formless, edit-asked}
 use Rattle.text_answers.proofs.edit.answer_edit.Goals as goal
 
-pub print_refused-requires : goal.print_refused-requires
-print_refused-requires c =
+pub print_refusal-requires : goal.print_refusal-requires
+print_refusal-requires c =
     let pre = c.requires in
     omega (arith, refused_size 30, pre.ample.for-transcript)
 
@@ -24,11 +24,11 @@ returns-then-not-fits_line c =
     let args = c.args in
     let fits_line = c.fits_line in
     let if1 = c.if-not-fits_line in
-    let print-refused = c.print_refused in
-    line_of _ (refused_line 30) _ _ _ (edit-long (bare args.letters.now args.known.cds) args.line.now (sym fits_line.ensures ∙ if1.true)) print-refused.ensures.value print-refused.ensures.out_after
+    let print-refusal = c.print_refusal in
+    line_of _ (refused_line 30) _ _ _ (edit-long (bare args.letters.now args.known.cds) args.line.now (sym fits_line.ensures ∙ if1.true)) print-refusal.ensures.value print-refusal.ensures.out_after
 
-pub print_refused-requires-in_default : goal.print_refused-requires-in_default
-print_refused-requires-in_default c =
+pub print_refusal-requires-in_default : goal.print_refusal-requires-in_default
+print_refusal-requires-in_default c =
     let pre = c.requires in
     omega (arith, refused_size 30, pre.ample.for-transcript)
 
@@ -39,8 +39,8 @@ returns-in_default c =
     let fits_line = c.fits_line in
     let if1 = c.if-not-fits_line in
     let parse-edit = c.parse_edit in
-    let print-refused2 = c.print_refused-in_default in
-    line_of _ (refused_line 30) _ _ _ (edit-formless (bare args.letters.now args.known.cds) args.line.now (sym fits_line.ensures ∙ if1.false) parse-edit.result parse-edit.ensures.result_value c.in_default.is) print-refused2.ensures.value print-refused2.ensures.out_after
+    let print-refusal2 = c.print_refusal-in_default in
+    line_of _ (refused_line 30) _ _ _ (edit-formless (bare args.letters.now args.known.cds) args.line.now (sym fits_line.ensures ∙ if1.false) parse-edit.result parse-edit.ensures.result_value c.in_default.is) print-refusal2.ensures.value print-refusal2.ensures.out_after
 
 pub returns : goal.returns
 unfolding answered

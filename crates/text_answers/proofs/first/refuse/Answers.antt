@@ -4,5 +4,5 @@ use Rattle.rules.specs.Refusals.{refusal_number}
 use Rattle.text_prints.proofs.Sizes.{refused_size}
 use Rattle.text_answers.proofs.first.refuse.Goals as goal
 
-pub print_refused-requires : goal.print_refused-requires
-print_refused-requires c = omega (arith, refused_size (refusal_number c.args.refusal), c.requires)
+pub print_refusal-requires : goal.print_refusal-requires
+print_refusal-requires c = omega (arith, refused_size (refusal_number c.args.refusal), c.requires)
