@@ -98,7 +98,7 @@ for kind, n in re.findall(r"^told_by (\w+) = alone (\d+)$", values, re.M):
     wanted[snake(kind).upper()] = int(n)
 for kind, n in re.findall(r"^told_by \((\w+) [^)]*\) =\s*record \{\s*answer = (\d+);", values, re.M):
     wanted[snake(kind).upper()] = int(n)
-wanted["REFUSED"] = 0 if re.search(r"^values_of \(Refused n\) = record \{ refusal = n;.*told = alone 0; codons = 0 \}", values, re.M) else None
+wanted["REFUSED"] = 0 if re.search(r"^values_of \(refused n\) = record \{ refusal = n;.*told = alone 0; codons = 0 \}", values, re.M) else None
 limits = re.search(r"^limits = record \{ longest = (\d+); most = (\d+) \}", text(f"{SPECS}/Refusal.antt"), re.M)
 wanted["LONGEST"], wanted["MOST_BASES"] = int(limits.group(1)), int(limits.group(2))
 wanted["MOST_EXCEPTIONS"], wanted["EXCEPTION_BYTES"] = 16, 3

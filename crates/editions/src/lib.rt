@@ -16,12 +16,11 @@ use reference::judge_reference;
 use rules::{LONGEST, Refusal};
 use tables::residues_of;
 
-// Why two editions aren't compared: what refuses the first, or the second, or a buffer too short for the list.
+// Why two editions aren't compared: what refuses the first, or the list where it doesn't fit; or what refuses the second.
 #[derive(Clone, Copy)]
 pub enum Uncompared {
     First(Refusal),
     Second(Refusal),
-    List,
 }
 
 impl Uncompared {
@@ -31,8 +30,7 @@ impl Uncompared {
     {
         match self {
             Uncompared::First(refusal) => refusal.number(),
-            Uncompared::Second(refusal) => 100 + refusal as usize,
-            Uncompared::List => 50,
+            Uncompared::Second(refusal) => 100 + refusal.number(),
         }
     }
 }
@@ -64,7 +62,7 @@ fn list_differences(
     let past = codon_count(first, r).max(codon_count(second, s)) + 1;
     let n = count_differences(first, r, &a, second, s, &b, past);
     if out.len() < n * 4 {
-        return Err(Uncompared::List);
+        return Err(Uncompared::First(Refusal::List));
     }
     write_differences(first, r, &a, second, s, &b, past, out);
     Ok(n * 4)

@@ -3,9 +3,9 @@ use Rattle.std.specs.Prelude.{ℕ, zero, suc, ◌+◌, ◌-◌, ◌*◌, List, [
 use Rattle.rules.specs.declared.Kind.{Kind}
 use Rattle.rules.specs.declared.Kind.TheVariants.{Substitution, Deletion, Delins, Insertion, Duplication, Inversion, Identity, Other}
 use Rattle.rules.specs.declared.Position.{Position}
-use Rattle.rules.specs.declared.Position.TheVariants.{Plus, Minus, Star}
 use Rattle.rules.specs.Bytes.{byte}
 use Rattle.rules.specs.Number.{is_digit}
+use Rattle.text_forms.specs.Views.{signs, signed}
 
 -- how many bytes stand before the first b, or how many there are
 unfoldable pub before : ℕ → List ℕ → ℕ
@@ -40,13 +40,7 @@ number_in s = number_from 0 s
 unfoldable pub number_at : ℕ → List ℕ → ℕ
 number_at k s = number_in (field_at k s)
 
--- the number of signs, and a position by its sign: `7`, `-2`, `*3`
-unfoldable pub signs : ℕ → ℕ
-signs b = if eqb b (byte "-") then 1 else if eqb b (byte "*") then 1 else 0
-
-unfoldable pub signed : ℕ → ℕ → Position
-signed b n = if eqb b (byte "-") then Minus n else if eqb b (byte "*") then Star n else Plus n
-
+-- a position by its sign: `7`, `-2`, `*3`
 unfoldable pub position_in : List ℕ → Position
 position_in f = signed (get_or f 0 0) (number_in (drop (signs (get_or f 0 0)) f))
 

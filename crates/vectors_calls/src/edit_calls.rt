@@ -8,7 +8,6 @@ use crate::given_exceptions::exceptions_of;
 use crate::given_letters::{LETTERS_ROOM, NEW_ROOM, new_of, reference_of};
 use crate::printing::{ALTERED_ROOM, REFERENCE_ROOM, TRANSCRIPT_ROOM, print_answer};
 use altseq::build_altseq;
-use numbers::least;
 use rules::{Cds, Edit, Form, Question};
 use std::io;
 use std::io::Stdout;
@@ -53,9 +52,9 @@ fn answer(stdout: &mut Stdout, line: &[u8], letters: &[u8], new: &[u8]) -> io::R
     let mut transcript = [b'.'; TRANSCRIPT_ROOM];
     let mut reference = [b'.'; REFERENCE_ROOM];
     let mut altered = [b'.'; ALTERED_ROOM];
-    let t = least(number(line, fields::TRANSCRIPT), TRANSCRIPT_ROOM);
-    let r = least(number(line, fields::REFERENCE), REFERENCE_ROOM);
-    let a = least(number(line, fields::ALTERED), ALTERED_ROOM);
+    let t = number(line, fields::TRANSCRIPT).min(TRANSCRIPT_ROOM);
+    let r = number(line, fields::REFERENCE).min(REFERENCE_ROOM);
+    let a = number(line, fields::ALTERED).min(ALTERED_ROOM);
     let e = exceptions_of(line, listed_from(line), number(line, fields::COUNT));
     let asks = Question {
         form: Form::Bytes,
@@ -75,8 +74,8 @@ fn answer(stdout: &mut Stdout, line: &[u8], letters: &[u8], new: &[u8]) -> io::R
 }
 
 pub fn answer_edit(stdout: &mut Stdout, line: &[u8]) -> io::Result<()> {
-    let n = least(number(line, fields::LETTERS), LETTERS_ROOM);
-    let m = least(number(line, fields::NEW), NEW_ROOM);
+    let n = number(line, fields::LETTERS).min(LETTERS_ROOM);
+    let m = number(line, fields::NEW).min(NEW_ROOM);
     let letters = reference_of(line, n);
     let new = new_of(line, m);
     answer(stdout, line, &letters[0..n], &new[0..m])

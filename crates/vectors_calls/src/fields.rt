@@ -1,10 +1,10 @@
 // The fields of a line, counted from 0, one space between them. One that isn't there is empty, and an empty number is 0.
 ghost use Rattle.std.specs.Prelude.{◌≡◌, ◌+◌, ◌≤◌, min, length, drop, get_or};
 ghost use Rattle.rules.specs.Number.{is_digit};
-ghost use Rattle.vectors_calls.specs.Fields.{before, field_at, word_at, with_digit, number_in, number_at, signs, signed, position_in, kind_by, kind_in};
+ghost use Rattle.vectors_calls.specs.Fields.{before, field_at, word_at, with_digit, number_in, number_at, position_in, kind_by, kind_in};
 
-use numbers::wide;
 use rules::{Kind, Position};
+use text_forms::{signed_by, signs_of};
 
 // How many letters, the CDS, the table; the edit; how many new bases; the lengths of the three buffers; exceptions by rule: how many, their
 // residue, and the codon of the last; letters of the reference and their place; new bases and their place; exceptions listed.
@@ -131,7 +131,7 @@ fn number_from(s: &[u8], from: usize) -> usize
         if !is_digit(b) {
             return n;
         }
-        n = with_digit(n, wide(b - b'0'));
+        n = with_digit(n, usize::from(b - b'0'));
     }
     n
 }
@@ -140,26 +140,6 @@ pub fn number(s: &[u8], k: usize) -> usize
     ensures { result ≡ number_at k s.now }
 {
     number_from(field(s, k), 0)
-}
-
-// The number of signs before a number that begins with such a byte.
-fn signs_of(b: u8) -> usize
-    ensures { result ≡ signs b }
-{
-    match b {
-        b'-' | b'*' => 1,
-        _ => 0,
-    }
-}
-
-fn signed_by(b: u8, n: usize) -> Position
-    ensures { result ≡ signed b n }
-{
-    match b {
-        b'-' => Position::Minus(n),
-        b'*' => Position::Star(n),
-        _ => Position::Plus(n),
-    }
 }
 
 pub fn position(s: &[u8], k: usize) -> Position

@@ -4,7 +4,6 @@ ghost use Rattle.vectors_calls.specs.Given.{by_rule, listed, exception_at, excep
 
 use crate::fields;
 use crate::fields::{byte_at, field, number};
-use numbers::least;
 use rules::{Exception, Exceptions};
 
 // 1, 2, 3 and so on, but for the last of so many a codon of its own.
@@ -19,7 +18,7 @@ fn codon_of(count: usize, i: usize, last: usize) -> usize
 fn codon_in(n: usize) -> u32
     ensures { result ≡ min n 4294967295 }
 {
-    least(n, 4294967295) as u32
+    n.min(4294967295) as u32
 }
 
 // By rule: with one residue.
@@ -61,7 +60,7 @@ pub fn exceptions_of(line: &[u8], first: usize, count: usize) -> Exceptions
     ensures { result ≡ exceptions_of line.now first count }
 {
     let mut all = Exceptions::none().all;
-    for i in 0..least(count, 16) {
+    for i in 0..count.min(16) {
         all[i] = exception_at(line, first, count, i);
     }
     Exceptions { all, count }

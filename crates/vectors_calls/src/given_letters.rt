@@ -5,7 +5,6 @@ ghost use Rattle.vectors_calls.specs.Letters.{next as next_number, filled, laid,
 
 use crate::fields;
 use crate::fields::{number, word};
-use numbers::least;
 
 // One letter more than a transcript may have, and one new base more than an edit may have.
 pub const LETTERS_ROOM: usize = 16385;
@@ -49,7 +48,7 @@ fn letter_or(b: u8, kept: u8) -> u8
 fn lay(out: &mut [u8], letters: &[u8])
     ensures { out.new ≡ laid letters.now out.old }
 {
-    let n = least(out.len(), letters.len());
+    let n = out.len().min(letters.len());
     for i in 0..n {
         let kept = out[i];
         out[i] = letter_or(letters[i], kept);

@@ -21,7 +21,6 @@ use crate::plain::{
     answer_translation,
 };
 use crate::printing::print;
-use numbers::least;
 use std::io;
 use std::io::{Read, Stdout};
 
@@ -68,6 +67,6 @@ fn answer_lines(stdout: &mut Stdout, s: &[u8]) -> io::Result<()>
 fn main(rt: HostRuntime) -> io::Result<()> {
     let mut input = Vec::new(rt.alloc());
     rt.reader().take(INPUT_ROOM as u64).read_to_end(&mut input)?;
-    let n = least(input.len(), INPUT_ROOM);
+    let n = input.len().min(INPUT_ROOM);
     answer_lines(&mut rt.stdout(), &input[..n])
 }

@@ -3,7 +3,6 @@ use crate::fields::{field, number, word};
 use crate::given_exceptions::exceptions_of;
 use crate::printing::{print, print_next, print_record, print_refusal};
 use names::{aa1_to_aa3, aa3_to_aa1};
-use numbers::least;
 use record::record_from;
 use rules::Refusal;
 use sequences::{common_prefix_len, common_suffix_len, revcomp};
@@ -45,10 +44,10 @@ fn print_written(
 // table, full codons demanded (1) or not, room, exceptions: how many, and a codon and a residue for each, and the bases
 pub fn answer_translation(stdout: &mut Stdout, line: &[u8]) -> io::Result<()> {
     let mut out = [b'.'; ROOM];
-    let room = least(number(line, 3), ROOM);
+    let room = number(line, 3).min(ROOM);
     let count = number(line, 4);
     let e = exceptions_of(line, FIRST, count);
-    let seq = field(line, FIRST + 2 * least(count, MOST));
+    let seq = field(line, FIRST + 2 * count.min(MOST));
     let full = number(line, 2) == 1;
     let answer = translate_cds_with_exceptions(seq, number(line, 1), e, full, &mut out[0..room]);
     print_written(stdout, answer, &out, room)
@@ -57,7 +56,7 @@ pub fn answer_translation(stdout: &mut Stdout, line: &[u8]) -> io::Result<()> {
 // room and residues
 pub fn answer_names(stdout: &mut Stdout, line: &[u8]) -> io::Result<()> {
     let mut out = [b'.'; ROOM];
-    let room = least(number(line, 1), ROOM);
+    let room = number(line, 1).min(ROOM);
     let answer = aa1_to_aa3(field(line, 2), &mut out[0..room]);
     print_written(stdout, answer, &out, room)
 }
@@ -65,7 +64,7 @@ pub fn answer_names(stdout: &mut Stdout, line: &[u8]) -> io::Result<()> {
 // room and names
 pub fn answer_letters(stdout: &mut Stdout, line: &[u8]) -> io::Result<()> {
     let mut out = [b'.'; ROOM];
-    let room = least(number(line, 1), ROOM);
+    let room = number(line, 1).min(ROOM);
     let answer = aa3_to_aa1(field(line, 2), &mut out[0..room]);
     print_written(stdout, answer, &out, room)
 }
@@ -73,7 +72,7 @@ pub fn answer_letters(stdout: &mut Stdout, line: &[u8]) -> io::Result<()> {
 // room and letters
 pub fn answer_complement(stdout: &mut Stdout, line: &[u8]) -> io::Result<()> {
     let mut out = [b'.'; ROOM];
-    let room = least(number(line, 1), ROOM);
+    let room = number(line, 1).min(ROOM);
     let answer = revcomp(field(line, 2), &mut out[0..room]);
     print_written(stdout, answer, &out, room)
 }

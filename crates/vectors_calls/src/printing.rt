@@ -2,7 +2,6 @@
 ghost use Rattle.std.specs.Prelude.{◌≡◌, drop};
 ghost use Rattle.vectors_calls.specs.Printed.{check_value, are_markers};
 
-use numbers::wide;
 use rules::{Change, Part, Record, Refusal, Report};
 use std::io;
 use std::io::{Stdout, Write};
@@ -71,7 +70,7 @@ fn value_of(s: &[u8]) -> usize
 {
     let mut x = 0;
     for &b in s {
-        x = (x * 31 + wide(b)) % 1000003;
+        x = (x * 31 + usize::from(b)) % 1000003;
     }
     x
 }

@@ -1,12 +1,12 @@
 // What an edit of a stored reference is answered, as text.
-ghost use Rattle.std.specs.Prelude.{◌≡◌, eqb, if◌then◌else◌};
 
 use crate::answers::{print_number, print_refusal};
 use byte_numbers::two_bytes;
-use rules::{Change, Edit, Kind, Position, Record, Refusal, Report};
+use rules::{Change, Edit, Kind, Record, Refusal, Report};
 use std::io;
 use std::io::{Stdout, Write};
 use stored::build_altseq_stored;
+use text_forms::signed_by;
 
 // Room for each answer of the cases.
 const TRANSCRIPT_ROOM: usize = 32;
@@ -14,16 +14,6 @@ const TRANSCRIPT_ROOM: usize = 32;
 const REFERENCE_ROOM: usize = 8;
 
 const ALTERED_ROOM: usize = 16;
-
-fn position_of(sign: u8, n: usize) -> Position
-    ensures { result ≡ (if eqb sign 45 then Position.Minus n else if eqb sign 42 then Position.Star n else Position.Plus n) }
-{
-    match sign {
-        b'-' => Position::Minus(n),
-        b'*' => Position::Star(n),
-        _ => Position::Plus(n),
-    }
-}
 
 // The number, and how many residues are deleted and inserted.
 fn print_change(stdout: &mut Stdout, c: Change) -> io::Result<()> {
@@ -72,8 +62,8 @@ pub fn print_edit(stdout: &mut Stdout, s: &[u8], e: &[u8]) -> io::Result<()> {
     }
     let edit = Edit {
         kind: Kind::from(e[0] as u64),
-        start: position_of(e[1], two_bytes(e, 2)),
-        end: position_of(e[4], two_bytes(e, 5)),
+        start: signed_by(e[1], two_bytes(e, 2)),
+        end: signed_by(e[4], two_bytes(e, 5)),
     };
     print_outcome(stdout, s, edit, &e[7..])
 }

@@ -6,6 +6,3 @@ use Rattle.vectors_calls.proofs.fields.number_from.Given as goal
 
 abbrev pub invariant-loop-i : goal.invariant-loop-i
 invariant-loop-i l = number_from l.n (drop l.i l.s) ≡ number_from 0 (drop l.from l.s)
-
-abbrev pub decreases-loop-i : goal.decreases-loop-i
-decreases-loop-i l = length l.s - l.i

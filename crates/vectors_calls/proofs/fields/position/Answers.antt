@@ -2,7 +2,8 @@
 use mathlib.Core.Path.{◌≡◌, ap, ◌∙◌}
 use Prim.Native.Nat.{ℕ}
 use lib.ListN.{drop}
-use Rattle.vectors_calls.specs.Fields.{number_in, signs, signed, position_in}
+use Rattle.text_forms.specs.Views.{signs, signed}
+use Rattle.vectors_calls.specs.Fields.{number_in, position_in}
 use Rattle.vectors_calls.proofs.fields.position.Goals as goal
 
 pub returns : goal.returns

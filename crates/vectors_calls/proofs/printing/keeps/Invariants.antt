@@ -7,6 +7,3 @@ use Rattle.vectors_calls.proofs.printing.keeps.Given as goal
 
 abbrev pub invariant-loop-i : goal.invariant-loop-i
 invariant-loop-i l = all is_marker (drop l.i l.s) ≡ all is_marker (drop l.from l.s)
-
-abbrev pub decreases-loop-i : goal.decreases-loop-i
-decreases-loop-i l = length l.s - l.i

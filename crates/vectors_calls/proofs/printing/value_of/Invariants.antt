@@ -6,6 +6,3 @@ use Rattle.vectors_calls.proofs.printing.value_of.Given as goal
 
 abbrev pub invariant-loop-i : goal.invariant-loop-i
 invariant-loop-i l = (l.x < 1000003) × (check_from l.x (drop l.i l.s) ≡ check_from 0 l.s)
-
-abbrev pub decreases-loop-i : goal.decreases-loop-i
-decreases-loop-i l = length l.s - l.i
