@@ -28,7 +28,7 @@ pub answer_plan-requires : goal.answer_plan-requires
 answer_plan-requires c =
     let same = ap (λ (f : Form). letters_by f c.args.letters.now) c.requires.knows_text.form in
     let pre = c.requires in
-    record { carries = asked-carries _ _ _ pre.knows_text.known _ _ _ (rw same at c.in-Ok-Some.ensures) _ _ pre.ample; knows_text = pre.knows_text; ample = pre.ample }
+    record { carries = asked-carries _ _ _ pre.knows_text.known _ _ _ (rw (c.in-Ok-Some.field-0-is, same) at c.in-Ok-Some.ensures) _ _ pre.ample; knows_text = pre.knows_text; ample = pre.ample }
 
 pub returns-in-Err : goal.returns-in-Err
 returns-in-Err c =
@@ -40,9 +40,9 @@ pub returns-in-Ok-None : goal.returns-in-Ok-None
 returns-in-Ok-None c =
     let same = ap (λ (f : Form). letters_by f c.args.letters.now) c.requires.knows_text.form in
     let print-record = c.print_record in
-    line_of _ _ _ _ _ (asked-unknown _ _ _ c.requires.knows_text.known _ _ (rw same at c.in-Ok-None.ensures)) print-record.ensures.value print-record.ensures.out_after
+    line_of _ _ _ _ _ (asked-unknown _ _ _ c.requires.knows_text.known _ _ (rw (c.in-Ok-None.field-0-is, same) at c.in-Ok-None.ensures)) print-record.ensures.value print-record.ensures.out_after
 
 pub returns-in-Ok-Some : goal.returns-in-Ok-Some
 returns-in-Ok-Some c =
     let same = ap (λ (f : Form). letters_by f c.args.letters.now) c.requires.knows_text.form in
-    line_as _ _ _ _ (asked-goes _ _ _ c.requires.knows_text.known _ _ _ (rw same at c.in-Ok-Some.ensures)) c.answer_plan.ensures
+    line_as _ _ _ _ (asked-goes _ _ _ c.requires.knows_text.known _ _ _ (rw (c.in-Ok-Some.field-0-is, same) at c.in-Ok-Some.ensures)) c.answer_plan.ensures
