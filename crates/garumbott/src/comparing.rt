@@ -14,6 +14,7 @@ use host_told::GarumbottLength;
 use stored_fields::exceptions_in;
 
 // What a comparison answers; its refusals have numbers of their own.
+// Kept: no From, since both types are other crates'.
 fn compared(written: Result<usize, Uncompared>) -> GarumbottLength
     ensures { result ≡ length_of (compared_told written) }
 {

@@ -28,13 +28,7 @@ pub extern "C" fn garumbott_translate(
         return GarumbottLength::from(translate_cds(seq, table as usize, full != 0, out));
     }
     let e = exceptions_in(exceptions);
-    GarumbottLength::from(translate_cds_with_exceptions(
-        seq,
-        table as usize,
-        e,
-        full != 0,
-        out,
-    ))
+    GarumbottLength::from(translate_cds_with_exceptions(seq, table as usize, e, full != 0, out))
 }
 
 #[unsafe(no_mangle)]

@@ -44,13 +44,7 @@ pub extern "C" fn garumbott_edit(
         e,
         edit,
     };
-    GarumbottAnswer::from(transcript_within(
-        letters,
-        asks,
-        longest as usize,
-        bases,
-        transcript,
-    ))
+    GarumbottAnswer::from(transcript_within(letters, asks, longest as usize, bases, transcript))
 }
 
 #[unsafe(no_mangle)]

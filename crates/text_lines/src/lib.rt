@@ -158,7 +158,7 @@ fn finish_line(
 ) -> Result<usize, Refusal>
     requires rooms { Rooms line.old letters.old protein.old }
     requires keeps { Keeps state letters.old protein.old }
-    requires fact { state.held ≡ 0 → ⊥ }
+    requires some_held { state.held ≡ 0 → ⊥ }
     ensures value { told result ≡ written_of (last (stage_of state line.old letters.old) (length out.old)) }
     ensures out_after { out.new ≡ over (bytes_of (last (stage_of state line.old letters.old) (length out.old))) out.old }
     ensures fills { Fills (first_end (stage_of state line.old letters.old) (line_feed ∷ [])) letters.old letters.new protein.old protein.new }

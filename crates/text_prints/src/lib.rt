@@ -63,7 +63,7 @@ fn write_record(found: Record, r: &[u8], a: &[u8], out: &mut [u8]) -> usize
     }
 }
 
-// The line of a refusal.
+// The line of a refusal's number.
 pub fn print_refused(n: usize, out: &mut [u8]) -> usize
     requires { length (refused_line n) < length out.old }
     ensures value { result ≡ length (refused_line n ++ (line_feed ∷ [])) }
@@ -73,7 +73,7 @@ pub fn print_refused(n: usize, out: &mut [u8]) -> usize
     close_line(size, out)
 }
 
-// The same of a refusal, by its number.
+// The line of a refusal.
 pub fn print_refusal(refusal: Refusal, out: &mut [u8]) -> usize
     requires { length (refused_line (refusal_number refusal)) < length out.old }
     ensures value { result ≡ length (refused_line (refusal_number refusal) ++ (line_feed ∷ [])) }

@@ -27,6 +27,7 @@ pub fn print_next(stdout: &mut Stdout, n: usize) -> io::Result<()> {
     print_number(stdout, n)
 }
 
+// A refusal, by its number.
 pub fn print_refusal(stdout: &mut Stdout, refusal: Refusal) -> io::Result<()> {
     print(stdout, b" refused")?;
     print_next(stdout, refusal.number())

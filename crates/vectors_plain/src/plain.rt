@@ -23,6 +23,7 @@ pub fn print_number(stdout: &mut Stdout, n: usize) -> io::Result<()> {
     write!(stdout, "{n}")
 }
 
+// A refusal, by its number.
 pub fn print_refusal(stdout: &mut Stdout, refusal: Refusal) -> io::Result<()> {
     write!(stdout, " refused {}", refusal.number())
 }

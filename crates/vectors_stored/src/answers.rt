@@ -10,6 +10,7 @@ pub fn print_number(stdout: &mut Stdout, before: &[u8], n: usize) -> io::Result<
     write!(stdout, "{n}")
 }
 
+// A refusal, by its number.
 pub fn print_refusal(stdout: &mut Stdout, refusal: Refusal) -> io::Result<()> {
     print_number(stdout, b": refused ", refusal.number())
 }

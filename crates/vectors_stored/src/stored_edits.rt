@@ -61,7 +61,7 @@ pub fn print_edit(stdout: &mut Stdout, s: &[u8], e: &[u8]) -> io::Result<()> {
         return Ok(());
     }
     let edit = Edit {
-        kind: Kind::from(e[0] as u64),
+        kind: Kind::from(u64::from(e[0])),
         start: signed_by(e[1], two_bytes(e, 2)),
         end: signed_by(e[4], two_bytes(e, 5)),
     };
