@@ -44,7 +44,8 @@ for n in sorted(shut ^ opened):
 
 # docs/PROMISES.md names each public function of a library
 promises = text("docs/PROMISES.md")
-for base, _, names in os.walk("crates"):
+for base, folders, names in os.walk("crates"):
+    folders[:] = [folder for folder in folders if folder != "out"]  # what rt makes
     for name in names:
         if name.endswith(".rt") and "main.rt" not in names:
             for what in re.findall(r"^\s*pub (?:extern \"C\" )?fn (\w+)", text(f"{base}/{name}"), re.M):
