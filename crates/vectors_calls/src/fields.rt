@@ -80,8 +80,11 @@ fn field_start(s: &[u8], k: usize) -> usize
     ensures within { result ≤ length s.now }
 {
     let mut at = 0;
-    for _ in 0..k {
+    let mut left = k;
+    // Kept: no for, since the invariant is of how many fields are left.
+    while 0 < left {
         at = behind(end_of(s, at, b' '), s.len());
+        left -= 1;
     }
     at
 }
@@ -103,10 +106,11 @@ pub fn word(s: &[u8], k: usize) -> &[u8]
     &f[0..end]
 }
 
+#[tactic(auto, unfolding(rules::specs::Number::is_digit))]
 fn is_digit(b: u8) -> bool
     ensures { result ≡ is_digit b }
 {
-    matches!(b, b'0'..=b'9')
+    b.is_ascii_digit()
 }
 
 // The number with a digit behind it. Above 18446744073709551609 it is the largest number.

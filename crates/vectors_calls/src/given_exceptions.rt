@@ -60,7 +60,8 @@ pub fn exceptions_of(line: &[u8], first: usize, count: usize) -> Exceptions
     ensures { result ≡ exceptions_of line.now first count }
 {
     let mut all = Exceptions::none().all;
-    for i in 0..count.min(16) {
+    let stored = count.min(16);
+    for i in 0..stored {
         all[i] = exception_at(line, first, count, i);
     }
     Exceptions { all, count }

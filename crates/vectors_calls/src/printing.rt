@@ -70,8 +70,8 @@ fn value_of(s: &[u8]) -> usize
     ensures { result ≡ check_value s.now }
 {
     let mut x = 0;
-    for &b in s {
-        x = (x * 31 + usize::from(b)) % 1000003;
+    for i in 0..s.len() {
+        x = (x * 31 + usize::from(s[i])) % 1000003;
     }
     x
 }

@@ -17,11 +17,11 @@ pub overflow_sub-b : goal.overflow_sub-b
 overflow_sub-b c = digit_low _ (sym c.is_digit.ensures ∙ not-false _ (ap not c.if-not-is_digit.false))
 
 pub with_digit-n-requires : goal.with_digit-n-requires
-with_digit-n-requires c = omega (arith, c.from.ensures.value, c.from.ensures.small, digit_high _ (sym c.is_digit.ensures ∙ not-false _ (ap not c.if-not-is_digit.false)))
+with_digit-n-requires c = omega (arith, c.from.ensures, digit_high _ (sym c.is_digit.ensures ∙ not-false _ (ap not c.if-not-is_digit.false)))
 
 pub loop-i-preserved : goal.loop-i-preserved
 loop-i-preserved c = let b = get_or c.args.s.now c.loop-i.i 0 in
-    let next : c.with_digit-n.result ≡ with_digit c.loop-i.n (b - 48) = c.with_digit-n.ensures ∙ ap (with_digit c.loop-i.n) c.from.ensures.value in
+    let next : c.with_digit-n.result ≡ with_digit c.loop-i.n (b - 48) = c.with_digit-n.ensures ∙ ap (with_digit c.loop-i.n) c.from.ensures in
     let more = number_more c.loop-i.n c.args.s.now c.loop-i.i c.loop-i-test.true (sym c.is_digit.ensures ∙ not-false _ (ap not c.if-not-is_digit.false)) in
     ap (λ (n : ℕ). number_from n (drop (c.loop-i.i + 1) c.args.s.now)) next ∙ sym more ∙ c.loop-i.invariant
 

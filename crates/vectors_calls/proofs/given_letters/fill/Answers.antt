@@ -27,7 +27,7 @@ loop-i-preserved c = let n = length c.args.out.now in
     let long : length (set c.loop-i.out i c.pick.result) ≡ n = simp length-set c.loop-i.invariant.2 in
     let first : filled c.args.a c.args.b x (n - i) ≡ c.pick.result ∷ filled c.args.a c.args.b c.next-x.result (n - (i + 1)) =
     filled_more c.args.a c.args.b x n i (omega arith) ∙ rw (c.pick.ensures, c.next-x.ensures.value) in
-    (omega arith, search rules, long, from_turn i c.pick.result _ _ c.loop-i.out _ c.loop-i-test.true first c.loop-i.invariant.3)
+    (omega arith, search rules, long, from_turn i c.pick.result _ _ c.loop-i.out _ (omega arith) first c.loop-i.invariant.3)
 
 pub returns : goal.returns
 returns c = let none = filled_none c.args.a c.args.b c.loop-i.x (length c.args.out.now) c.loop-i.i (omega arith) in

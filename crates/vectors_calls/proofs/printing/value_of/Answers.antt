@@ -9,7 +9,7 @@ use Rattle.vectors_calls.proofs.printing.value_of.Goals as goal
 
 pub loop-i-preserved : goal.loop-i-preserved
 loop-i-preserved c = let more = check-more c.loop-i.x c.args.s.now c.loop-i.i c.loop-i-test.true in
-    (search rules, ap (λ (b : ℕ). check_from ((c.loop-i.x * 31 + b) % 1000003) (drop (c.loop-i.i + 1) c.args.s.now)) c.from.ensures.value ∙ sym more ∙ c.loop-i.invariant.1)
+    (search rules, ap (λ (b : ℕ). check_from ((c.loop-i.x * 31 + b) % 1000003) (drop (c.loop-i.i + 1) c.args.s.now)) c.from.ensures ∙ sym more ∙ c.loop-i.invariant.1)
 
 pub returns : goal.returns
 unfolding check_value
