@@ -41,6 +41,7 @@ fn unread(refusal: u64, newer: u64) -> GarumbottSettings
 impl From<Result<Settings, Unread>> for GarumbottSettings {
     ghost from_gives = { λ read numbers. numbers ≡ settings_numbers (store_values (store_told read)) };
 
+    #[tactic(auto, unfolding(rules::specs::Settings::store_values))]
     fn from(read: Result<Settings, Unread>) -> GarumbottSettings {
         match read {
             Ok(settings) => GarumbottSettings {

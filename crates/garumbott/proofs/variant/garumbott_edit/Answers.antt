@@ -17,4 +17,4 @@ returns c =
     let cds = c.cds_at-cds.ensures in
     let edit = given_edit a.kind a.start_star a.start a.end_star a.end c.ranges.start c.ranges.end c.edit_at-edit.result c.edit_at-edit.ensures in
     let same = edited-host a.longest (letters_by (form_at a.form a.size) a.letters.now) (cds_of a.cs a.ce a.table a.cds_end) a.exceptions.now (host_asked a.kind a.start_star a.start a.end_star a.end a.bases.now) (length a.transcript.now) in
-    rw (← same, ← c.form_at.ensures, ← edit, ← c.exceptions_in-e.ensures, ← ap (λ (c : Cds). c.cs) cds, ← ap (λ (c : Cds). c.ce) cds, ← ap (λ (c : Cds). c.table) cds, ← ap (λ (c : Cds). c.end) cds) (record { value = c.from.ensures ∙ ap transcribed_of x.value; transcript_after = x.transcript_after })
+    rw (← same, ← c.form_at.ensures, ← edit, ← c.exceptions_in-e.ensures, ← ap (λ (c : Cds). c.cs) cds, ← ap (λ (c : Cds). c.ce) cds, ← ap (λ (c : Cds). c.table) cds, ← ap (λ (c : Cds). c.end) cds) (record { value = c.from.ensures ∙ ap transcribed_of x.answer; transcript_after = x.transcript_after })
