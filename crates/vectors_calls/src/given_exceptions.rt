@@ -59,7 +59,10 @@ pub fn exceptions_of(line: &[u8], first: usize, count: usize) -> Exceptions
     requires { first ≤ 18 }
     ensures { result ≡ exceptions_of line.now first count }
 {
-    let mut all = Exceptions::none().all;
+    let mut all = [Exception {
+        codon: 0,
+        residue: 0,
+    }; 16];
     let stored = count.min(16);
     for i in 0..stored {
         all[i] = exception_at(line, first, count, i);
