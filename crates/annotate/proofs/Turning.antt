@@ -14,7 +14,12 @@ use Rattle.text_lines.specs.Memory.{stage_of, Rooms, Keeps}
 use Rattle.text_lines.proofs.Turns.{row-reached}
 use Rattle.text_lines.proofs.Room.{takes_some}
 use Rattle.text_lines.proofs.Rooms.{rooms_kept}
-use Rattle.annotate.specs.Turns.{piece_room}
+use Rattle.std.specs.Prelude.{Ok}
+use Rattle.annotate.specs.Turns.{piece_room, Stepped}
+
+-- a step whose answers were written took what its result says
+pub written : (n : ℕ) (x x' : Stage) (input out out' : List ℕ) → Stepped (Ok n) x x' input out out' → (used : ℕ) × Steps x x' input n used out out'
+written n x x' input out out' k = (k.used, rw k.told k.steps)
 
 -- at the head of a turn: the run stands behind the first `at` bytes of a piece
 pub record Reached (x : Stage) (s : State) (input line letters protein out line₀ letters₀ protein₀ : List ℕ) (at : ℕ) : Type 0 where

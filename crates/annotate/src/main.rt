@@ -8,10 +8,11 @@
 
 mod says;
 
-ghost use Rattle.std.specs.Prelude.{◌≡◌, ℕ, ◌≤◌, length, take, Err, IfOk, OnOk};
-ghost use Rattle.text_gather.specs.Steps.{after, Steps};
+ghost use Rattle.std.specs.Prelude.{◌≡◌, List, ℕ, ◌≤◌, length, take, Err, OnOk};
+ghost use Rattle.text_answers.specs.Stage.{is_ended};
+ghost use Rattle.text_gather.specs.Steps.{after};
 ghost use Rattle.text_lines.specs.Memory.{stage_of, Rooms, Keeps};
-ghost use Rattle.annotate.specs.Turns.{piece_room, status_of, Turned};
+ghost use Rattle.annotate.specs.Turns.{piece_room, next_by, is_read, status_of, Stepped, Turned};
 
 use says::{hint_return, say_unread, say_unwritten};
 use std::io::{ErrorKind, Read, Stderr, Stdin, Stdout, Write};
@@ -80,8 +81,7 @@ fn put_some(
     requires rooms { Rooms line.old letters.old protein.old }
     requires keeps { Keeps state.old letters.old protein.old }
     ensures still_keeps { Keeps state.new letters.new protein.new }
-    ensures steps { IfOk result (λ taken. (used : ℕ) × Steps (stage_of state.old line.old letters.old) (stage_of state.new line.new letters.new)
-        input.now taken used out.old out.new) }
+    ensures steps { Stepped result (stage_of state.old line.old letters.old) (stage_of state.new line.new letters.new) input.now out.old out.new }
 {
     let stepped = text_lines::step(*state, line, letters, protein, input, out);
     *state = stepped.state;
@@ -114,6 +114,17 @@ fn run_piece(
     Ok(())
 }
 
+// What comes behind a piece: nothing behind a refused first line, and none where its answers weren't written.
+fn next_of(state: State, sent: Result<(), Unsent>) -> Result<Next, Failure>
+    ensures { (line letters : List ℕ) → result ≡ next_by sent (is_ended (stage_of state line letters)) }
+{
+    sent?;
+    if text_lines::is_over(state) {
+        return Ok(Next::Stop);
+    }
+    Ok(Next::Read)
+}
+
 // Reads once, and answers what came. A read that fails ends the run: what came before it is written.
 fn run_once(
     stdin: &mut Stdin,
@@ -138,12 +149,15 @@ fn run_once(
     if came == 0 {
         return Ok(Next::Finish);
     }
-    run_piece(stdout, state, line, letters, protein, &input[..came], out)?;
-    if text_lines::is_over(*state) {
-        Ok(Next::Stop)
-    } else {
-        Ok(Next::Read)
-    }
+    let sent = run_piece(stdout, state, line, letters, protein, &input[..came], out);
+    next_of(*state, sent)
+}
+
+// Whether there is another read.
+fn is_read(next: Next) -> bool
+    ensures { result ≡ is_read next }
+{
+    matches!(next, Next::Read)
 }
 
 // Reads and answers to the end. A proved loop has to end, and nothing says that the input does: the loop counts its turns, to a number that no run
@@ -165,7 +179,7 @@ fn run_reads(
 {
     for _ in 0..u64::MAX {
         let next = run_once(stdin, stdout, state, line, letters, protein, input, out)?;
-        if !matches!(next, Next::Read) {
+        if !is_read(next) {
             return Ok(next);
         }
     }

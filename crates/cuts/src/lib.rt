@@ -44,7 +44,7 @@ fn framed_codon(
     read_codon(table, ANY, a, b)
 }
 
-// Kept: docs/PROMISES.md names it; `Exceptions::none` says more.
+// Exceptions play no part in the cut.
 pub fn no_exceptions() -> Exceptions
     ensures { result.count ≡ 0 }
 {
@@ -65,7 +65,7 @@ fn cut_in_frame(
     ensures { result ≡ cut_of table 0 (part start end (letters_by form letters.now)) }
 {
     let size = end - start;
-    let stop = first_stop_by(letters, form, start, end, table, plain, Exceptions::none());
+    let stop = first_stop_by(letters, form, start, end, table, plain, no_exceptions());
     if stop < size / 3 {
         return Cut {
             found: true,

@@ -1,17 +1,20 @@
 -- Laws of the whole answer: a refusal of the first, of the second with 100 added, 50, or the list.
 -- Assumes nothing.
+use Rattle.std.specs.Prelude.{if◌then◌else◌}
 use mathlib.Core.Path.{◌≡◌, refl, ap, ◌∙◌}
-use mathlib.Core.Bool.{Bool}
-use mathlib.Core.List.{List}
+use mathlib.Core.Bool.{Bool, true, false}
+use mathlib.Core.List.{List, [], ◌∷◌}
 use Prim.Native.Nat.{ℕ, zero, suc, ◌+◌, ◌-◌, ◌*◌, ◌<◌, ◌≤◌, max}
 use native.Mathlib.Omega.{arith}
+use lib.Dec.{leb}
 use lib.ListN.{length}
-use borrow.Author.Tests.{lt-ltb, le-ltb}
-use Rattle.rules.specs.Bytes.{each, first_number, given, refused, unless}
-use Rattle.rules.specs.Reference.{Reference, size}
+use borrow.Author.Tests.{lt-ltb, le-ltb, leb-true}
+use Rattle.rules.specs.Bytes.{all, each, Test, first_number, given, refused, unless}
+use Rattle.rules.specs.Reference.{Reference, size, reference_tests}
 use Rattle.rules.specs.Refusal.{limits, reference_refusal}
 use Rattle.rules.specs.Packed.{letters_by}
 use Rattle.rules.specs.Editions.{codon_count, differences_from, differences, difference_bytes, listed, edition_tests, compared}
+use Rattle.rules.proofs.Tests.{and_left, and_right}
 use Rattle.rules.proofs.Reference.{accepted}
 use Rattle.rules.proofs.Editions.{length-listed}
 use Rattle.reference.specs.Known.{judged_of}
@@ -19,6 +22,20 @@ use Rattle.reference.proofs.Judging.{was-refused, was-given, readable, accepted-
 use Rattle.alike.specs.declared.Edition.{Edition}
 use Rattle.alike.specs.Reading.{edition_of, Fits}
 use Rattle.editions.specs.Listing.{listing}
+
+-- no refusal of a reference is above 28
+few_numbers : (most : ℕ) (ts : List Test) → all (λ (t : Test). leb t.number most) ts ≡ true → first_number ts ≤ most
+unfolding first_number all
+few_numbers most [] h = omega arith
+few_numbers most (t ∷ ts) h = at t.holds (leb-true t.number most (and_left _ _ h)) (few_numbers most ts (and_right (leb t.number most) _ h))
+  where
+    at : (b : Bool) → t.number ≤ most → first_number ts ≤ most → (if b then t.number else first_number ts) ≤ most
+    at true p q = p
+    at false p q = q
+
+pub refusal_small : (longest : ℕ) (r : Reference) → reference_refusal longest r ≤ 28
+unfolding reference_refusal reference_tests all
+refusal_small longest r = few_numbers 28 (reference_tests longest r) refl
 
 unless_some : (n : ℕ) (l : List ℕ) → (n ≡ 0 → ⊥) → unless n l ≡ refused n
 unfolding unless

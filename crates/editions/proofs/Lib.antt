@@ -1,1 +1,2 @@
 pub mod Comparing
+mod Told

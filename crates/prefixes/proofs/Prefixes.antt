@@ -2,8 +2,7 @@
 use mathlib.Core.Path.{◌≡◌, sym, ap, ap₂, ◌∙◌}
 use mathlib.Core.Bool.{true, false}
 use mathlib.Core.List.{List, ◌++◌}
-use Prim.Native.Nat.{ℕ, ◌+◌, ◌*◌, ◌/◌, ◌<◌, ◌≤◌, min}
-use native.Mathlib.Nat.{mul-le-mul_left}
+use Prim.Native.Nat.{ℕ, ◌+◌, ◌<◌, ◌≤◌, min}
 use native.Mathlib.Omega.{arith}
 use lib.ListN.{length, take, drop, take-append-drop, length-drop}
 use lib.Seq.{drop-drop, length-take-le}
@@ -34,10 +33,3 @@ differ_in n a b e = not-le n (common_prefix a b) (λ h. never (sym e ∙ ap (sam
 -- or where fewer than n are left
 pub few_left : (a b : List ℕ) (i n : ℕ) → i ≤ min (length a) (length b) → min (length a) (length b) < i + n → common_prefix (drop i a) (drop i b) < n
 few_left a b i n g h = omega (arith, cp_le_l (drop i a) (drop i b), cp_le_r (drop i a) (drop i b), length-drop i a, length-drop i b)
-
--- block j of those of d bytes that m has, and what they leave
-pub block_within : (j m d : ℕ) → 0 < d → j < m / d → j * d + d ≤ m
-block_within j m d some h = omega (arith, mul-le-mul_left d h)
-
-pub blocks_leave : (m d : ℕ) → 0 < d → (m / d * d ≤ m) × (m < m / d * d + d)
-blocks_leave m d some = (omega arith, omega arith)

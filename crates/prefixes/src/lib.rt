@@ -5,6 +5,7 @@ ghost use Rattle.std.specs.Prelude.{◌≡◌, ◌+◌, ◌*◌, ◌<◌, ◌≤
 ghost use Rattle.rules.specs.Bytes.{same};
 ghost use Rattle.rules.specs.Trims.{common_prefix};
 
+use numbers::least;
 use same_blocks::same_eights;
 
 // How many first bytes are equal where the first k are, in blocks of N eights from there on. Fewer equal bytes than a block has are left.
@@ -16,14 +17,16 @@ fn equal_blocks<const N: usize>(a: &[u8], b: &[u8], k: usize) -> usize
     ensures few { common_prefix (drop result a.now) (drop result b.now) < N * 8 }
 {
     let size = N * 8;
-    let blocks = (a.len().min(b.len()) - k) / size;
-    for j in 0..blocks {
-        let i = k + j * size;
+    let n = least(a.len(), b.len());
+    let mut i = k;
+    // Kept: no for, since blocks that are counted ahead cost strings of some bytes a third more (docs/SPEED.md).
+    while size <= n - i {
         if !same_eights::<N>(a, b, i) {
             return i;
         }
+        i += size;
     }
-    k + blocks * size
+    i
 }
 
 pub fn common_prefix_len(a: &[u8], b: &[u8]) -> usize
@@ -31,7 +34,7 @@ pub fn common_prefix_len(a: &[u8], b: &[u8]) -> usize
 {
     let blocks = equal_blocks::<8>(a, b, 0);
     let eights = equal_blocks::<1>(a, b, blocks);
-    let n = a.len().min(b.len());
+    let n = least(a.len(), b.len());
     for i in eights..n {
         if a[i] != b[i] {
             return i;

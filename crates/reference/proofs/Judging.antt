@@ -21,55 +21,12 @@ use Rattle.rules.specs.Reference.{size, is_size, cds_size, are_bounds, fit_excep
 use Rattle.rules.specs.Refusal.{reference_refusal}
 use Rattle.rules.specs.Refusals.{refusal_number, refusal_of, told}
 use Rattle.rules.specs.declared.Refusal.{Refusal}
-use Rattle.rules.specs.declared.Refusal.TheVariants as refusal
 use Rattle.rules.specs.Views.{bare, reference_of}
 use Rattle.rules.proofs.Tests.{and_right, first_clear, first_behind, first_before}
 use Rattle.rules.proofs.Reference.{bounds_of}
+pub use Rattle.rules.proofs.Told.{number_some}
 use Rattle.letters.specs.Sets.{is_base}
 use Rattle.reference.specs.Known.{early_refusal, end_refusal, judged_of, HasRoom, Readable}
-
--- no refusal has the number 0
-numbered : (r : Refusal) → ltb 0 (refusal_number r) ≡ true
-numbered refusal.Length = refl
-numbered refusal.Letter = refl
-numbered refusal.Bounds = refl
-numbered refusal.Table = refl
-numbered refusal.Exceptions = refl
-numbered refusal.LastCodon = refl
-numbered refusal.Position = refl
-numbered refusal.Order = refl
-numbered refusal.OutOfCds = refl
-numbered refusal.Bases = refl
-numbered refusal.TranscriptRoom = refl
-numbered refusal.ProteinRoom = refl
-numbered refusal.Codon = refl
-numbered refusal.Output = refl
-numbered refusal.Cut = refl
-numbered refusal.Tag = refl
-numbered refusal.Missing = refl
-numbered refusal.Field = refl
-numbered refusal.StoredRoom = refl
-numbered refusal.Parts = refl
-numbered refusal.NotChanged = refl
-numbered refusal.Proposal = refl
-numbered refusal.End = refl
-numbered refusal.JoinedRoom = refl
-numbered refusal.Line = refl
-numbered refusal.ProfileLetter = refl
-numbered refusal.ProfileEdit = refl
-numbered refusal.ProfileFrame = refl
-numbered refusal.NamedBase = refl
-numbered refusal.List = refl
-numbered refusal.Touching = refl
-numbered refusal.PairUnknown = refl
-numbered refusal.PairStop = refl
-numbered refusal.Version = refl
-numbered refusal.SettingsField = refl
-numbered refusal.Setting = refl
-numbered refusal.SettingsRoom = refl
-
-pub number_some : (r : Refusal) → refusal_number r ≡ 0 → ⊥
-number_some r h = omega (arith, ltb-true 0 (refusal_number r) (numbered r))
 
 -- the exit of a `?`
 module _ {A : Type 0} (x : Returned A Refusal) (r : Refusal) (h : IsErrAnd x (λ y. y ≡ r)) where

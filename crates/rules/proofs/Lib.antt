@@ -49,4 +49,4 @@ pub mod PairWithin
 pub mod RequestedStores
 pub mod Panels
 pub mod RequestedPanel
-mod Told
+pub mod Told

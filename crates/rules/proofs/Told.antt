@@ -1,14 +1,15 @@
--- What a call tells admits one answer: two refusals with one number are the same.
+-- What a call tells admits one answer: no refusal has the number 0, and two with one number are the same.
 -- Assumes nothing.
 use mathlib.Core.Path.{◌≡◌, refl, sym, ap, ◌∙◌}
-use Prim.Native.Nat.{ℕ}
+use Prim.Native.Nat.{ℕ, ◌<◌}
 use native.Mathlib.Omega.{arith}
-use Rattle.std.specs.Prelude.{eqb, if◌then◌else◌, Ok, Err}
+use borrow.Author.Tests.{ltb-true}
+use Rattle.std.specs.Prelude.{eqb, ltb, if◌then◌else◌, true, Ok, Err}
 use Rattle.std.specs.Prelude.{Result as Returned}
 use Rattle.rules.specs.declared.Refusal.{Refusal}
 use Rattle.rules.specs.declared.Refusal.TheVariants as refusal
 use Rattle.rules.specs.Bytes.{Result, given, refused}
-use Rattle.rules.specs.Refusals.{refusal_number, told}
+use Rattle.rules.specs.Refusals.{refusal_number, refusal_of, told}
 
 -- the refusal of a number
 refusal_at : ℕ → Refusal
@@ -91,6 +92,51 @@ number-back refusal.SettingsField = refl
 number-back refusal.Setting = refl
 number-back refusal.SettingsRoom = refl
 
+within : (r : Refusal) → (ltb 0 (refusal_number r) ≡ true) × (ltb (refusal_number r) 100 ≡ true)
+within refusal.Length = (refl, refl)
+within refusal.Letter = (refl, refl)
+within refusal.Bounds = (refl, refl)
+within refusal.Table = (refl, refl)
+within refusal.Exceptions = (refl, refl)
+within refusal.LastCodon = (refl, refl)
+within refusal.Position = (refl, refl)
+within refusal.Order = (refl, refl)
+within refusal.OutOfCds = (refl, refl)
+within refusal.Bases = (refl, refl)
+within refusal.TranscriptRoom = (refl, refl)
+within refusal.ProteinRoom = (refl, refl)
+within refusal.Codon = (refl, refl)
+within refusal.Output = (refl, refl)
+within refusal.Cut = (refl, refl)
+within refusal.Tag = (refl, refl)
+within refusal.Missing = (refl, refl)
+within refusal.Field = (refl, refl)
+within refusal.StoredRoom = (refl, refl)
+within refusal.Parts = (refl, refl)
+within refusal.NotChanged = (refl, refl)
+within refusal.Proposal = (refl, refl)
+within refusal.End = (refl, refl)
+within refusal.JoinedRoom = (refl, refl)
+within refusal.Line = (refl, refl)
+within refusal.ProfileLetter = (refl, refl)
+within refusal.ProfileEdit = (refl, refl)
+within refusal.ProfileFrame = (refl, refl)
+within refusal.NamedBase = (refl, refl)
+within refusal.List = (refl, refl)
+within refusal.Touching = (refl, refl)
+within refusal.PairUnknown = (refl, refl)
+within refusal.PairStop = (refl, refl)
+within refusal.Version = (refl, refl)
+within refusal.SettingsField = (refl, refl)
+within refusal.Setting = (refl, refl)
+within refusal.SettingsRoom = (refl, refl)
+
+pub number_some : (r : Refusal) → refusal_number r ≡ 0 → ⊥
+number_some r h = omega (arith, ltb-true 0 (refusal_number r) (within r).0)
+
+pub number_few : (r : Refusal) → refusal_number r < 100
+number_few r = ltb-true (refusal_number r) 100 (within r).1
+
 pub number_once : (r s : Refusal) → refusal_number r ≡ refusal_number s → r ≡ s
 number_once r s h = sym (number-back r) ∙ (ap refusal_at h ∙ number-back s)
 
@@ -99,3 +145,10 @@ told_once (Ok x) (Ok y) h = ap Ok cc
 told_once (Ok x) (Err s) h = let z : ◌≡◌ {A = ℕ} 0 1 = cc in absurd (omega arith)
 told_once (Err r) (Ok y) h = let z : ◌≡◌ {A = ℕ} 0 1 = cc in absurd (omega arith)
 told_once (Err r) (Err s) h = ap Err (number_once r s cc)
+
+-- the same where there is no value
+pub refusal_once : (x y : Returned (Unit {0}) Refusal) → refusal_of x ≡ refusal_of y → x ≡ y
+refusal_once (Ok x) (Ok y) h = refl
+refusal_once (Ok x) (Err s) h = absurd (number_some s (sym h))
+refusal_once (Err r) (Ok y) h = absurd (number_some r h)
+refusal_once (Err r) (Err s) h = ap Err (number_once r s h)

@@ -2,7 +2,7 @@
 ghost use Rattle.std.specs.Prelude.{◌≡◌, drop};
 ghost use Rattle.vectors_calls.specs.Printed.{check_value, are_markers};
 
-use rules::{Change, Part, Record, Refusal, Report};
+use rules::{Change, Class, Part, Record, Refusal, Report};
 use std::io;
 use std::io::{Stdout, Write};
 
@@ -12,6 +12,9 @@ pub const TRANSCRIPT_ROOM: usize = 32769;
 pub const REFERENCE_ROOM: usize = 5462;
 
 pub const ALTERED_ROOM: usize = 10924;
+
+// Room for a space and the word for a class.
+const WORD: usize = 16;
 
 pub fn print(stdout: &mut Stdout, s: &[u8]) -> io::Result<()> {
     stdout.write_all(s)
@@ -33,14 +36,22 @@ pub fn print_refusal(stdout: &mut Stdout, refusal: Refusal) -> io::Result<()> {
     print_next(stdout, refusal.number())
 }
 
+// The word for a class behind a space, both at once.
+fn print_class(stdout: &mut Stdout, class: Class) -> io::Result<()> {
+    let name = class.name();
+    let size = name.len().min(WORD - 1);
+    let mut word = [b' '; WORD];
+    bytewise::copy(&name[..size], &mut word[1..]);
+    print(stdout, &word[..size + 1])
+}
+
 fn print_part(stdout: &mut Stdout, part: Part) -> io::Result<()> {
     print_next(stdout, part.at)?;
     print_next(stdout, part.len)
 }
 
 fn print_change(stdout: &mut Stdout, change: Change) -> io::Result<()> {
-    print(stdout, b" ")?;
-    print(stdout, change.class.name())?;
+    print_class(stdout, change.class)?;
     print_next(stdout, change.number)?;
     print(stdout, b" deleted")?;
     print_part(stdout, change.deleted)?;
